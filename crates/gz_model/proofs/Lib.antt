@@ -1,0 +1,2 @@
+pub mod LeastNames
+pub mod LeastSites
