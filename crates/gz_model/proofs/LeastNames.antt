@@ -1,19 +1,19 @@
 -- The least name of those that meet a condition, which one more name may come to meet.
-use Rattle.std.proofs.Common.{◌≡◌, ℕ, suc, ◌+◌, ◌<◌, ◌≤◌, Bool, true, false, ◌&&◌, ◌||◌, ◌==◌, List, [], ◌∷◌, ◌++◌, length, take, get_or, Option, Some, None, refl, ap, ◌∙◌, sym, subst, inl, inr, ◌⊎◌, arith}
-use Rattle.std.specs.Prelude.{nat_le}
+use Rattle.std.proofs.Common.{◌≡◌, ℕ, suc, ◌+◌, ◌<◌, true, false, ◌&&◌, ◌==◌, List, [], ◌∷◌, ◌++◌, length, take, get_or, Option, Some, None, refl, ap, ◌∙◌, sym, subst, inl, inr, ◌⊎◌, arith}
 use Rattle.std.specs.List.{Contains}
 use Rattle.std.specs.Str.{bytes_eq}
-use Rattle.std.proofs.lemmas.Bool.{true≢false, both_ways, false_from_ne_true, and_parts, and_from, or_cases, or_left, or_right, eqb-true, eq-eqb, leb-true, le-leb, cases_Bool}
+use Rattle.std.proofs.lemmas.Bool.{true≢false, both_ways, and_parts, or_cases, eqb-true, leb-true, le-leb}
 use Rattle.std.proofs.lemmas.Bool.Decides.{nat_tests}
 use Rattle.std.proofs.lemmas.List.{take_more}
 use Rattle.std.proofs.lemmas.List.Elements.{Contains-push, Contains-push_cases, Contains-append_left}
 use Rattle.std.proofs.lemmas.Slice.Eq.{bytes_eq-Decides}
-use Rattle.gz_core.specs.Names.{Name, BallotAt, fast, same_ballot, same_name}
+use Rattle.gz_core.specs.Names.{Name, BallotAt, same_ballot, same_name}
 use Rattle.gz_core.specs.Configurations.{need, IsConfig}
 use Rattle.gz_core.specs.Counts.{count_sites}
 use Rattle.gz_core.specs.declared.configuration.Config.{Config}
 use Rattle.gz_core.proofs.Ballots.{same_means, name_means}
 use Rattle.gz_core.proofs.Counting.{count_found}
+use Rattle.gz_core.proofs.Quorums.{need_some}
 use Rattle.gz_model.specs.declared.casts.Cast.{Cast}
 use Rattle.gz_model.specs.Casts.{is_at, is_vote, has_cast, has_enough, IsChosen, is_name_below, is_before_name, IsLeastName}
 
@@ -74,23 +74,23 @@ chosen_kept cfg casts xs i x key v l y h = record { cast = h.cast; one = contain
 
 pub chosen_adds : (cfg : Config) (casts xs : List Cast) (i : ℕ) (x : Cast) (key : List ℕ) (v : ℕ) → i < length xs → x ≡ get_or xs i x → AddsName (IsChosenOf cfg casts (take i xs) key v) (IsChosenOf cfg casts (take (i + 1) xs) key v) x.name
 chosen_adds cfg casts xs i x key v l is = record {
-    kept = chosen_kept cfg casts xs i x key v l;
-    new = λ (y : Name) (h : IsChosenOf cfg casts (take (i + 1) xs) key v y).
-        elim (contains_more xs i x h.cast l is h.one) [
-            inl e ↦ inl (record { cast = h.cast; one = e; at = h.at; name = h.name; enough = h.enough })
-            | inr e ↦ inr (sym h.name ∙ sym (ap (λ (c : Cast). c.name) e))
-        ];
+  kept = chosen_kept cfg casts xs i x key v l;
+  new = λ (y : Name) (h : IsChosenOf cfg casts (take (i + 1) xs) key v y).
+      elim (contains_more xs i x h.cast l is h.one) [
+        | inl e ↦ inl (record { cast = h.cast; one = e; at = h.at; name = h.name; enough = h.enough })
+        | inr e ↦ inr (sym h.name ∙ sym (ap (λ (c : Cast). c.name) e))
+      ];
 }
 
 -- the cast that is looked at is not at this version, or no quorum has cast it
 pub chosen_skips : (cfg : Config) (casts xs : List Cast) (i : ℕ) (x : Cast) (key : List ℕ) (v : ℕ) → i < length xs → x ≡ get_or xs i x → (is_at x key v ≡ false) ⊎ (has_enough cfg casts x.key x.version x.ballot x.name ≡ false) → (y : Name) → IsChosenOf cfg casts (take (i + 1) xs) key v y → IsChosenOf cfg casts (take i xs) key v y
 chosen_skips cfg casts xs i x key v l is not y h =
     elim (contains_more xs i x h.cast l is h.one) [
-        inl e ↦ record { cast = h.cast; one = e; at = h.at; name = h.name; enough = h.enough }
-        | inr e ↦ absurd (elim not [
-            inl f ↦ both_ways (is_at x key v) f (subst (λ (c : Cast). is_at c key v ≡ true) (sym e) h.at)
-            | inr f ↦ both_ways (has_enough cfg casts x.key x.version x.ballot x.name) f (subst (λ (c : Cast). has_enough cfg casts c.key c.version c.ballot c.name ≡ true) (sym e) h.enough)
-        ])
+      | inl e ↦ record { cast = h.cast; one = e; at = h.at; name = h.name; enough = h.enough }
+      | inr e ↦ absurd (elim not [
+        | inl f ↦ both_ways (is_at x key v) f (subst (λ (c : Cast). is_at c key v ≡ true) (sym e) h.at)
+        | inr f ↦ both_ways (has_enough cfg casts x.key x.version x.ballot x.name) f (subst (λ (c : Cast). has_enough cfg casts c.key c.version c.ballot c.name ≡ true) (sym e) h.enough)
+      ])
     ]
 
 -- what a vote's tests tell
@@ -118,10 +118,10 @@ pub cast_found : (casts : List Cast) (key : List ℕ) (v : ℕ) (b : BallotAt) (
 cast_found [] key v b x s h = absurd (true≢false (sym h))
 cast_found (cast ∷ casts) key v b x s h =
     elim (or_cases ((cast.site == s) && is_vote cast key v b x) (has_cast casts key v b x s) h) [
-        inl e ↦ (cast, (0, omega arith, refl), (and_parts (cast.site == s) (is_vote cast key v b x) e).1)
-        | inr e ↦
-            let w : (c : Cast) × Contains casts c × (is_vote c key v b x ≡ true) = cast_found casts key v b x s e in
-            (w.0, (suc w.1.0, omega (arith, w.1.1), w.1.2), w.2)
+      | inl e ↦ (cast, (0, omega arith, refl), (and_parts (cast.site == s) (is_vote cast key v b x) e).1)
+      | inr e ↦
+          let w : (c : Cast) × Contains casts c × (is_vote c key v b x ≡ true) = cast_found casts key v b x s e in
+          (w.0, (suc w.1.0, omega (arith, w.1.1), w.1.2), w.2)
     ]
 
 -- the same ballot, key, version and value have the same votes
@@ -140,23 +140,16 @@ chosen_from_casts cfg casts key v x h =
     let same : has_enough cfg casts h.cast.key h.cast.version h.cast.ballot h.cast.name ≡ has_enough cfg casts key v h.cast.ballot x = enough_same cfg casts h.cast key v h.cast.ballot x (record { key = here.1; version = here.0; ballot = refl; name = h.name }) in
     (h.cast.ballot, leb-true (need cfg.qc cfg.qf h.cast.ballot) (count_sites cfg.n (has_cast casts key v h.cast.ballot x)) (sym same ∙ h.enough))
 
-needs_some : (c : Config) (b : BallotAt) → IsConfig c → 0 < need c.qc c.qf b
-needs_some c b ok =
-    elim (cases_Bool (same_ballot b fast)) [
-        inl e ↦ rw e (omega (arith, ok.quorums.majority, ok.quorums.classic))
-        | inr e ↦ rw e (omega (arith, ok.quorums.majority))
-    ]
-
 pub casts_from_chosen : (cfg : Config) (casts : List Cast) (key : List ℕ) (v : ℕ) (x : Name) → IsConfig cfg → IsChosen cfg casts key v x → IsChosenOf cfg casts casts key v x
 casts_from_chosen cfg casts key v x ok h =
-    let site : (s : ℕ) × (s < cfg.n) × (has_cast casts key v h.0 x s ≡ true) = count_found cfg.n (has_cast casts key v h.0 x) (omega (arith, h.1, needs_some cfg h.0 ok)) in
+    let site : (s : ℕ) × (s < cfg.n) × (has_cast casts key v h.0 x s ≡ true) = count_found cfg.n (has_cast casts key v h.0 x) (omega (arith, h.1, need_some cfg.n cfg.qc cfg.qf h.0 ok.quorums)) in
     let w : (cast : Cast) × Contains casts cast × (is_vote cast key v h.0 x ≡ true) = cast_found casts key v h.0 x site.0 site.2 in
     let is : IsThisVote w.0 key v h.0 x = vote_means w.0 key v h.0 x w.2 in
     let first : ((is_at w.0 key v && same_ballot w.0.ballot h.0) ≡ true) × (same_name w.0.name x ≡ true) = and_parts (is_at w.0 key v && same_ballot w.0.ballot h.0) (same_name w.0.name x) w.2 in
     record {
-        cast = w.0;
-        one = w.1;
-        at = (and_parts (is_at w.0 key v) (same_ballot w.0.ballot h.0) first.0).0;
-        name = is.name;
-        enough = enough_same cfg casts w.0 key v h.0 x is ∙ le-leb (need cfg.qc cfg.qf h.0) (count_sites cfg.n (has_cast casts key v h.0 x)) h.1;
+      cast = w.0;
+      one = w.1;
+      at = (and_parts (is_at w.0 key v) (same_ballot w.0.ballot h.0) first.0).0;
+      name = is.name;
+      enough = enough_same cfg casts w.0 key v h.0 x is ∙ le-leb (need cfg.qc cfg.qf h.0) (count_sites cfg.n (has_cast casts key v h.0 x)) h.1;
     }

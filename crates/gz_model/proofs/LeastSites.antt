@@ -1,6 +1,6 @@
 -- The least site of a set that grows by one, and lists of sites as sets.
-use Rattle.std.proofs.Common.{◌≡◌, ℕ, ◌+◌, ◌*◌, ◌<◌, ◌≤◌, suc, Bool, true, false, ◌&&◌, ◌||◌, ◌==◌, List, [], ◌∷◌, ◌++◌, length, take, get_or, Option, Some, None, IsSome, refl, ap, ◌∙◌, sym, subst, inl, inr, ◌⊎◌, arith}
-use Rattle.std.proofs.lemmas.Bool.{true≢false, both_ways, false_from_ne_true, ltb-true, ltb-false, and_parts, and_from, and_right, or_cases, or_left, or_right, eqb-true, eq-eqb}
+use Rattle.std.proofs.Common.{◌≡◌, ℕ, ◌+◌, ◌*◌, ◌<◌, ◌≤◌, Bool, true, false, ◌&&◌, ◌||◌, ◌==◌, List, [], ◌∷◌, length, take, get_or, Option, Some, None, IsSome, refl, ap, ◌∙◌, sym, subst, inl, inr, ◌⊎◌, arith}
+use Rattle.std.proofs.lemmas.Bool.{true≢false, both_ways, false_from_ne_true, ltb-true, ltb-false, and_parts, and_from, or_cases, or_left, or_right, eqb-true, eq-eqb}
 use Rattle.std.proofs.lemmas.List.{take_more}
 use Rattle.std.proofs.lemmas.List.Recursion.{or_push}
 use Rattle.gz_core.specs.Counts.{count_sites}
@@ -20,15 +20,15 @@ pub record Adds (p r : ℕ → Bool) (x : ℕ) : Type 0 where
 -- the sites of a list that pass another test, with one more site of the list
 pub adds_more : (xs : List ℕ) (i x : ℕ) (q : ℕ → Bool) → i < length xs → x ≡ get_or xs i x → Adds (λ s. has_site (take i xs) s && q s) (λ s. has_site (take (i + 1) xs) s && q s) x
 adds_more xs i x q l is = record {
-    kept = λ (s : ℕ) (h : (has_site (take i xs) s && q s) ≡ true).
-        let parts : (has_site (take i xs) s ≡ true) × (q s ≡ true) = and_parts (has_site (take i xs) s) (q s) h in
-        and_from (has_site (take (i + 1) xs) s) (q s) (has_site-more xs i x s l is ∙ or_left (has_site (take i xs) s) (x == s) parts.0) parts.1;
-    new = λ (s : ℕ) (h : (has_site (take (i + 1) xs) s && q s) ≡ true).
-        let parts : (has_site (take (i + 1) xs) s ≡ true) × (q s ≡ true) = and_parts (has_site (take (i + 1) xs) s) (q s) h in
-        elim (or_cases (has_site (take i xs) s) (x == s) (sym (has_site-more xs i x s l is) ∙ parts.0)) [
-            inl e ↦ inl (and_from (has_site (take i xs) s) (q s) e parts.1)
-            | inr e ↦ inr (sym (eqb-true x s e))
-        ];
+  kept = λ (s : ℕ) (h : (has_site (take i xs) s && q s) ≡ true).
+      let parts : (has_site (take i xs) s ≡ true) × (q s ≡ true) = and_parts (has_site (take i xs) s) (q s) h in
+      and_from (has_site (take (i + 1) xs) s) (q s) (has_site-more xs i x s l is ∙ or_left (has_site (take i xs) s) (x == s) parts.0) parts.1;
+  new = λ (s : ℕ) (h : (has_site (take (i + 1) xs) s && q s) ≡ true).
+      let parts : (has_site (take (i + 1) xs) s ≡ true) × (q s ≡ true) = and_parts (has_site (take (i + 1) xs) s) (q s) h in
+      elim (or_cases (has_site (take i xs) s) (x == s) (sym (has_site-more xs i x s l is) ∙ parts.0)) [
+        | inl e ↦ inl (and_from (has_site (take i xs) s) (q s) e parts.1)
+        | inr e ↦ inr (sym (eqb-true x s e))
+      ];
 }
 
 -- the new site is in the grown list

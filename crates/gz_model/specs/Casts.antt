@@ -1,11 +1,12 @@
 -- The votes that were cast, and the values that they choose. (Lamport 2006, "Fast Paxos".)
-use Rattle.std.specs.Prelude.{ℕ, ◌≡◌, ◌≤◌, Bool, true, false, ◌||◌, ◌&&◌, ◌==◌, nat_lt, nat_le, List, [], ◌∷◌, Option, Some, None}
+use Rattle.std.specs.Prelude.{ℕ, ◌≡◌, Bool, true, false, ◌||◌, ◌&&◌, ◌==◌, nat_lt, nat_le, List, [], ◌∷◌, Option, Some, None}
 use Rattle.std.specs.Str.{bytes_eq}
 use Rattle.gz_core.specs.Names.{Name, BallotAt, same_ballot, same_name}
 use Rattle.gz_core.specs.Configurations.{need}
 use Rattle.gz_core.specs.Counts.{count_sites}
 use Rattle.gz_core.specs.declared.configuration.Config.{Config}
 use Rattle.gz_model.specs.declared.casts.Cast.{Cast}
+use Rattle.gz_model.specs.Choosing.{IsChosenBy}
 
 -- whether a vote was cast at this version of the object
 abbrev pub is_at : Cast → List ℕ → ℕ → Bool
@@ -26,7 +27,7 @@ has_enough cfg casts key v b x = nat_le (need cfg.qc cfg.qf b) (count_sites cfg.
 
 -- a value is chosen where in some ballot a quorum of the ballot's kind has cast votes for it
 abbrev pub IsChosen : Config → List Cast → List ℕ → ℕ → Name → Type 0
-IsChosen cfg casts key v x = (b : BallotAt) × (need cfg.qc cfg.qf b ≤ count_sites cfg.n (has_cast casts key v b x))
+IsChosen cfg casts key v x = IsChosenBy cfg.n cfg.qc cfg.qf (has_cast casts key v) x
 
 -- names in their order: by session, and then by number
 abbrev pub is_name_below : Name → Name → Bool

@@ -44,7 +44,9 @@ impl Cast {
     fn is_vote(&self, other: &Cast) -> bool
         ensures { result ≡ is_vote self.now other.now.key other.now.version other.now.ballot other.now.name }
     {
-        self.is_at(&other.key, other.version) && self.ballot == other.ballot && self.name == other.name
+        self.is_at(&other.key, other.version)
+            && self.ballot == other.ballot
+            && self.name == other.name
     }
 }
 
@@ -53,7 +55,11 @@ fn is_chosen(cfg: &Config, casts: &[Cast], cast: &Cast) -> bool
     requires { IsConfig cfg.now }
     ensures { result ≡ has_enough cfg.now casts.now cast.now.key cast.now.version cast.now.ballot cast.now.name }
 {
-    let need = if cast.ballot.is_fast() { cfg.qf } else { cfg.qc };
+    let need = if cast.ballot.is_fast() {
+        cfg.qf
+    } else {
+        cfg.qc
+    };
     need <= votes_of(cfg.n, casts, cast)
 }
 

@@ -3,7 +3,9 @@
 #![tactic(auto)]
 
 pub mod casts;
+pub mod laws;
 pub mod sites;
 
 pub use casts::{Cast, chosen};
+pub use laws::{allowed_is_safe, one_chosen, one_forced, quorums_meet};
 pub use sites::{meet, meet3};

@@ -1,4 +1,4 @@
-use Rattle.std.proofs.Common.{◌≡◌, false, ℕ, ◌<◌, ◌==◌, ◌&&◌, get_or, length}
+use Rattle.std.proofs.Common.{◌≡◌, false, ℕ, ◌<◌, ◌==◌, ◌&&◌, get_or}
 use Rattle.gz_model.specs.Casts.{is_vote}
 use Rattle.gz_model.specs.declared.casts.Cast.{Cast}
 use Rattle.gz_model.proofs.casts.has_voted.Given as goal

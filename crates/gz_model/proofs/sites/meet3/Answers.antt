@@ -1,4 +1,4 @@
-use Rattle.std.proofs.Common.{ℕ, ◌≡◌, ◌+◌, ◌<◌, ◌&&◌, ◌∙◌, true, false, length, take, get_or, arith, subst, sym, List}
+use Rattle.std.proofs.Common.{ℕ, ◌≡◌, ◌+◌, ◌<◌, ◌&&◌, ◌∙◌, true, length, take, arith, subst, sym, List}
 use Rattle.std.proofs.lemmas.Bool.{and_from, and_right, and_left}
 use Rattle.std.proofs.lemmas.List.{take_all}
 use Rattle.gz_model.specs.Sites.{has_site, IsLeastSite}
@@ -19,20 +19,20 @@ loop-site-preserved g =
     let adds = adds_more a i x (λ (s : ℕ). has_site b s && has_site c s) l g.site-item.is in
     let last : has_site (take (i + 1) a) x ≡ true = has_site-last a i x l g.site-item.is in
     elim g.if-is_before.branch [
-        then-is_before+then-is_in+then-is_in-2 w ↦
+      | then-is_before+then-is_in+then-is_in-2 w ↦
+          subst (λ m. IsLeastSite r m) (sym w.least-is)
+          (least_taken p r x g.loop-site.least adds (and_from _ _ last (and_from _ _ (sym (w.is_in.ensures) ∙ w.if-is_in.true) (sym (w.is_in-then-is_in.ensures) ∙ w.if-is_in-2.true))) (sym g.is_before.ensures ∙ w.if-is_before.true) g.loop-site.invariant)
+      | else-is_before w ↦ elim w.else-is_before.branch [
+        | else-is_before-via-then-is_before+then-is_in+else-is_in-2 w' ↦
             subst (λ m. IsLeastSite r m) (sym w.least-is)
-            (least_taken p r x g.loop-site.least adds (and_from _ _ last (and_from _ _ (sym (w.is_in.ensures) ∙ w.if-is_in.true) (sym (w.is_in-then-is_in.ensures) ∙ w.if-is_in-2.true))) (sym g.is_before.ensures ∙ w.if-is_before.true) g.loop-site.invariant)
-        | else-is_before w ↦ elim w.else-is_before.branch [
-            else-is_before-via-then-is_before+then-is_in+else-is_in-2 w' ↦
-                subst (λ m. IsLeastSite r m) (sym w.least-is)
-                (least_failed p r x g.loop-site.least adds (and_right _ _ (and_right _ _ (sym (w'.is_in-then-is_in.ensures) ∙ w'.if-is_in-2.false))) g.loop-site.invariant)
-            | else-is_before-via-then-is_before+else-is_in w' ↦
-                subst (λ m. IsLeastSite r m) (sym w.least-is)
-                (least_failed p r x g.loop-site.least adds (and_right _ _ (and_left _ _ (sym (w'.is_in.ensures) ∙ w'.if-is_in.false))) g.loop-site.invariant)
-            | else-is_before-via-else-is_before w' ↦
-                subst (λ m. IsLeastSite r m) (sym w.least-is)
-                (least_above p r x g.loop-site.least adds (sym g.is_before.ensures ∙ w'.if-is_before.false) g.loop-site.invariant)
-        ]
+            (least_failed p r x g.loop-site.least adds (and_right _ _ (and_right _ _ (sym (w'.is_in-then-is_in.ensures) ∙ w'.if-is_in-2.false))) g.loop-site.invariant)
+        | else-is_before-via-then-is_before+else-is_in w' ↦
+            subst (λ m. IsLeastSite r m) (sym w.least-is)
+            (least_failed p r x g.loop-site.least adds (and_right _ _ (and_left _ _ (sym (w'.is_in.ensures) ∙ w'.if-is_in.false))) g.loop-site.invariant)
+        | else-is_before-via-else-is_before w' ↦
+            subst (λ m. IsLeastSite r m) (sym w.least-is)
+            (least_above p r x g.loop-site.least adds (sym g.is_before.ensures ∙ w'.if-is_before.false) g.loop-site.invariant)
+      ]
     ]
 
 pub returns-clause-quorums : goal.returns-clause-quorums
@@ -41,5 +41,5 @@ returns-clause-quorums g n =
     let b = g.args.b.now in
     let c = g.args.c.now in
     let all : IsLeastSite (λ s. has_site a s && (has_site b s && has_site c s)) g.loop-site.least =
-        subst (λ (xs : List ℕ). IsLeastSite (λ s. has_site xs s && (has_site b s && has_site c s)) g.loop-site.least) (take_all g.loop-site.site-index a (omega arith)) g.loop-site.invariant in
+    subst (λ (xs : List ℕ). IsLeastSite (λ s. has_site xs s && (has_site b s && has_site c s)) g.loop-site.least) (take_all g.loop-site.site-index a (omega arith)) g.loop-site.invariant in
     least_of_three n a b c g.loop-site.least all
