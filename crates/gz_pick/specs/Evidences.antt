@@ -1,11 +1,11 @@
 -- When known rows show that a value is chosen at a version, and which site's row shows it first.
 -- (Lamport 2006, "Fast Paxos", section 2.2: a value is chosen where a quorum of its ballot votes for it.)
-use Rattle.std.specs.Prelude.{ℕ, ◌≤◌, Bool, false, ◌&&◌, nat_le, not, is_some, if◌then◌else◌, ◌⊎◌, List, [], ◌∷◌, Option, Some, None, slice_get, count_by, position}
+use Rattle.std.specs.Prelude.{ℕ, ◌≡◌, ◌≤◌, Bool, false, ◌&&◌, nat_le, is_some, if◌then◌else◌, ◌⊎◌, List, [], ◌∷◌, Option, Some, None, slice_get, count_by, position}
 use Rattle.gz_core.specs.Names.{Name, BallotAt, fast, is_below, same_ballot, same_name}
 use Rattle.gz_core.specs.Counts.{count_sites}
 use Rattle.gz_core.specs.Configurations.{need}
 use Rattle.gz_core.specs.Rows.{RowAt}
-use Rattle.gz_pick.specs.Looks.{row_vote, row_decision}
+use Rattle.gz_pick.specs.Looks.{row_vote, row_decision, row_name}
 
 -- the vote at a version of a row that may be unknown
 abbrev pub vote_of : Option RowAt → ℕ → Option (BallotAt × Name)
@@ -57,11 +57,15 @@ is_in b (Some vote) = same_ballot vote.0 b
 abbrev pub shows_in : ℕ → ℕ → List (Option RowAt) → ℕ → BallotAt → Option RowAt → Bool
 shows_in qc qf rows v b row = is_in b (vote_of row v) && is_chosen qc qf rows v (vote_of row v)
 
+-- the higher of a ballot, where there is one, and another
+abbrev pub higher_ballot : Option BallotAt → BallotAt → BallotAt
+higher_ballot None b = b
+higher_ballot (Some top) b = if is_below top b then b else top
+
 -- the higher of a ballot, where there is one, and a vote's
 abbrev pub higher : Option BallotAt → Option (BallotAt × Name) → Option BallotAt
 higher top None = top
-higher None (Some vote) = Some vote.0
-higher (Some top) (Some vote) = if is_below top vote.0 then Some vote.0 else Some top
+higher top (Some vote) = Some (higher_ballot top vote.0)
 
 -- the highest ballot of these votes that pass a test
 abbrev pub top_ballot : (Option (BallotAt × Name) → Bool) → List (Option (BallotAt × Name)) → Option BallotAt
@@ -104,3 +108,9 @@ abbrev pub IsEvident : ℕ → ℕ → ℕ → (ℕ → Option RowAt) → ℕ �
 IsEvident n qc qf rows v x =
     ((b : BallotAt) × (need qc qf b ≤ count_sites n (λ s. votes_for b x v (rows s))))
     ⊎ (1 ≤ count_sites n (λ s. decides x v (rows s)))
+
+-- what the rows show: the site's row names a value that is known to be chosen, and without a site none is
+abbrev pub IsEvidence : ℕ → ℕ → ℕ → List (Option RowAt) → ℕ → Option ℕ → Type 0
+IsEvidence n qc qf rows v None = (x : Name) → IsEvident n qc qf (row_at rows) v x → ⊥
+IsEvidence n qc qf rows v (Some s) =
+    (row : RowAt) × (x : Name) × (row_at rows s ≡ Some row) × (row_name row v ≡ Some x) × IsEvident n qc qf (row_at rows) v x
