@@ -1,15 +1,14 @@
 -- What stands behind votes and steps is kept where more is shown and sent.
-use Rattle.std.proofs.Common.{◌≡◌, ℕ, suc, ◌+◌, ◌≤◌, true, false, List, Option, Some, None, refl, sym, subst, inl, inr, ◌⊎◌, arith}
-use Rattle.gz_core.specs.Names.{Name, BallotAt, fast, is_below, same_ballot}
-use Rattle.gz_core.specs.Counts.{count_sites}
+use Rattle.std.proofs.Common.{◌≡◌, ℕ, ◌+◌, false, List, Some, None, inl, inr, arith}
+use Rattle.gz_core.specs.Names.{Name, BallotAt, fast, same_ballot}
 use Rattle.gz_core.specs.Slots.{Slot, Gone, DecidedAs, OpenAt, Act, VotesFast, Promises, VotesClassic, Decides, Trims}
 use Rattle.gz_core.specs.declared.configuration.Config.{Config}
 use Rattle.gz_core.proofs.Counting.{count_weaker}
-use Rattle.gz_model.specs.Choosing.{IsSafe, IsChoosable}
-use Rattle.gz_ledger.specs.Histories.{IsIn, Seen, Write, IsChosenAt, IsProposed, IsPromised}
+use Rattle.gz_model.specs.Choosing.{IsSafe}
+use Rattle.gz_ledger.specs.Histories.{Seen, Write, IsProposed, IsPromised}
 use Rattle.gz_ledger.specs.Ledgers.{Ledger, stands}
 use Rattle.gz_ledger.proofs.Shown.{Includes, chosen_more}
-use Rattle.gz_ledger.proofs.Sound.{IsBuilt, IsVoteSent, IsVoteOk, SlotOk, IsVoteRight, ActOk, IsOtherChosen}
+use Rattle.gz_ledger.proofs.Sound.{IsBuilt, IsVoteSent, SlotOk, ActOk, IsOtherChosen}
 use Rattle.gz_ledger.proofs.Stances.{Shrinks}
 
 pub built_more : (cfg : Config) (seen more : List Seen) (v : ℕ) → Includes seen more → IsBuilt cfg seen v → IsBuilt cfg more v
@@ -28,11 +27,11 @@ slot_more cfg seen more sent many v (DecidedAs x) i j h = (chosen_more cfg seen 
 slot_more cfg seen more sent many v (OpenAt p None) i j (inl e) = inl e
 slot_more cfg seen more sent many v (OpenAt p None) i j (inr h) = inr (built_more cfg seen more v i h)
 slot_more cfg seen more sent many v (OpenAt p (Some u)) i j h = record {
-    built = built_more cfg seen more v i h.built;
-    proposed = proposed_more sent many v u.1 j h.proposed;
-    classic = λ (c : same_ballot u.0 fast ≡ false).
-        let w : IsVoteSent sent v u.0 u.1 = h.classic c in
-        (w.0, j w.0 w.1, w.2);
+  built = built_more cfg seen more v i h.built;
+  proposed = proposed_more sent many v u.1 j h.proposed;
+  classic = λ (c : same_ballot u.0 fast ≡ false).
+      let w : IsVoteSent sent v u.0 u.1 = h.classic c in
+      (w.0, j w.0 w.1, w.2);
 }
 
 -- a safe value stays safe where sites stand for nothing new
@@ -44,11 +43,11 @@ pub act_more : (cfg : Config) (l m : Ledger) (call : Name) (act : Act) → Inclu
 act_more cfg l m call (VotesFast v x) i j sh h = (h.0, built_more cfg l.seen m.seen v i h.1)
 act_more cfg l m call (Promises v b) i j sh h = (h.0, built_more cfg l.seen m.seen v i h.1)
 act_more cfg l m call (VotesClassic v b x) i j sh h = record {
-    classic = h.classic;
-    built = built_more cfg l.seen m.seen v i h.built;
-    safe = safe_more cfg l m v b x sh h.safe;
-    promised = promised_more l.sent m.sent call v b j h.promised;
-    proposed = proposed_more l.sent m.sent v x j h.proposed;
+  classic = h.classic;
+  built = built_more cfg l.seen m.seen v i h.built;
+  safe = safe_more cfg l m v b x sh h.safe;
+  promised = promised_more l.sent m.sent call v b j h.promised;
+  proposed = proposed_more l.sent m.sent v x j h.proposed;
 }
 act_more cfg l m call (Decides v x) i j sh h = (chosen_more cfg l.seen m.seen v x i h.0, built_more cfg l.seen m.seen v i h.1)
 act_more cfg l m call (Trims to x) i j sh h = (chosen_more cfg l.seen m.seen (to + 1) x i h.0, built_more cfg l.seen m.seen (to + 1) i h.1)

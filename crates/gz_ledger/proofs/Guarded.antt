@@ -1,17 +1,16 @@
 -- What the guards of a write give.
-use Rattle.std.proofs.Common.{◌≡◌, ℕ, zero, suc, ◌+◌, ◌<◌, ◌≤◌, true, false, List, ◌∷◌, Option, Some, None, refl, ap, ◌∙◌, sym, subst, inl, inr, ◌⊎◌, arith, add-one}
+use Rattle.std.proofs.Common.{◌≡◌, ℕ, zero, suc, ◌+◌, ◌≤◌, false, List, ◌∷◌, Option, Some, None, refl, ap, ◌∙◌, sym, subst, inl, inr, ◌⊎◌, arith}
 use Rattle.std.proofs.lemmas.Bool.{cases_eq}
 use Rattle.gz_core.specs.Names.{Name, BallotAt, fast, same_ballot}
 use Rattle.gz_core.specs.Slots.{Slot, Gone, DecidedAs, OpenAt, Act, VotesFast, Promises, VotesClassic, Decides, Trims}
 use Rattle.gz_core.specs.declared.configuration.Config.{Config}
 use Rattle.gz_model.proofs.Choices.{allowed_safe}
-use Rattle.gz_ledger.specs.Acceptors.{Acceptor, HasValue}
-use Rattle.gz_ledger.specs.Histories.{IsIn, Seen, Write, IsChosenAt, IsShown, IsVotedAt, VotesFor, IsProposed, IsPromised}
-use Rattle.gz_ledger.specs.Guards.{IsClear, IsNext, IsGrounded, IsPromiseHeard, MayVoteFast, MayPromise, MayVoteClassic, May}
-use Rattle.gz_ledger.specs.Ledgers.{Ledger, Sends, moved, stands, CanSend, votes}
-use Rattle.gz_ledger.proofs.Sound.{IsBuilt, SlotOk, IsVoteOk, IsVoteRight, ActOk, IsOtherChosen, IsSound}
+use Rattle.gz_ledger.specs.Acceptors.{HasValue}
+use Rattle.gz_ledger.specs.Histories.{Seen, Write, IsChosenAt, IsShown, IsVotedAt, VotesFor, IsProposed, IsPromised}
+use Rattle.gz_ledger.specs.Guards.{IsClear, IsNext, IsGrounded, IsPromiseHeard, MayVoteClassic, May}
+use Rattle.gz_ledger.specs.Ledgers.{Ledger, Sends, moved, stands, votes}
+use Rattle.gz_ledger.proofs.Sound.{IsBuilt, SlotOk, IsVoteRight, ActOk, IsOtherChosen, IsSound}
 use Rattle.gz_ledger.proofs.SoundVotes.{chosen_ok, shown_chosen, recovered}
-use Rattle.gz_ledger.proofs.Grown.{proposed_more}
 
 -- a chosen value's version is built
 pub chosen_built : (cfg : Config) (l : Ledger) (v : ℕ) (x : Name) → IsSound cfg l → IsChosenAt cfg l.seen v x → IsBuilt cfg l.seen v
@@ -26,17 +25,19 @@ pub built_down : (cfg : Config) (l : Ledger) → IsSound cfg l → (w v : ℕ) �
 built_down cfg l so zero v b p le = absurd (omega arith)
 built_down cfg l so (suc w) v b p le =
     elim (cases_eq v (suc w)) [
-        inl e ↦ subst (λ (k : ℕ). IsBuilt cfg l.seen k) (sym e) b
-        | inr ne ↦ elim b [
-            inl e ↦ absurd (below_one v w p le ne e)
-            | inr f ↦ built_down cfg l so w v (subst (λ (k : ℕ). IsBuilt cfg l.seen k) (same_suc f.0 w f.1) (chosen_built cfg l f.0 f.2 so f.3)) p (below_suc v w le ne)
-        ]
+      | inl e ↦ subst (λ (k : ℕ). IsBuilt cfg l.seen k) (sym e) b
+      | inr ne ↦ elim b [
+        | inl e ↦ absurd (below_one v w p le ne e)
+        | inr f ↦ built_down cfg l so w v (subst (λ (k : ℕ). IsBuilt cfg l.seen k) (same_suc f.0 w f.1) (chosen_built cfg l f.0 f.2 so f.3)) p (below_suc v w le ne)
+      ]
     ]
   where
     below_one : (v w : ℕ) → 1 ≤ v → v ≤ suc w → (v ≡ suc w → ⊥) → suc w ≡ 1 → ⊥
     below_one v w p le ne e = grind arith
+
     below_suc : (v w : ℕ) → v ≤ suc w → (v ≡ suc w → ⊥) → v ≤ w
     below_suc v w le ne = grind arith
+
     same_suc : (u w : ℕ) → suc w ≡ suc u → u ≡ w
     same_suc u w e = omega arith
 
@@ -59,10 +60,10 @@ voted_proposed cfg l v x so h =
 pub source_of : (cfg : Config) (l : Ledger) (call : Name) (v : ℕ) (b : BallotAt) (x : Name) → IsSound cfg l → MayVoteClassic cfg l.seen l.sent call v b x → ((x ≡ call) × IsClear cfg l.seen l.sent call v) ⊎ IsProposed l.sent v x
 source_of cfg l call v b x so m =
     elim m.allowed [
-        inl free ↦ elim (m.source free) [ inl own ↦ inl own | inr h ↦ inr (voted_proposed cfg l v x so h) ]
-        | inr a ↦
-            let p : IsPromiseHeard l.seen v b a.3.site = m.quorum.promises a.0 a.3.site a.3.is in
-            inr (voted_proposed cfg l v x so (record { entry = p.entry; found = p.found; promise = b; ballot = a.2; votes = p.row ∙ ap (λ (o : Option (BallotAt × Name)). OpenAt b o) a.3.vote }))
+      | inl free ↦ elim (m.source free) [ inl own ↦ inl own | inr h ↦ inr (voted_proposed cfg l v x so h) ]
+      | inr a ↦
+          let p : IsPromiseHeard l.seen v b a.3.site = m.quorum.promises a.0 a.3.site a.3.is in
+          inr (voted_proposed cfg l v x so (record { entry = p.entry; found = p.found; promise = b; ballot = a.2; votes = p.row ∙ ap (λ (o : Option (BallotAt × Name)). OpenAt b o) a.3.vote }))
     ]
 
 -- a promise that was sent is of a classic ballot, at a built version
@@ -81,14 +82,14 @@ classic_right : (cfg : Config) (l : Ledger) (w : Write) (v : ℕ) (b : BallotAt)
 classic_right cfg l w v b x so e m =
     let ok : (same_ballot b fast ≡ false) × IsBuilt cfg l.seen v = promised_ok cfg l w.call v b so m.promised in
     record {
-        classic = ok.0;
-        built = ok.1;
-        safe = allowed_safe cfg.n cfg.qc cfg.qf (votes l v) (stands l v) b m.heard x (recovered cfg l v b m.heard so m.quorum) m.allowed;
-        promised = later_promised l.sent w w.call v b m.promised;
-        proposed = elim (source_of cfg l w.call v b x so m) [
-            inl own ↦ own_proposed l.sent w v x own.0 (subst (λ (act : Act). VotesFor act v x) (sym e) (refl, refl))
-            | inr p ↦ record { write = p.write; found = inr p.found; own = p.own; votes = p.votes }
-        ];
+      classic = ok.0;
+      built = ok.1;
+      safe = allowed_safe cfg.n cfg.qc cfg.qf (votes l v) (stands l v) b m.heard x (recovered cfg l v b m.heard so m.quorum) m.allowed;
+      promised = later_promised l.sent w w.call v b m.promised;
+      proposed = elim (source_of cfg l w.call v b x so m) [
+        | inl own ↦ own_proposed l.sent w v x own.0 (subst (λ (act : Act). VotesFor act v x) (sym e) (refl, refl))
+        | inr p ↦ record { write = p.write; found = inr p.found; own = p.own; votes = p.votes }
+      ];
     }
 
 -- what stands behind a step that may be sent
@@ -109,8 +110,8 @@ own_vote cfg l call v (VotesFast u x) so m h = inl (subst (λ (k : ℕ). IsClear
 own_vote cfg l call v (Promises u b) so m h = absurd h
 own_vote cfg l call v (VotesClassic u b x) so m h =
     elim (source_of cfg l call u b x so m) [
-        inl own ↦ inl (subst (λ (k : ℕ). IsClear cfg l.seen l.sent call k) h.0 own.1)
-        | inr p ↦ inr (subst (λ (k : ℕ). IsProposed l.sent k call) h.0 (subst (λ (y : Name). IsProposed l.sent u y) h.1 p))
+      | inl own ↦ inl (subst (λ (k : ℕ). IsClear cfg l.seen l.sent call k) h.0 own.1)
+      | inr p ↦ inr (subst (λ (k : ℕ). IsProposed l.sent k call) h.0 (subst (λ (y : Name). IsProposed l.sent u y) h.1 p))
     ]
 own_vote cfg l call v (Decides u x) so m h = absurd h
 own_vote cfg l call v (Trims to x) so m h = absurd h
@@ -120,11 +121,11 @@ pub new_apart : (cfg : Config) (l : Ledger) (w : Write) (u v : ℕ) (x : Name) �
 new_apart cfg l w u v x so m own h p =
     let here : VotesFor w.act u w.call = subst (λ (y : Name). VotesFor w.act u y) (sym own) h in
     elim (own_vote cfg l w.call u w.act so m here) [
-        inl clear ↦ elim (cases_eq v u) [
-            inl e ↦ inl (sym e)
-            | inr ne ↦
-                let o : (y : Name) × (y ≡ w.call → ⊥) × IsShown cfg l.seen v y = clear p.write v p.found (p.own ∙ sym own) (subst (λ (y : Name). VotesFor p.write.act v y) (sym own) p.votes) ne in
-                inr (inr (o.0, λ (e : o.0 ≡ x). o.1 (e ∙ sym own), shown_chosen cfg l v o.0 so o.2))
-        ]
-        | inr q ↦ so.apart u v x (subst (λ (y : Name). IsProposed l.sent u y) own q) p
+      | inl clear ↦ elim (cases_eq v u) [
+        | inl e ↦ inl (sym e)
+        | inr ne ↦
+            let o : (y : Name) × (y ≡ w.call → ⊥) × IsShown cfg l.seen v y = clear p.write v p.found (p.own ∙ sym own) (subst (λ (y : Name). VotesFor p.write.act v y) (sym own) p.votes) ne in
+            inr (inr (o.0, λ (e : o.0 ≡ x). o.1 (e ∙ sym own), shown_chosen cfg l v o.0 so o.2))
+      ]
+      | inr q ↦ so.apart u v x (subst (λ (y : Name). IsProposed l.sent u y) own q) p
     ]

@@ -1,5 +1,5 @@
 -- Guards over what a call heard imply the guards over all that was shown.
-use Rattle.std.proofs.Common.{◌≡◌, ℕ, suc, ◌+◌, ◌≤◌, List, refl, inl, inr, ◌⊎◌}
+use Rattle.std.proofs.Common.{◌≡◌, ℕ, ◌+◌, List, inl, inr}
 use Rattle.std.specs.List.{slice_get}
 use Rattle.std.proofs.Common.{Some}
 use Rattle.gz_core.specs.Names.{Name, BallotAt}
@@ -8,8 +8,8 @@ use Rattle.gz_core.specs.declared.configuration.Config.{Config}
 use Rattle.gz_pick.specs.declared.heard.Heard.{Heard}
 use Rattle.gz_pick.specs.declared.heard.Pick.TheVariants.{Free}
 use Rattle.gz_pick.specs.Choices.{pick_of}
-use Rattle.gz_ledger.specs.Histories.{IsIn, Seen, Write, IsShown, IsVotedAt, VotesFor}
-use Rattle.gz_ledger.specs.Guards.{IsClear, IsNext, IsGrounded, IsPromiseHeard, IsQuorumHeard, May}
+use Rattle.gz_ledger.specs.Histories.{Seen, Write, IsShown}
+use Rattle.gz_ledger.specs.Guards.{IsClear, IsNext, IsGrounded, IsPromiseHeard, May}
 use Rattle.gz_ledger.proofs.Shown.{Includes, shown_more, voted_more}
 
 clear_more : (cfg : Config) (seen more : List Seen) (sent : List Write) (call : Name) (v : ℕ) → Includes seen more → IsClear cfg seen sent call v → IsClear cfg more sent call v
@@ -34,19 +34,19 @@ may_more cfg heard seen sent call (VotesFast v x) i m =
 may_more cfg heard seen sent call (Promises v b) i m =
     record { positive = m.positive; classic = m.classic; fresh = m.fresh; grounded = grounded_more cfg heard seen v i m.grounded }
 may_more cfg heard seen sent call (VotesClassic v b x) i m = record {
-    promised = m.promised;
-    heard = m.heard;
-    quorum = record {
-        sites = m.quorum.sites;
-        enough = m.quorum.enough;
-        promises = λ (at : ℕ) (h : Heard) (is : slice_get m.heard at ≡ Some h). promise_more heard seen v b h i (m.quorum.promises at h is);
-    };
-    allowed = m.allowed;
-    source = λ (free : pick_of cfg.n cfg.qf m.heard ≡ Free). elim (m.source free) [
-        inl own ↦ inl (own.0, clear_more cfg heard seen sent call v i own.1)
-        | inr h ↦ inr (voted_more heard seen v x i h)
-    ];
-    one = m.one;
+  promised = m.promised;
+  heard = m.heard;
+  quorum = record {
+    sites = m.quorum.sites;
+    enough = m.quorum.enough;
+    promises = λ (at : ℕ) (h : Heard) (is : slice_get m.heard at ≡ Some h). promise_more heard seen v b h i (m.quorum.promises at h is);
+  };
+  allowed = m.allowed;
+  source = λ (free : pick_of cfg.n cfg.qf m.heard ≡ Free). elim (m.source free) [
+    | inl own ↦ inl (own.0, clear_more cfg heard seen sent call v i own.1)
+    | inr h ↦ inr (voted_more heard seen v x i h)
+  ];
+  one = m.one;
 }
 may_more cfg heard seen sent call (Decides v x) i m = shown_more cfg heard seen v x i m
 may_more cfg heard seen sent call (Trims to x) i m = shown_more cfg heard seen (to + 1) x i m

@@ -1,27 +1,26 @@
 -- What is shown, and in which order.
-use Rattle.std.proofs.Common.{◌≡◌, ℕ, zero, suc, ◌+◌, ◌<◌, ◌≤◌, Bool, true, false, ◌==◌, List, [], ◌∷◌, ◌++◌, length, Option, Some, None, refl, ap, ◌∙◌, sym, subst, inl, inr, ◌⊎◌, arith}
-use Rattle.std.proofs.lemmas.Bool.{both_ways, cases_lt, cases_eq, false_from_ne_true, true≢false, or_cases, eqb-true}
+use Rattle.std.proofs.Common.{◌≡◌, ℕ, suc, ◌<◌, ◌≤◌, true, false, ◌==◌, List, [], ◌∷◌, ◌++◌, length, Some, None, refl, ap, ◌∙◌, sym, subst, inl, inr, ◌⊎◌, arith}
+use Rattle.std.proofs.lemmas.Bool.{both_ways, cases_lt, false_from_ne_true, true≢false, or_cases, eqb-true}
 use Rattle.std.proofs.lemmas.Option.{same_Some, some_pair_parts}
-use Rattle.gz_core.specs.Names.{Name, BallotAt, fast, is_below, same_ballot, same_name}
+use Rattle.gz_core.specs.Names.{Name, BallotAt, fast, is_below, same_ballot}
 use Rattle.gz_core.specs.Counts.{count_sites}
-use Rattle.gz_core.specs.Configurations.{need}
 use Rattle.gz_core.specs.Slots.{Slot, Gone, DecidedAs, OpenAt, VotesClassic}
 use Rattle.gz_core.specs.declared.configuration.Config.{Config}
-use Rattle.gz_core.proofs.Ballots.{below_fast, same_means, name_from, name_refl}
+use Rattle.gz_core.proofs.Ballots.{below_fast, same_means, name_from}
 use Rattle.gz_core.proofs.Counting.{count_weaker}
 use Rattle.gz_core.proofs.Quorums.{need_least, quorums_meet}
-use Rattle.gz_model.specs.Sites.{has_site, AreSites}
+use Rattle.gz_model.specs.Sites.{has_site}
 use Rattle.gz_model.specs.Choosing.{IsSafe, IsChoosable}
 use Rattle.gz_model.proofs.LeastSites.{count_list}
 use Rattle.gz_ledger.specs.Acceptors.{Acceptor, slot_backs, HasValue, IsQuiet}
 use Rattle.gz_ledger.specs.Histories.{IsIn, Seen, Write, cast, IsChosenAt, IsShown, IsCurrent, sites_of, VotesFor, IsProposed}
-use Rattle.gz_ledger.specs.Ledgers.{Ledger, Move, Shows, Sends, Takes, row_of, after_moves, AreMoves, votes, stands, backs, late_seen}
-use Rattle.gz_ledger.specs.Agreements.{HasQuorums, IsAgreed, IsCurrentMove, AreCurrentMoves}
+use Rattle.gz_ledger.specs.Ledgers.{Ledger, Move, Shows, Sends, Takes, after_moves, AreMoves, votes, stands, backs, late_seen}
+use Rattle.gz_ledger.specs.Agreements.{HasQuorums, IsAgreed, AreCurrentMoves}
 use Rattle.gz_ledger.proofs.SlotTests.{IsVote}
-use Rattle.gz_ledger.proofs.Follows.{IsUnder, Advances, SlotFollows, Follows, IsAcceptor}
+use Rattle.gz_ledger.proofs.Follows.{Advances, SlotFollows, Follows, IsAcceptor}
 use Rattle.gz_ledger.proofs.Shown.{Includes, IsCast, cast_found, shown_more}
-use Rattle.gz_ledger.proofs.Rows.{IsRowOf, row_of_seen, row_votes}
-use Rattle.gz_ledger.proofs.Sound.{IsBuilt, IsVoteOk, SlotOk, IsOtherChosen, IsSound, right_at, toward_at, row_ok, vote_ok}
+use Rattle.gz_ledger.proofs.Rows.{row_votes}
+use Rattle.gz_ledger.proofs.Sound.{SlotOk, IsSound, right_at, toward_at}
 use Rattle.gz_ledger.proofs.SoundVotes.{are_safe, votes_ok, cast_votes, chosen_one, chosen_ok, shown_chosen, are_good}
 use Rattle.gz_ledger.proofs.Kept.{sound}
 
@@ -29,17 +28,17 @@ use Rattle.gz_ledger.proofs.Kept.{sound}
 chained : (cfg : Config) (l : Ledger) → IsSound cfg l → (v : ℕ) (b : BallotAt) (x : Name) (s : ℕ) → 1 ≤ v → cast l.seen (suc v) b x s ≡ true → (y : Name) × IsChosenAt cfg l.seen v y
 chained cfg l so v b x s p h =
     elim (votes_ok cfg l (suc v) so b x s (cast_votes l (suc v) b x s h)).built [
-        inl e ↦ absurd (omega arith)
-        | inr w ↦ let same : w.0 ≡ v = omega (arith, w.1) in (w.2, subst (λ (k : ℕ). IsChosenAt cfg l.seen k w.2) same w.3)
+      | inl e ↦ absurd (omega arith)
+      | inr w ↦ let same : w.0 ≡ v = omega (arith, w.1) in (w.2, subst (λ (k : ℕ). IsChosenAt cfg l.seen k w.2) same w.3)
     ]
 
 -- a value is shown at one version
 once : (cfg : Config) (l : Ledger) → IsSound cfg l → (u v : ℕ) (x : Name) → IsChosenAt cfg l.seen u x → IsChosenAt cfg l.seen v x → u ≡ v
 once cfg l so u v x h k =
     elim (so.apart u v x (chosen_ok cfg l u x so h).proposed (chosen_ok cfg l v x so k).proposed) [
-        inl e ↦ e
-        | inr (inl o) ↦ absurd (o.1 (chosen_one cfg l u o.0 x so o.2 h))
-        | inr (inr o) ↦ absurd (o.1 (chosen_one cfg l v o.0 x so o.2 k))
+      | inl e ↦ e
+      | inr (inl o) ↦ absurd (o.1 (chosen_one cfg l u o.0 x so o.2 h))
+      | inr (inr o) ↦ absurd (o.1 (chosen_one cfg l v o.0 x so o.2 k))
     ]
 
 -- a slot after a vote for a value that is chosen in the vote's ballot backs the value
@@ -52,12 +51,12 @@ backs_slot cfg l v b x a (OpenAt q None) so h ch vote f safe ok =
 backs_slot cfg l v b x a (OpenAt q (Some u)) so h ch vote f safe ok =
     let g : Advances vote.0 (Some (b, x)) q (Some u) = subst (λ (s : Slot). SlotFollows s (OpenAt q (Some u))) vote.1 f in
     elim g.vote [
-        inl e ↦ name_from u.1 x (some_pair_parts u.0 b u.1 x e).1
-        | inr n ↦
-            let same : u ≡ n.vote = same_Some u n.vote n.is in
-            let over : is_below b u.0 ≡ true = subst (λ (w : BallotAt × Name). is_below b w.0 ≡ true) (sym same) n.over in
-            let classic : same_ballot u.0 fast ≡ false = above_fast b u.0 over in
-            name_from u.1 x (sym (safe u.0 u.1 (q, refl) classic b x over ch))
+      | inl e ↦ name_from u.1 x (some_pair_parts u.0 b u.1 x e).1
+      | inr n ↦
+          let same : u ≡ n.vote = same_Some u n.vote n.is in
+          let over : is_below b u.0 ≡ true = subst (λ (w : BallotAt × Name). is_below b w.0 ≡ true) (sym same) n.over in
+          let classic : same_ballot u.0 fast ≡ false = above_fast b u.0 over in
+          name_from u.1 x (sym (safe u.0 u.1 (q, refl) classic b x over ch))
     ]
   where
     above_fast : (b c : BallotAt) → is_below b c ≡ true → same_ballot c fast ≡ false
@@ -67,27 +66,31 @@ backs_slot cfg l v b x a (OpenAt q (Some u)) so h ch vote f safe ok =
 backed : (cfg : Config) (l : Ledger) → IsSound cfg l → (v : ℕ) (x : Name) → IsChosenAt cfg l.seen v x → cfg.qc ≤ count_sites cfg.n (backs l v x)
 backed cfg l so v x h =
     let ch : IsChoosable cfg.n cfg.qc cfg.qf (stands l v) h.0 x =
-        omega (arith, h.1, count_weaker cfg.n (cast l.seen v h.0 x) (stands l v h.0 x) (λ (s : ℕ) (e : cast l.seen v h.0 x s ≡ true). (are_good cfg l v so).voted h.0 x s (cast_votes l v h.0 x s e))) in
-    omega (arith, h.1, need_least cfg.n cfg.qc cfg.qf h.0 so.quorums,
-        count_weaker cfg.n (cast l.seen v h.0 x) (backs l v x) (λ (s : ℕ) (e : cast l.seen v h.0 x s ≡ true).
-            let c : IsCast l.seen v h.0 x s = cast_found l.seen v h.0 x s e in
-            backs_slot cfg l v h.0 x (c.entry.row v) (l.told s v) so h ch c.vote (toward_at cfg l so c.entry s c.found c.site v)
-            (λ (d : BallotAt) (y : Name) (vote : IsVote (l.told s v) d y) (classic : same_ballot d fast ≡ false). are_safe cfg l v so d y s classic (row_votes l v d y s (l.told s) (inl refl) vote))
-            (so.told_ok s v)))
+    omega (arith, h.1, count_weaker cfg.n (cast l.seen v h.0 x) (stands l v h.0 x) (λ (s : ℕ) (e : cast l.seen v h.0 x s ≡ true). (are_good cfg l v so).voted h.0 x s (cast_votes l v h.0 x s e))) in
+    omega (
+      arith,
+      h.1,
+      need_least cfg.n cfg.qc cfg.qf h.0 so.quorums,
+      count_weaker cfg.n (cast l.seen v h.0 x) (backs l v x) (λ (s : ℕ) (e : cast l.seen v h.0 x s ≡ true).
+          let c : IsCast l.seen v h.0 x s = cast_found l.seen v h.0 x s e in
+          backs_slot cfg l v h.0 x (c.entry.row v) (l.told s v) so h ch c.vote (toward_at cfg l so c.entry s c.found c.site v)
+          (λ (d : BallotAt) (y : Name) (vote : IsVote (l.told s v) d y) (classic : same_ballot d fast ≡ false). are_safe cfg l v so d y s classic (row_votes l v d y s (l.told s) (inl refl) vote))
+          (so.told_ok s v)),
+    )
 
 -- agreement in one sound ledger
 pub agreed : (cfg : Config) (l : Ledger) → IsSound cfg l → IsAgreed cfg l
 agreed cfg l so = record {
-    safe = λ (w : Write) (v : ℕ) (b : BallotAt) (x : Name) (i : IsIn w l.sent) (e : w.act ≡ VotesClassic v b x). (right_at cfg l so w v b x i e).safe;
-    standing = λ (v : ℕ) (b : BallotAt) (x : Name) (s : ℕ). are_safe cfg l v so b x s;
-    proposed = λ (v : ℕ) (b : BallotAt) (x : Name) (s : ℕ) (h : votes l v b x s ≡ true). (votes_ok cfg l v so b x s h).proposed;
-    chained = chained cfg l so;
-    chosen = λ (v : ℕ) (x : Name) (h : IsShown cfg l.seen v x).
-        let c : IsChosenAt cfg l.seen v x = shown_chosen cfg l v x so h in
-        (c, (chosen_ok cfg l v x so c).proposed);
-    one = λ (v : ℕ) (x y : Name) (h : IsShown cfg l.seen v x) (k : IsShown cfg l.seen v y). chosen_one cfg l v x y so (shown_chosen cfg l v x so h) (shown_chosen cfg l v y so k);
-    once = λ (u v : ℕ) (x : Name) (h : IsShown cfg l.seen u x) (k : IsShown cfg l.seen v x). once cfg l so u v x (shown_chosen cfg l u x so h) (shown_chosen cfg l v x so k);
-    backed = λ (v : ℕ) (x : Name) (h : IsShown cfg l.seen v x). backed cfg l so v x (shown_chosen cfg l v x so h);
+  safe = λ (w : Write) (v : ℕ) (b : BallotAt) (x : Name) (i : IsIn w l.sent) (e : w.act ≡ VotesClassic v b x). (right_at cfg l so w v b x i e).safe;
+  standing = λ (v : ℕ) (b : BallotAt) (x : Name) (s : ℕ). are_safe cfg l v so b x s;
+  proposed = λ (v : ℕ) (b : BallotAt) (x : Name) (s : ℕ) (h : votes l v b x s ≡ true). (votes_ok cfg l v so b x s h).proposed;
+  chained = chained cfg l so;
+  chosen = λ (v : ℕ) (x : Name) (h : IsShown cfg l.seen v x).
+      let c : IsChosenAt cfg l.seen v x = shown_chosen cfg l v x so h in
+      (c, (chosen_ok cfg l v x so c).proposed);
+  one = λ (v : ℕ) (x y : Name) (h : IsShown cfg l.seen v x) (k : IsShown cfg l.seen v y). chosen_one cfg l v x y so (shown_chosen cfg l v x so h) (shown_chosen cfg l v y so k);
+  once = λ (u v : ℕ) (x : Name) (h : IsShown cfg l.seen u x) (k : IsShown cfg l.seen v x). once cfg l so u v x (shown_chosen cfg l u x so h) (shown_chosen cfg l v x so k);
+  backed = λ (v : ℕ) (x : Name) (h : IsShown cfg l.seen v x). backed cfg l so v x (shown_chosen cfg l v x so h);
 }
 
 -- agreement in every run
@@ -141,10 +144,10 @@ site_row : (rows : List Seen) (s : ℕ) → has_site (sites_of rows) s ≡ true 
 site_row [] s h = absurd (true≢false (sym h))
 site_row (e ∷ es) s h =
     elim (or_cases (e.site == s) (has_site (sites_of es) s) h) [
-        inl t ↦ (e, inl refl, eqb-true e.site s t)
-        | inr t ↦
-            let w : (f : Seen) × IsIn f es × (f.site ≡ s) = site_row es s t in
-            (w.0, inr w.1, w.2)
+      | inl t ↦ (e, inl refl, eqb-true e.site s t)
+      | inr t ↦
+          let w : (f : Seen) × IsIn f es × (f.site ≡ s) = site_row es s t in
+          (w.0, inr w.1, w.2)
     ]
 
 length_sites : (rows : List Seen) → length (sites_of rows) ≡ length rows
@@ -174,15 +177,15 @@ latest cfg late early u v x q a h c =
     let so : IsSound cfg l = sound cfg early q (early_moves cfg late early a) in
     let ch : IsChosenAt cfg l.seen u x = shown_chosen cfg l u x so h in
     let m : (s : ℕ) × (s < cfg.n) × (has_site (sites_of c.rows) s ≡ true) × (cast l.seen u ch.0 x s ≡ true) =
-        quorums_meet cfg.n cfg.qc cfg.qf (has_site (sites_of c.rows)) (cast l.seen u ch.0 x) q
-        (omega (arith, c.enough, length_sites c.rows, count_list cfg.n (sites_of c.rows) c.sites))
-        (omega (arith, ch.1, need_least cfg.n cfg.qc cfg.qf ch.0 q)) in
+    quorums_meet cfg.n cfg.qc cfg.qf (has_site (sites_of c.rows)) (cast l.seen u ch.0 x) q
+    (omega (arith, c.enough, length_sites c.rows, count_list cfg.n (sites_of c.rows) c.sites))
+    (omega (arith, ch.1, need_least cfg.n cfg.qc cfg.qf ch.0 q)) in
     let e : (e : Seen) × IsIn e c.rows × (e.site ≡ m.0) = site_row c.rows m.0 m.2 in
     let f : IsCast l.seen u ch.0 x m.0 = cast_found l.seen u ch.0 x m.0 m.3 in
     let on : Follows f.entry.row e.0.row = late_follows cfg late early e.0 f.entry q a f.found (c.found e.0 e.1) (f.site ∙ sym e.2) in
     elim (cases_lt v u) [
-        inl lt ↦ absurd (not_quiet e.0.row u v (late_acceptor cfg late early e.0 q a (c.found e.0 e.1)) (value_after (f.entry.row u) (e.0.row u) ch.0 x f.vote (on u)) (c.quiet e.0 e.1) lt)
-        | inr le ↦ le
+      | inl lt ↦ absurd (not_quiet e.0.row u v (late_acceptor cfg late early e.0 q a (c.found e.0 e.1)) (value_after (f.entry.row u) (e.0.row u) ch.0 x f.vote (on u)) (c.quiet e.0 e.1) lt)
+      | inr le ↦ le
     ]
 
 -- the version of a vote of the call for its own value is not below one at which a value was shown when it began
@@ -193,8 +196,8 @@ own_above cfg call (Takes w ∷ late) early u v x q a none cur h p i own k = own
 own_above cfg call (Sends w ∷ late) early u v x q a none cur h p (inr i) own k = own_above cfg call late early u v x q a.0 none cur.0 h p i own k
 own_above cfg call (Sends w ∷ late) early u v x q a none cur h p (inl i) own k =
     elim (cur.1 (ap (λ (y : Write). y.call) (sym i) ∙ own) v (subst (λ (y : Write). VotesFor y.act v call) i k)) [
-        inl o ↦ own_above cfg call late early u v x q a.0 none cur.0 h o.write o.found o.own o.votes
-        | inr c ↦ latest cfg late early u v x q a.0 h c
+      | inl o ↦ own_above cfg call late early u v x q a.0 none cur.0 h o.write o.found o.own o.votes
+      | inr c ↦ latest cfg late early u v x q a.0 h c
     ]
 
 -- the value of a call that began when a value was shown is shown above it
@@ -206,11 +209,11 @@ above cfg call late early u v x q a none cur h k =
     let p : IsProposed m.sent v call = (agree.chosen v call k).1 in
     let le : u ≤ v = own_above cfg call late early u v x q a none cur h p.write p.found p.own p.votes in
     elim (cases_lt u v) [
-        inl lt ↦ lt
-        | inr ge ↦
-            let same : u ≡ v = omega arith in
-            let here : IsShown cfg m.seen u call = subst (λ (t : ℕ). IsShown cfg m.seen t call) (sym same) k in
-            let is : x ≡ call = agree.one u x call (shown_more cfg l.seen m.seen u x (early_seen late early) h) here in
-            let early_own : IsProposed l.sent u x = ((agreement cfg early q (early_moves cfg late early a)).chosen u x h).1 in
-            absurd (none early_own.write early_own.found (early_own.own ∙ is))
+      | inl lt ↦ lt
+      | inr ge ↦
+          let same : u ≡ v = omega arith in
+          let here : IsShown cfg m.seen u call = subst (λ (t : ℕ). IsShown cfg m.seen t call) (sym same) k in
+          let is : x ≡ call = agree.one u x call (shown_more cfg l.seen m.seen u x (early_seen late early) h) here in
+          let early_own : IsProposed l.sent u x = ((agreement cfg early q (early_moves cfg late early a)).chosen u x h).1 in
+          absurd (none early_own.write early_own.found (early_own.own ∙ is))
     ]

@@ -1,5 +1,5 @@
 -- The rows of a site, now and when they were shown, and how it votes and stands by them.
-use Rattle.std.proofs.Common.{◌≡◌, ℕ, Bool, true, false, not, ◌&&◌, ◌||◌, List, refl, ap, ◌∙◌, sym, subst, inl, inr, ◌⊎◌}
+use Rattle.std.proofs.Common.{◌≡◌, ℕ, true, false, not, ◌&&◌, refl, sym, subst, inl, inr, ◌⊎◌}
 use Rattle.std.proofs.lemmas.Bool.{and_parts, and_from, or_cases, or_left, or_right, not-true, not_from_false}
 use Rattle.gz_core.specs.Names.{Name, BallotAt}
 use Rattle.gz_ledger.specs.Acceptors.{Acceptor, slot_votes, slot_voted, slot_lets}
@@ -23,10 +23,10 @@ row_of_cast l v b x s c = inr (c.entry, c.found, c.site, refl)
 pub votes_row : (l : Ledger) (v : ℕ) (b : BallotAt) (x : Name) (s : ℕ) → votes l v b x s ≡ true → (r : Acceptor) × IsRowOf l s r × IsVote (r v) b x
 votes_row l v b x s e =
     elim (or_cases (slot_votes (l.told s v) b x) (cast l.seen v b x s) e) [
-        inl h ↦ (l.told s, inl refl, votes_means (l.told s v) b x h)
-        | inr h ↦
-            let c : IsCast l.seen v b x s = cast_found l.seen v b x s h in
-            (c.entry.row, row_of_cast l v b x s c, c.vote)
+      | inl h ↦ (l.told s, inl refl, votes_means (l.told s v) b x h)
+      | inr h ↦
+          let c : IsCast l.seen v b x s = cast_found l.seen v b x s h in
+          (c.entry.row, row_of_cast l v b x s c, c.vote)
     ]
 
 -- and a vote in one of its rows is its vote
@@ -40,12 +40,12 @@ row_votes l v b x s r (inr w) h =
 pub voted_row : (l : Ledger) (v : ℕ) (b : BallotAt) (s : ℕ) → voted l v b s ≡ true → (r : Acceptor) × (x : Name) × IsRowOf l s r × IsVote (r v) b x
 voted_row l v b s e =
     elim (or_cases (slot_voted (l.told s v) b) (cast_in l.seen v b s) e) [
-        inl h ↦
-            let w : (x : Name) × IsVote (l.told s v) b x = voted_means (l.told s v) b h in
-            (l.told s, w.0, inl refl, w.1)
-        | inr h ↦
-            let w : (x : Name) × IsCast l.seen v b x s = cast_in_found l.seen v b s h in
-            (w.1.entry.row, w.0, row_of_cast l v b w.0 s w.1, w.1.vote)
+      | inl h ↦
+          let w : (x : Name) × IsVote (l.told s v) b x = voted_means (l.told s v) b h in
+          (l.told s, w.0, inl refl, w.1)
+      | inr h ↦
+          let w : (x : Name) × IsCast l.seen v b x s = cast_in_found l.seen v b s h in
+          (w.1.entry.row, w.0, row_of_cast l v b w.0 s w.1, w.1.vote)
     ]
 
 pub row_voted : (l : Ledger) (v : ℕ) (b : BallotAt) (x : Name) (s : ℕ) (r : Acceptor) → IsRowOf l s r → IsVote (r v) b x → voted l v b s ≡ true
@@ -59,10 +59,10 @@ row_voted l v b x s r (inr w) h =
 pub stands_cases : (l : Ledger) (v : ℕ) (b : BallotAt) (x : Name) (s : ℕ) → stands l v b x s ≡ true → (votes l v b x s ≡ true) ⊎ ((voted l v b s ≡ false) × LetsIn (l.told s v) b)
 stands_cases l v b x s e =
     elim (or_cases (votes l v b x s) (not (voted l v b s) && slot_lets (l.told s v) b) e) [
-        inl h ↦ inl h
-        | inr h ↦
-            let parts : (not (voted l v b s) ≡ true) × (slot_lets (l.told s v) b ≡ true) = and_parts (not (voted l v b s)) (slot_lets (l.told s v) b) h in
-            inr (not-true (voted l v b s) parts.0, lets_means (l.told s v) b parts.1)
+      | inl h ↦ inl h
+      | inr h ↦
+          let parts : (not (voted l v b s) ≡ true) × (slot_lets (l.told s v) b ≡ true) = and_parts (not (voted l v b s)) (slot_lets (l.told s v) b) h in
+          inr (not-true (voted l v b s) parts.0, lets_means (l.told s v) b parts.1)
     ]
 
 pub stands_voted : (l : Ledger) (v : ℕ) (b : BallotAt) (x : Name) (s : ℕ) → votes l v b x s ≡ true → stands l v b x s ≡ true

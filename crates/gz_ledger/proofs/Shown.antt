@@ -1,13 +1,11 @@
 -- What was shown, found in the list, and kept where the list grows.
-use Rattle.std.proofs.Common.{◌≡◌, ℕ, suc, ◌+◌, ◌≤◌, Bool, true, false, ◌&&◌, ◌||◌, ◌==◌, List, [], ◌∷◌, ◌++◌, Option, Some, None, refl, ap, ◌∙◌, sym, subst, inl, inr, ◌⊎◌, arith}
+use Rattle.std.proofs.Common.{◌≡◌, ℕ, true, ◌&&◌, ◌==◌, List, [], ◌∷◌, refl, sym, subst, inl, inr, arith}
 use Rattle.std.proofs.lemmas.Bool.{true≢false, and_parts, and_from, or_cases, or_left, or_right, eqb-true, eq-eqb}
 use Rattle.gz_core.specs.Names.{Name, BallotAt}
-use Rattle.gz_core.specs.Configurations.{need}
-use Rattle.gz_core.specs.Counts.{count_sites}
 use Rattle.gz_core.specs.declared.configuration.Config.{Config}
 use Rattle.gz_core.proofs.Counting.{count_weaker}
 use Rattle.gz_ledger.specs.Acceptors.{slot_votes, slot_voted}
-use Rattle.gz_ledger.specs.Histories.{IsIn, Seen, cast, cast_in, IsChosenAt, IsDecidedAt, IsShown, IsVotedAt}
+use Rattle.gz_ledger.specs.Histories.{IsIn, Seen, cast, cast_in, IsChosenAt, IsShown, IsVotedAt}
 use Rattle.gz_ledger.proofs.SlotTests.{IsVote, votes_means, votes_from, voted_means, voted_from}
 
 -- each element of a list is one of another
@@ -28,10 +26,10 @@ pub cast_found : (seen : List Seen) (v : ℕ) (b : BallotAt) (x : Name) (s : ℕ
 cast_found [] v b x s e = absurd (true≢false (sym e))
 cast_found (f ∷ es) v b x s e =
     elim (or_cases ((f.site == s) && slot_votes (f.row v) b x) (cast es v b x s) e) [
-        inl h ↦
-            let parts : ((f.site == s) ≡ true) × (slot_votes (f.row v) b x ≡ true) = and_parts (f.site == s) (slot_votes (f.row v) b x) h in
-            record { entry = f; found = inl refl; site = eqb-true f.site s parts.0; vote = votes_means (f.row v) b x parts.1 }
-        | inr h ↦ cast_later f es v b x s (cast_found es v b x s h)
+      | inl h ↦
+          let parts : ((f.site == s) ≡ true) × (slot_votes (f.row v) b x ≡ true) = and_parts (f.site == s) (slot_votes (f.row v) b x) h in
+          record { entry = f; found = inl refl; site = eqb-true f.site s parts.0; vote = votes_means (f.row v) b x parts.1 }
+      | inr h ↦ cast_later f es v b x s (cast_found es v b x s h)
     ]
 
 pub cast_from : (seen : List Seen) (v : ℕ) (b : BallotAt) (x : Name) (e : Seen) → IsIn e seen → IsVote (e.row v) b x → cast seen v b x e.site ≡ true
@@ -45,13 +43,13 @@ pub cast_in_found : (seen : List Seen) (v : ℕ) (b : BallotAt) (s : ℕ) → ca
 cast_in_found [] v b s e = absurd (true≢false (sym e))
 cast_in_found (f ∷ es) v b s e =
     elim (or_cases ((f.site == s) && slot_voted (f.row v) b) (cast_in es v b s) e) [
-        inl h ↦
-            let parts : ((f.site == s) ≡ true) × (slot_voted (f.row v) b ≡ true) = and_parts (f.site == s) (slot_voted (f.row v) b) h in
-            let w : (x : Name) × IsVote (f.row v) b x = voted_means (f.row v) b parts.1 in
-            (w.0, record { entry = f; found = inl refl; site = eqb-true f.site s parts.0; vote = w.1 })
-        | inr h ↦
-            let w : (x : Name) × IsCast es v b x s = cast_in_found es v b s h in
-            (w.0, cast_later f es v b w.0 s w.1)
+      | inl h ↦
+          let parts : ((f.site == s) ≡ true) × (slot_voted (f.row v) b ≡ true) = and_parts (f.site == s) (slot_voted (f.row v) b) h in
+          let w : (x : Name) × IsVote (f.row v) b x = voted_means (f.row v) b parts.1 in
+          (w.0, record { entry = f; found = inl refl; site = eqb-true f.site s parts.0; vote = w.1 })
+      | inr h ↦
+          let w : (x : Name) × IsCast es v b x s = cast_in_found es v b s h in
+          (w.0, cast_later f es v b w.0 s w.1)
     ]
 
 pub cast_in_from : (seen : List Seen) (v : ℕ) (b : BallotAt) (x : Name) (e : Seen) → IsIn e seen → IsVote (e.row v) b x → cast_in seen v b e.site ≡ true

@@ -1,35 +1,33 @@
 -- The votes of a sound ledger are as the laws of Fast Paxos ask.
-use Rattle.std.proofs.Common.{◌≡◌, ℕ, suc, ◌+◌, ◌<◌, ◌≤◌, Bool, true, false, List, Option, Some, None, refl, ap, ◌∙◌, sym, subst, inl, inr, ◌⊎◌, arith}
+use Rattle.std.proofs.Common.{◌≡◌, ℕ, ◌<◌, true, false, List, Option, Some, refl, ap, ◌∙◌, sym, subst, inl, inr, ◌⊎◌, arith}
 use Rattle.std.specs.List.{slice_get}
 use Rattle.std.proofs.lemmas.Bool.{both_ways}
-use Rattle.std.proofs.lemmas.Option.{none-some, same_Some, some_pair_parts}
-use Rattle.gz_core.specs.Names.{Name, BallotAt, fast, is_below, same_ballot}
-use Rattle.gz_core.specs.Configurations.{need}
-use Rattle.gz_core.specs.Counts.{count_sites}
-use Rattle.gz_core.specs.Slots.{Slot, Gone, DecidedAs, OpenAt, IsVoteOf}
+use Rattle.std.proofs.lemmas.Option.{same_Some, some_pair_parts}
+use Rattle.gz_core.specs.Names.{Name, BallotAt, is_below}
+use Rattle.gz_core.specs.Slots.{Slot, OpenAt, IsVoteOf}
 use Rattle.gz_core.specs.declared.configuration.Config.{Config}
 use Rattle.gz_core.proofs.Ballots.{below_never, below_not, below_cases, below_at}
 use Rattle.gz_core.proofs.Counting.{count_weaker, count_found}
 use Rattle.gz_core.proofs.Quorums.{need_some}
 use Rattle.gz_pick.specs.declared.heard.Heard.{Heard}
-use Rattle.gz_model.specs.Choosing.{IsSafe, IsChosenBy, VotesOnce, CarriesOne, AreSafe, TellsBelow, IsRecovered, AreGood}
+use Rattle.gz_model.specs.Choosing.{IsChosenBy, VotesOnce, CarriesOne, AreSafe, IsRecovered, AreGood}
 use Rattle.gz_model.proofs.Choices.{one_value}
 use Rattle.gz_ledger.specs.Acceptors.{Acceptor}
-use Rattle.gz_ledger.specs.Histories.{IsIn, Seen, cast, IsChosenAt, IsShown, IsProposed}
+use Rattle.gz_ledger.specs.Histories.{cast, IsChosenAt, IsShown}
 use Rattle.gz_ledger.specs.Guards.{IsPromiseHeard, IsQuorumHeard}
-use Rattle.gz_ledger.specs.Ledgers.{Ledger, votes, voted, stands}
-use Rattle.gz_ledger.proofs.SlotTests.{IsVote, LetsIn}
-use Rattle.gz_ledger.proofs.Follows.{IsUnder, IsNewVote, Advances, SlotFollows, Follows, advance, open_before, IsAcceptor}
-use Rattle.gz_ledger.proofs.Shown.{IsCast, cast_found, cast_from}
+use Rattle.gz_ledger.specs.Ledgers.{Ledger, votes, stands}
+use Rattle.gz_ledger.proofs.SlotTests.{IsVote}
+use Rattle.gz_ledger.proofs.Follows.{Advances, Follows, advance}
+use Rattle.gz_ledger.proofs.Shown.{IsCast, cast_found}
 use Rattle.gz_ledger.proofs.Rows.{IsRowOf, row_of_seen, votes_row, row_votes, stands_cases, stands_voted}
-use Rattle.gz_ledger.proofs.Sound.{IsBuilt, IsVoteOk, IsVoteRight, SlotOk, IsSound, toward_at, line, row_acceptor, vote_ok, right_at}
+use Rattle.gz_ledger.proofs.Sound.{IsVoteOk, SlotOk, IsSound, toward_at, line, vote_ok, right_at}
 
 -- a vote in a row that goes forward stands, or another stands above it
 pub later_vote : (r q : Acceptor) (v : ℕ) (b c : BallotAt) (x y : Name) → Follows r q → IsVote (r v) b x → IsVote (q v) c y → ((b ≡ c) × (x ≡ y)) ⊎ (is_below b c ≡ true)
 later_vote r q v b c x y f h k =
     elim (advance (r v) (q v) h.0 k.0 (Some (b, x)) (Some (c, y)) h.1 k.1 (f v)).vote [
-        inl e ↦ inl (some_pair_parts b c x y (sym e))
-        | inr n ↦ inr (subst (λ (w : BallotAt × Name). is_below b w.0 ≡ true) (sym (same_Some (c, y) n.vote n.is)) n.over)
+      | inl e ↦ inl (some_pair_parts b c x y (sym e))
+      | inr n ↦ inr (subst (λ (w : BallotAt × Name). is_below b w.0 ≡ true) (sym (same_Some (c, y) n.vote n.is)) n.over)
     ]
 
 same_line : (r q : Acceptor) (v : ℕ) (b : BallotAt) (x y : Name) → Follows r q → IsVote (r v) b x → IsVote (q v) b y → x ≡ y
@@ -42,8 +40,8 @@ votes_once cfg l v so b x y s h k =
     let r : (r : Acceptor) × IsRowOf l s r × IsVote (r v) b x = votes_row l v b x s h in
     let q : (r : Acceptor) × IsRowOf l s r × IsVote (r v) b y = votes_row l v b y s k in
     elim (line cfg l so s r.0 q.0 r.1 q.1) [
-        inl f ↦ same_line r.0 q.0 v b x y f r.2 q.2
-        | inr f ↦ sym (same_line q.0 r.0 v b y x f q.2 r.2)
+      | inl f ↦ same_line r.0 q.0 v b x y f r.2 q.2
+      | inr f ↦ sym (same_line q.0 r.0 v b y x f q.2 r.2)
     ]
 
 -- what stands behind a site's vote
@@ -67,11 +65,11 @@ are_safe cfg l v so b x s c h =
 
 pub are_good : (cfg : Config) (l : Ledger) (v : ℕ) → IsSound cfg l → AreGood cfg.n cfg.qc cfg.qf (votes l v) (stands l v)
 are_good cfg l v so = record {
-    quorums = so.quorums;
-    once = votes_once cfg l v so;
-    one = carries_one cfg l v so;
-    safe = are_safe cfg l v so;
-    voted = stands_voted l v;
+  quorums = so.quorums;
+  once = votes_once cfg l v so;
+  one = carries_one cfg l v so;
+  safe = are_safe cfg l v so;
+  voted = stands_voted l v;
 }
 
 -- a vote that was shown is a site's vote
@@ -109,48 +107,49 @@ shown_chosen cfg l v x so (inr d) = (subst (λ (slot : Slot). SlotOk cfg l.seen 
 heard_was : (cfg : Config) (l : Ledger) (v : ℕ) (b : BallotAt) (h : Heard) → IsSound cfg l → IsPromiseHeard l.seen v b h → (u : BallotAt × Name) → h.vote ≡ Some u → (votes l v u.0 u.1 h.site ≡ true) × (is_below u.0 b ≡ true)
 heard_was cfg l v b h so p u e =
     let slot : p.entry.row v ≡ OpenAt b (Some (u.0, u.1)) = p.row ∙ ap (λ (o : Option (BallotAt × Name)). OpenAt b o) e in
-    let under : is_below b u.0 ≡ false = (so.seen_acceptor p.entry p.found).under v b u slot in
-    (row_votes l v u.0 u.1 h.site p.entry.row (inr (p.entry, p.found, p.site, refl)) (b, slot),
-        elim (below_cases u.0 b) [
-            inl l ↦ l
-            | inr (inl q) ↦ absurd (p.none (subst (λ (o : Option (BallotAt × Name)). IsVoteOf b o) (sym e) q))
-            | inr (inr l) ↦ absurd (both_ways (is_below b u.0) under l)
-        ])
+    let under : is_below b u.0 ≡ false = (so.seen_acceptor p.entry p.found).under v b u slot in (
+      row_votes l v u.0 u.1 h.site p.entry.row (inr (p.entry, p.found, p.site, refl)) (b, slot),
+      elim (below_cases u.0 b) [
+        | inl l ↦ l
+        | inr (inl q) ↦ absurd (p.none (subst (λ (o : Option (BallotAt × Name)). IsVoteOf b o) (sym e) q))
+        | inr (inr l) ↦ absurd (both_ways (is_below b u.0) under l)
+      ],
+    )
 
 heard_top : (cfg : Config) (l : Ledger) (v : ℕ) (b : BallotAt) (h : Heard) → IsSound cfg l → IsPromiseHeard l.seen v b h → (c : BallotAt) (y : Name) → is_below c b ≡ true → votes l v c y h.site ≡ true → (u : BallotAt × Name) × (h.vote ≡ Some u) × (is_below u.0 c ≡ false)
 heard_top cfg l v b h so p c y lt k =
     let r : (r : Acceptor) × IsRowOf l h.site r × IsVote (r v) c y = votes_row l v c y h.site k in
     elim (line cfg l so h.site r.0 p.entry.row r.1 (inr (p.entry, p.found, p.site, refl))) [
-        inl f ↦ elim (advance (r.0 v) (p.entry.row v) r.2.0 b (Some (c, y)) h.vote r.2.1 p.row (f v)).vote [
-            inl e ↦ ((c, y), e, below_never c)
-            | inr n ↦ (n.vote, n.is, below_not c n.vote.0 n.over)
-        ]
-        | inr f ↦ elim (advance (p.entry.row v) (r.0 v) b r.2.0 h.vote (Some (c, y)) p.row r.2.1 (f v)).vote [
-            inl e ↦ ((c, y), sym e, below_never c)
-            | inr n ↦ absurd (both_ways (is_below c b) (subst (λ (w : BallotAt × Name). is_below w.0 b ≡ false) (sym (same_Some (c, y) n.vote n.is)) n.above) lt)
-        ]
+      | inl f ↦ elim (advance (r.0 v) (p.entry.row v) r.2.0 b (Some (c, y)) h.vote r.2.1 p.row (f v)).vote [
+        | inl e ↦ ((c, y), e, below_never c)
+        | inr n ↦ (n.vote, n.is, below_not c n.vote.0 n.over)
+      ]
+      | inr f ↦ elim (advance (p.entry.row v) (r.0 v) b r.2.0 h.vote (Some (c, y)) p.row r.2.1 (f v)).vote [
+        | inl e ↦ ((c, y), sym e, below_never c)
+        | inr n ↦ absurd (both_ways (is_below c b) (subst (λ (w : BallotAt × Name). is_below w.0 b ≡ false) (sym (same_Some (c, y) n.vote n.is)) n.above) lt)
+      ]
     ]
 
 heard_shut : (cfg : Config) (l : Ledger) (v : ℕ) (b : BallotAt) (h : Heard) → IsSound cfg l → IsPromiseHeard l.seen v b h → (c : BallotAt) (y : Name) → is_below c b ≡ true → stands l v c y h.site ≡ true → votes l v c y h.site ≡ true
 heard_shut cfg l v b h so p c y lt k =
     elim (stands_cases l v c y h.site k) [
-        inl e ↦ e
-        | inr w ↦
-            let f : Follows p.entry.row (l.told h.site) = toward_at cfg l so p.entry h.site p.found p.site in
-            let a : Advances b h.vote w.1.promise w.1.vote = advance (p.entry.row v) (l.told h.site v) b w.1.promise h.vote w.1.vote p.row w.1.is (f v) in
-            absurd (both_ways (is_below c w.1.promise) w.1.at (below_at c b w.1.promise lt a.promise))
+      | inl e ↦ e
+      | inr w ↦
+          let f : Follows p.entry.row (l.told h.site) = toward_at cfg l so p.entry h.site p.found p.site in
+          let a : Advances b h.vote w.1.promise w.1.vote = advance (p.entry.row v) (l.told h.site v) b w.1.promise h.vote w.1.vote p.row w.1.is (f v) in
+          absurd (both_ways (is_below c w.1.promise) w.1.at (below_at c b w.1.promise lt a.promise))
     ]
 
 -- a sound ledger and a quorum's promises are what the choice rule asks
 pub recovered : (cfg : Config) (l : Ledger) (v : ℕ) (b : BallotAt) (heard : List Heard) → IsSound cfg l → IsQuorumHeard cfg l.seen v b heard → IsRecovered cfg.n cfg.qc cfg.qf (votes l v) (stands l v) b heard
 recovered cfg l v b heard so q = record {
-    quorums = so.quorums;
-    sites = q.sites;
-    enough = q.enough;
-    once = votes_once cfg l v so;
-    one = carries_one cfg l v so;
-    safe = are_safe cfg l v so;
-    told = λ (at : ℕ) (h : Heard) (is : slice_get heard at ≡ Some h).
-        let p : IsPromiseHeard l.seen v b h = q.promises at h is in
-        record { was = heard_was cfg l v b h so p; top = heard_top cfg l v b h so p; shut = heard_shut cfg l v b h so p };
+  quorums = so.quorums;
+  sites = q.sites;
+  enough = q.enough;
+  once = votes_once cfg l v so;
+  one = carries_one cfg l v so;
+  safe = are_safe cfg l v so;
+  told = λ (at : ℕ) (h : Heard) (is : slice_get heard at ≡ Some h).
+      let p : IsPromiseHeard l.seen v b h = q.promises at h is in
+      record { was = heard_was cfg l v b h so p; top = heard_top cfg l v b h so p; shut = heard_shut cfg l v b h so p };
 }

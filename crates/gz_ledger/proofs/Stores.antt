@@ -1,5 +1,5 @@
 -- Every run over tagged rows is a run of the machine of agreement.
-use Rattle.std.proofs.Common.{◌≡◌, ℕ, ◌+◌, ◌<◌, ◌≤◌, ◌==◌, List, [], ◌∷◌, ◌++◌, Option, Some, None, refl, ap, ◌∙◌, sym, subst, inl, inr, ◌⊎◌, arith}
+use Rattle.std.proofs.Common.{◌≡◌, ℕ, ◌<◌, ◌≤◌, List, [], ◌∷◌, ◌++◌, Some, refl, ap, ◌∙◌, sym, subst, inl, inr}
 use Rattle.std.proofs.Math.Path.{fun_ext}
 use Rattle.std.proofs.lemmas.Bool.{cases_eq}
 use Rattle.gz_core.specs.Names.{Name}
@@ -7,12 +7,12 @@ use Rattle.gz_core.specs.declared.configuration.Config.{Config}
 use Rattle.gz_ledger.specs.Acceptors.{Acceptor, with_acceptor}
 use Rattle.gz_ledger.specs.Histories.{IsIn, Seen, Write, IsShown, IsCurrent, VotesFor, IsProposed}
 use Rattle.gz_ledger.specs.Ledgers.{Ledger, Move, Shows, Sends, Takes, moved, row_of, CanSend, Can, after_moves, AreMoves, late_seen}
-use Rattle.gz_ledger.specs.Agreements.{HasQuorums, IsAgreed, IsCurrentMove, AreCurrentMoves}
-use Rattle.gz_ledger.specs.Deeds.{Stored, Answered, Asked, Store, Deed, Reads, Begins, Written, Failed, Elsewhere, etag_of, acceptor_of, answer_of, answer_to, with_site, kept_after, done, rows_of, writes_of, CanBegin, CanWrite, CanDo, after_deeds, AreDeeds, ledger_of, moves_onto, moves_of, late_rows, seen_after, sent_after, IsCurrentDeed, AreCurrentDeeds}
+use Rattle.gz_ledger.specs.Agreements.{HasQuorums, IsAgreed, AreCurrentMoves}
+use Rattle.gz_ledger.specs.Deeds.{Answered, Asked, Store, Deed, Reads, Begins, Written, Failed, Elsewhere, acceptor_of, kept_after, done, rows_of, writes_of, CanBegin, CanWrite, after_deeds, AreDeeds, ledger_of, moves_onto, moves_of, late_rows, seen_after, sent_after, AreCurrentDeeds}
 use Rattle.gz_ledger.proofs.More.{may_more}
 use Rattle.gz_ledger.proofs.Orders as orders
 use Rattle.gz_ledger.proofs.Stances.{acceptor_same, acceptor_other}
-use Rattle.gz_ledger.proofs.Tags.{IsKept, kept, site_same, site_other, shown_stands}
+use Rattle.gz_ledger.proofs.Tags.{kept, site_same, site_other, shown_stands}
 
 -- the row of a reply is one of the rows
 pub rows_in : (rs : List Answered) (r : Answered) → IsIn r rs → let e : Seen = record { site = r.site; row = r.row } in IsIn e (rows_of rs)
@@ -29,8 +29,8 @@ writes_in (q ∷ rs) a (inr i) = inr (writes_in rs a i)
 told_after : (st : Store) (a : Asked) (e s : ℕ) → with_acceptor (λ t. acceptor_of (st.stored t)) a.write.site a.write.after s ≡ acceptor_of (kept_after st a e s)
 told_after st a e s =
     elim (cases_eq s a.write.site) [
-        inl p ↦ acceptor_same (λ t. acceptor_of (st.stored t)) a.write.site s a.write.after p ∙ ap acceptor_of (sym (site_same st.stored a.write.site s (Some (record { etag = e; row = a.write.after })) p))
-        | inr ne ↦ acceptor_other (λ t. acceptor_of (st.stored t)) a.write.site s a.write.after ne ∙ ap acceptor_of (sym (site_other st.stored a.write.site s (Some (record { etag = e; row = a.write.after })) ne))
+      | inl p ↦ acceptor_same (λ t. acceptor_of (st.stored t)) a.write.site s a.write.after p ∙ ap acceptor_of (sym (site_same st.stored a.write.site s (Some (record { etag = e; row = a.write.after })) p))
+      | inr ne ↦ acceptor_other (λ t. acceptor_of (st.stored t)) a.write.site s a.write.after ne ∙ ap acceptor_of (sym (site_other st.stored a.write.site s (Some (record { etag = e; row = a.write.after })) ne))
     ]
 
 -- a write that takes effect in the store takes effect in the ledger
@@ -53,9 +53,9 @@ moved_same l m n e = ap (λ (k : Ledger). moved k n) e
 
 can_send : (cfg : Config) (st : Store) (heard : List Seen) (a : Asked) → CanBegin cfg st heard a → CanSend cfg (ledger_of st) a.write
 can_send cfg st heard a can = record {
-    shown = rows_in st.replies (record { site = a.write.site; etag = a.expect; row = a.write.before }) can.shown;
-    makes = can.makes;
-    may = may_more cfg heard (rows_of st.replies) (writes_of st.asked) a.write.call a.write.act can.known can.may;
+  shown = rows_in st.replies (record { site = a.write.site; etag = a.expect; row = a.write.before }) can.shown;
+  makes = can.makes;
+  may = may_more cfg heard (rows_of st.replies) (writes_of st.asked) a.write.call a.write.act can.known can.may;
 }
 
 -- the row of each request was shown under the tag that it expects
@@ -72,9 +72,10 @@ asked_shown cfg used (Elsewhere s e ∷ ds) a all i = asked_shown cfg used ds a 
 -- a write that takes effect finds the row that it was made on, since that was shown under the tag
 can_take : (cfg : Config) (used : ℕ → ℕ) (ds : List Deed) (a : Asked) (e : ℕ) → AreDeeds cfg used ds → CanWrite (after_deeds used ds) a e → Can cfg (ledger_of (after_deeds used ds)) (Takes a.write)
 can_take cfg used ds a e all can =
-    let st = after_deeds used ds in
-    (writes_in st.asked a can.asked,
-        shown_stands st (record { site = a.write.site; etag = a.expect; row = a.write.before }) (kept cfg used ds all) (asked_shown cfg used ds a all can.asked) can.stands)
+    let st = after_deeds used ds in (
+      writes_in st.asked a can.asked,
+      shown_stands st (record { site = a.write.site; etag = a.expect; row = a.write.before }) (kept cfg used ds all) (asked_shown cfg used ds a all can.asked) can.stands,
+    )
 
 -- the moves of the deeds are moves, and lead to the store as a ledger
 pub deeds_are_moves : (cfg : Config) (used : ℕ → ℕ) (ds : List Deed) → AreDeeds cfg used ds → AreMoves cfg (moves_of ds) × (after_moves (moves_of ds) ≡ ledger_of (after_deeds used ds))
@@ -83,20 +84,23 @@ deeds_are_moves cfg used (Reads s ∷ ds) all =
     let w : AreMoves cfg (moves_of ds) × (after_moves (moves_of ds) ≡ ledger_of (after_deeds used ds)) = deeds_are_moves cfg used ds all.0 in
     ((w.0, tt), moved_same (after_moves (moves_of ds)) (ledger_of (after_deeds used ds)) (Shows s) w.1)
 deeds_are_moves cfg used (Begins heard a ∷ ds) all =
-    let w : AreMoves cfg (moves_of ds) × (after_moves (moves_of ds) ≡ ledger_of (after_deeds used ds)) = deeds_are_moves cfg used ds all.0 in
-    ((w.0, can_same cfg (after_moves (moves_of ds)) (ledger_of (after_deeds used ds)) (Sends a.write) w.1 (can_send cfg (after_deeds used ds) heard a all.1)),
-        moved_same (after_moves (moves_of ds)) (ledger_of (after_deeds used ds)) (Sends a.write) w.1)
+    let w : AreMoves cfg (moves_of ds) × (after_moves (moves_of ds) ≡ ledger_of (after_deeds used ds)) = deeds_are_moves cfg used ds all.0 in (
+      (w.0, can_same cfg (after_moves (moves_of ds)) (ledger_of (after_deeds used ds)) (Sends a.write) w.1 (can_send cfg (after_deeds used ds) heard a all.1)),
+      moved_same (after_moves (moves_of ds)) (ledger_of (after_deeds used ds)) (Sends a.write) w.1,
+    )
 deeds_are_moves cfg used (Written a e ∷ ds) all =
     let w : AreMoves cfg (moves_of ds) × (after_moves (moves_of ds) ≡ ledger_of (after_deeds used ds)) = deeds_are_moves cfg used ds all.0 in
     let st = after_deeds used ds in
-    let took : moved (after_moves (moves_of ds)) (Takes a.write) ≡ ledger_of (done st (Failed a e)) = moved_same (after_moves (moves_of ds)) (ledger_of st) (Takes a.write) w.1 ∙ take_ledger st a e in
-    (((w.0, can_same cfg (after_moves (moves_of ds)) (ledger_of st) (Takes a.write) w.1 (can_take cfg used ds a e all.0 all.1)), tt),
-        moved_same (moved (after_moves (moves_of ds)) (Takes a.write)) (ledger_of (done st (Failed a e))) (Shows a.write.site) took ∙ written_ledger st a e)
+    let took : moved (after_moves (moves_of ds)) (Takes a.write) ≡ ledger_of (done st (Failed a e)) = moved_same (after_moves (moves_of ds)) (ledger_of st) (Takes a.write) w.1 ∙ take_ledger st a e in (
+      ((w.0, can_same cfg (after_moves (moves_of ds)) (ledger_of st) (Takes a.write) w.1 (can_take cfg used ds a e all.0 all.1)), tt),
+      moved_same (moved (after_moves (moves_of ds)) (Takes a.write)) (ledger_of (done st (Failed a e))) (Shows a.write.site) took ∙ written_ledger st a e,
+    )
 deeds_are_moves cfg used (Failed a e ∷ ds) all =
     let w : AreMoves cfg (moves_of ds) × (after_moves (moves_of ds) ≡ ledger_of (after_deeds used ds)) = deeds_are_moves cfg used ds all.0 in
-    let st = after_deeds used ds in
-    ((w.0, can_same cfg (after_moves (moves_of ds)) (ledger_of st) (Takes a.write) w.1 (can_take cfg used ds a e all.0 all.1)),
-        moved_same (after_moves (moves_of ds)) (ledger_of st) (Takes a.write) w.1 ∙ take_ledger st a e)
+    let st = after_deeds used ds in (
+      (w.0, can_same cfg (after_moves (moves_of ds)) (ledger_of st) (Takes a.write) w.1 (can_take cfg used ds a e all.0 all.1)),
+      moved_same (after_moves (moves_of ds)) (ledger_of st) (Takes a.write) w.1 ∙ take_ledger st a e,
+    )
 deeds_are_moves cfg used (Elsewhere s e ∷ ds) all = deeds_are_moves cfg used ds all.0
 
 pub tags_name_rows : (cfg : Config) (used : ℕ → ℕ) (ds : List Deed) (r q : Answered) (e : ℕ) → AreDeeds cfg used ds → IsIn r (after_deeds used ds).replies → IsIn q (after_deeds used ds).replies → r.site ≡ q.site → r.etag ≡ Some e → q.etag ≡ Some e → r.row ≡ q.row
@@ -168,11 +172,13 @@ store_latest cfg used late early u v x q all h c =
 current_moves : (cfg : Config) (used : ℕ → ℕ) (call : Name) (late early : List Deed) → AreDeeds cfg used (late ++ early) → AreCurrentDeeds cfg used call late early → AreCurrentMoves cfg call (moves_of late) (moves_of early)
 current_moves cfg used call [] early all c = tt
 current_moves cfg used call (Reads s ∷ late) early all c = (current_moves cfg used call late early all.0 c.0, tt)
-current_moves cfg used call (Begins heard a ∷ late) early all c =
-    (current_moves cfg used call late early all.0 c.0, λ (own : a.write.call ≡ call) (v : ℕ) (votes : VotesFor a.write.act v call). elim (c.1 own v votes) [
-            inl p ↦ inl (subst (λ (l : Ledger). IsProposed l.sent v call) (sym (both_moves cfg used late early all.0).1) p)
-            | inr h ↦ inr (subst (λ (es : List Seen). IsCurrent cfg es v) (sym (late_same cfg used late early all.0)) h)
-        ])
+current_moves cfg used call (Begins heard a ∷ late) early all c = (
+  current_moves cfg used call late early all.0 c.0,
+  λ (own : a.write.call ≡ call) (v : ℕ) (votes : VotesFor a.write.act v call). elim (c.1 own v votes) [
+    | inl p ↦ inl (subst (λ (l : Ledger). IsProposed l.sent v call) (sym (both_moves cfg used late early all.0).1) p)
+    | inr h ↦ inr (subst (λ (es : List Seen). IsCurrent cfg es v) (sym (late_same cfg used late early all.0)) h)
+  ],
+)
 current_moves cfg used call (Written a e ∷ late) early all c = ((current_moves cfg used call late early all.0 c.0, tt), tt)
 current_moves cfg used call (Failed a e ∷ late) early all c = (current_moves cfg used call late early all.0 c.0, tt)
 current_moves cfg used call (Elsewhere s e ∷ late) early all c = current_moves cfg used call late early all.0 c.0

@@ -1,9 +1,9 @@
 -- What tagged rows keep: a tag names one row, and a write takes effect only on the row that it was made on.
-use Rattle.std.proofs.Common.{◌≡◌, ℕ, ◌+◌, ◌<◌, ◌≤◌, ◌==◌, List, [], ◌∷◌, Option, Some, None, refl, ap, ◌∙◌, sym, subst, inl, inr, ◌⊎◌, arith}
+use Rattle.std.proofs.Common.{◌≡◌, ℕ, ◌≤◌, ◌==◌, List, [], ◌∷◌, Option, Some, None, refl, ap, ◌∙◌, sym, subst, inl, inr, arith}
 use Rattle.std.proofs.lemmas.Bool.{cases_eq, cond-true, cond-false, eq-eqb, ne_eqb}
 use Rattle.std.proofs.lemmas.Option.{none-some, same_Some}
 use Rattle.gz_core.specs.declared.configuration.Config.{Config}
-use Rattle.gz_ledger.specs.Acceptors.{Acceptor, new_acceptor}
+use Rattle.gz_ledger.specs.Acceptors.{new_acceptor}
 use Rattle.gz_ledger.specs.Histories.{IsIn}
 use Rattle.gz_ledger.specs.Deeds.{Stored, Answered, Asked, Store, empty_store, Deed, Reads, Begins, Written, Failed, Elsewhere, etag_of, acceptor_of, answer_of, answer_to, with_site, kept_after, done, CanWrite, CanDo, after_deeds, AreDeeds}
 
@@ -33,11 +33,11 @@ tag_none (Some k) h = absurd (none-some k.etag (sym h))
 
 kept_empty : (used : ℕ → ℕ) → IsKept (empty_store used)
 kept_empty used = record {
-    stored_used = λ (s : ℕ) (k : Stored) (e : None ≡ Some k). absurd (none-some k e);
-    reply_used = λ (r : Answered) (e : ℕ) (i : IsIn r []). absurd i;
-    reply_stored = λ (r : Answered) (k : Stored) (i : IsIn r []). absurd i;
-    reply_none = λ (r : Answered) (i : IsIn r []). absurd i;
-    named = λ (r q : Answered) (e : ℕ) (i : IsIn r []). absurd i;
+  stored_used = λ (s : ℕ) (k : Stored) (e : None ≡ Some k). absurd (none-some k e);
+  reply_used = λ (r : Answered) (e : ℕ) (i : IsIn r []). absurd i;
+  reply_stored = λ (r : Answered) (k : Stored) (i : IsIn r []). absurd i;
+  reply_none = λ (r : Answered) (i : IsIn r []). absurd i;
+  named = λ (r q : Answered) (e : ℕ) (i : IsIn r []). absurd i;
 }
 
 -- a store with one more reply
@@ -88,52 +88,52 @@ named_more st n k sh r q e (inr i) (inr j) s h g = k.named r q e i j s h g
 -- a reply that shows what its site keeps
 kept_reply : (st : Store) (n : Answered) → IsKept st → ShowsKept st n → IsKept (with_reply st n)
 kept_reply st n k sh = record {
-    stored_used = k.stored_used;
-    reply_used = reply_used_more st n k sh;
-    reply_stored = reply_stored_more st n k sh;
-    reply_none = reply_none_more st n k sh;
-    named = named_more st n k sh;
+  stored_used = k.stored_used;
+  reply_used = reply_used_more st n k sh;
+  reply_stored = reply_stored_more st n k sh;
+  reply_none = reply_none_more st n k sh;
+  named = named_more st n k sh;
 }
 
 -- a write that takes effect under a new tag
 kept_write : (st : Store) (a : Asked) (e : ℕ) → IsKept st → CanWrite st a e → IsKept (done st (Failed a e))
 kept_write st a e k can = record {
-    stored_used = λ (s : ℕ) (x : Stored) (h : kept_after st a e s ≡ Some x).
-        elim (cases_eq s a.write.site) [
-            inl p ↦
-                let here : x.etag ≡ e = ap (λ (y : Stored). y.etag) (sym (same_Some (record { etag = e; row = a.write.after }) x (sym (site_same st.stored a.write.site s (Some (record { etag = e; row = a.write.after })) p) ∙ h))) in
-                omega (arith, here, site_same st.used a.write.site s e p)
-            | inr ne ↦ omega (arith, site_other st.used a.write.site s e ne, k.stored_used s x (sym (site_other st.stored a.write.site s (Some (record { etag = e; row = a.write.after })) ne) ∙ h))
-        ];
-    reply_used = λ (r : Answered) (f : ℕ) (i : IsIn r st.replies) (h : r.etag ≡ Some f).
-        elim (cases_eq r.site a.write.site) [
-            inl p ↦ omega (arith, site_same st.used a.write.site r.site e p, can.new, k.reply_used r f i h, ap st.used p)
-            | inr ne ↦ omega (arith, site_other st.used a.write.site r.site e ne, k.reply_used r f i h)
-        ];
-    reply_stored = λ (r : Answered) (x : Stored) (i : IsIn r st.replies) (h : kept_after st a e r.site ≡ Some x) (g : r.etag ≡ Some x.etag).
-        elim (cases_eq r.site a.write.site) [
-            inl p ↦
-                let here : x.etag ≡ e = ap (λ (y : Stored). y.etag) (sym (same_Some (record { etag = e; row = a.write.after }) x (sym (site_same st.stored a.write.site r.site (Some (record { etag = e; row = a.write.after })) p) ∙ h))) in
-                absurd (omega (arith, here, can.new, k.reply_used r x.etag i g, ap st.used p))
-            | inr ne ↦ k.reply_stored r x i (sym (site_other st.stored a.write.site r.site (Some (record { etag = e; row = a.write.after })) ne) ∙ h) g
-        ];
-    reply_none = k.reply_none;
-    named = k.named;
+  stored_used = λ (s : ℕ) (x : Stored) (h : kept_after st a e s ≡ Some x).
+      elim (cases_eq s a.write.site) [
+        | inl p ↦
+            let here : x.etag ≡ e = ap (λ (y : Stored). y.etag) (sym (same_Some (record { etag = e; row = a.write.after }) x (sym (site_same st.stored a.write.site s (Some (record { etag = e; row = a.write.after })) p) ∙ h))) in
+            omega (arith, here, site_same st.used a.write.site s e p)
+        | inr ne ↦ omega (arith, site_other st.used a.write.site s e ne, k.stored_used s x (sym (site_other st.stored a.write.site s (Some (record { etag = e; row = a.write.after })) ne) ∙ h))
+      ];
+  reply_used = λ (r : Answered) (f : ℕ) (i : IsIn r st.replies) (h : r.etag ≡ Some f).
+      elim (cases_eq r.site a.write.site) [
+        | inl p ↦ omega (arith, site_same st.used a.write.site r.site e p, can.new, k.reply_used r f i h, ap st.used p)
+        | inr ne ↦ omega (arith, site_other st.used a.write.site r.site e ne, k.reply_used r f i h)
+      ];
+  reply_stored = λ (r : Answered) (x : Stored) (i : IsIn r st.replies) (h : kept_after st a e r.site ≡ Some x) (g : r.etag ≡ Some x.etag).
+      elim (cases_eq r.site a.write.site) [
+        | inl p ↦
+            let here : x.etag ≡ e = ap (λ (y : Stored). y.etag) (sym (same_Some (record { etag = e; row = a.write.after }) x (sym (site_same st.stored a.write.site r.site (Some (record { etag = e; row = a.write.after })) p) ∙ h))) in
+            absurd (omega (arith, here, can.new, k.reply_used r x.etag i g, ap st.used p))
+        | inr ne ↦ k.reply_stored r x i (sym (site_other st.stored a.write.site r.site (Some (record { etag = e; row = a.write.after })) ne) ∙ h) g
+      ];
+  reply_none = k.reply_none;
+  named = k.named;
 }
 
 kept_elsewhere : (st : Store) (s e : ℕ) → IsKept st → st.used s ≤ e → IsKept (done st (Elsewhere s e))
 kept_elsewhere st s e k le = record {
-    stored_used = λ (t : ℕ) (x : Stored) (h : st.stored t ≡ Some x). omega (arith, used_more t, k.stored_used t x h);
-    reply_used = λ (r : Answered) (f : ℕ) (i : IsIn r st.replies) (h : r.etag ≡ Some f). omega (arith, used_more r.site, k.reply_used r f i h);
-    reply_stored = k.reply_stored;
-    reply_none = k.reply_none;
-    named = k.named;
+  stored_used = λ (t : ℕ) (x : Stored) (h : st.stored t ≡ Some x). omega (arith, used_more t, k.stored_used t x h);
+  reply_used = λ (r : Answered) (f : ℕ) (i : IsIn r st.replies) (h : r.etag ≡ Some f). omega (arith, used_more r.site, k.reply_used r f i h);
+  reply_stored = k.reply_stored;
+  reply_none = k.reply_none;
+  named = k.named;
 }
   where
     used_more : (t : ℕ) → st.used t ≤ with_site st.used s e t
     used_more t = elim (cases_eq t s) [
-        inl p ↦ omega (arith, site_same st.used s t e p, ap st.used p, le)
-        | inr ne ↦ omega (arith, site_other st.used s t e ne)
+      | inl p ↦ omega (arith, site_same st.used s t e p, ap st.used p, le)
+      | inr ne ↦ omega (arith, site_other st.used s t e ne)
     ]
 
 -- each deed keeps it

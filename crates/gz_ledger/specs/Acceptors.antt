@@ -1,5 +1,5 @@
 -- An acceptor of every version of one object, and what it shows of a version. (Lamport 2006, "Fast Paxos".)
-use Rattle.std.specs.Prelude.{ℕ, ◌≡◌, ◌<◌, ◌==◌, Bool, true, false, ◌&&◌, not, if◌then◌else◌, Option, Some, None}
+use Rattle.std.specs.Prelude.{ℕ, ◌<◌, ◌==◌, Bool, true, false, ◌&&◌, not, if◌then◌else◌, Some, None}
 use Rattle.gz_core.specs.Names.{Name, BallotAt, fast, is_below, same_ballot, same_name}
 use Rattle.gz_core.specs.Slots.{Slot, Gone, DecidedAs, OpenAt}
 

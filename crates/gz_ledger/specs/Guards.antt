@@ -1,5 +1,5 @@
 -- What a call may send, by the rows that were shown and the writes that were sent.
-use Rattle.std.specs.Prelude.{ℕ, ◌≡◌, ◌≤◌, ◌+◌, suc, false, ◌⊎◌, List, length, Option, Some, None, slice_get}
+use Rattle.std.specs.Prelude.{ℕ, ◌≡◌, ◌≤◌, ◌+◌, suc, false, ◌⊎◌, List, length, Some, slice_get}
 use Rattle.gz_core.specs.Names.{Name, BallotAt, fast, same_ballot}
 use Rattle.gz_core.specs.Slots.{OpenAt, Act, VotesFast, Promises, VotesClassic, Decides, Trims, IsVoteOf}
 use Rattle.gz_core.specs.declared.configuration.Config.{Config}

@@ -15,26 +15,22 @@ pub fn agreement()
     ensures agreed { Agreement }
     ensures latest { LatestIsCurrent }
     ensures above { OwnIsAbove }
-{
-}
+{}
 
 /// Guards over what a call heard imply the guards over all that was shown.
 pub fn may_more()
     ensures { MayMore }
-{
-}
+{}
 
 /// Every run of tagged rows at sites is a run of the machine, and two replies of one site under one tag show one row.
 pub fn store_is_ledger()
     ensures moves { DeedsAreMoves }
     ensures tags { TagsNameRows }
-{
-}
+{}
 
 /// Agreement, said of every run of tagged rows at sites.
 pub fn store_agreement()
     ensures agreed { StoreAgreement }
     ensures latest { LatestRowsAreCurrent }
     ensures above { OwnRowsAreAbove }
-{
-}
+{}

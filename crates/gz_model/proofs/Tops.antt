@@ -84,8 +84,8 @@ top_step h hs (Some k) None e t = top_kept h hs k (λ (v : BallotAt × Name) (f 
 top_step h hs None (Some v) e t = top_first h hs v e t
 top_step h hs (Some k) (Some v) e t =
     elim (cases_Bool (is_below k v.0)) [
-      | inl b ↦ subst (λ (top : Option BallotAt). IsTop (h ∷ hs) top) (sym (cond-true (is_below k v.0) (Some v.0) (Some k) b)) (top_raised h hs k v e b t)
-      | inr b ↦ subst (λ (top : Option BallotAt). IsTop (h ∷ hs) top) (sym (cond-false (is_below k v.0) (Some v.0) (Some k) b)) (top_kept h hs k (λ (w : BallotAt × Name) (f : h.vote ≡ Some w). subst (λ (u : BallotAt × Name). is_below k u.0 ≡ false) (same_vote h v w e f) b) t)
+      | inl b ↦ subst (λ (top : BallotAt). IsTopBallot (h ∷ hs) top) (sym (cond-true (is_below k v.0) v.0 k b)) (top_raised h hs k v e b t)
+      | inr b ↦ subst (λ (top : BallotAt). IsTopBallot (h ∷ hs) top) (sym (cond-false (is_below k v.0) v.0 k b)) (top_kept h hs k (λ (w : BallotAt × Name) (f : h.vote ≡ Some w). subst (λ (u : BallotAt × Name). is_below k u.0 ≡ false) (same_vote h v w e f) b) t)
     ]
 
 -- the highest ballot is what its name says
