@@ -3,6 +3,7 @@ pub mod Grown
 pub mod Guarded
 pub mod Kept
 pub mod More
+pub mod OnePut
 pub mod Orders
 pub mod Rows
 pub mod Shown

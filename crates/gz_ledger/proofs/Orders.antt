@@ -182,7 +182,8 @@ latest cfg late early u v x q a h c =
     (omega (arith, ch.1, need_least cfg.n cfg.qc cfg.qf ch.0 q)) in
     let e : (e : Seen) × IsIn e c.rows × (e.site ≡ m.0) = site_row c.rows m.0 m.2 in
     let f : IsCast l.seen u ch.0 x m.0 = cast_found l.seen u ch.0 x m.0 m.3 in
-    let on : Follows f.entry.row e.0.row = late_follows cfg late early e.0 f.entry q a f.found (c.found e.0 e.1) (f.site ∙ sym e.2) in
+    let together : f.entry.site ≡ e.0.site = cc in
+    let on : Follows f.entry.row e.0.row = late_follows cfg late early e.0 f.entry q a f.found (c.found e.0 e.1) together in
     elim (cases_lt v u) [
       | inl lt ↦ absurd (not_quiet e.0.row u v (late_acceptor cfg late early e.0 q a (c.found e.0 e.1)) (value_after (f.entry.row u) (e.0.row u) ch.0 x f.vote (on u)) (c.quiet e.0 e.1) lt)
       | inr le ↦ le

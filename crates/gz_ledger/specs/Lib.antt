@@ -4,3 +4,4 @@ pub mod Deeds
 pub mod Guards
 pub mod Histories
 pub mod Ledgers
+pub mod Runs

@@ -5,6 +5,7 @@
 
 ghost use Rattle.gz_ledger.specs.Agreements.{Agreement, LatestIsCurrent, OwnIsAbove};
 ghost use Rattle.gz_ledger.specs.Guards.{MayMore};
+ghost use Rattle.gz_ledger.specs.Runs.{OnePutRuns};
 ghost use Rattle.gz_ledger.specs.Deeds.{DeedsAreMoves, TagsNameRows, StoreAgreement, LatestRowsAreCurrent, OwnRowsAreAbove};
 
 /// In every run of the machine: each vote of a classic ballot is safe, one value is shown at a version and at one
@@ -34,3 +35,9 @@ pub fn store_agreement()
     ensures latest { LatestRowsAreCurrent }
     ensures above { OwnRowsAreAbove }
 {}
+
+/// The guards can be met: a put reads three sites and writes its fast vote at each, and its value is shown.
+pub fn one_put_runs()
+    ensures { OnePutRuns }
+{
+}
