@@ -11,7 +11,7 @@ pub fn meet(a: &[SiteId], b: &[SiteId]) -> Option<SiteId>
 {
     let mut least: Option<SiteId> = None;
     for site in a {
-        if is_before(*site, &least) && is_in(b, *site) {
+        if is_lower(*site, &least, b) {
             least = Some(*site);
         }
     }
@@ -26,11 +26,18 @@ pub fn meet3(a: &[SiteId], b: &[SiteId], c: &[SiteId]) -> Option<SiteId>
 {
     let mut least: Option<SiteId> = None;
     for site in a {
-        if is_before(*site, &least) && is_in(b, *site) && is_in(c, *site) {
+        if is_lower(*site, &least, b) && is_in(c, *site) {
             least = Some(*site);
         }
     }
     least
+}
+
+// Whether a site stands before the least one so far, and is in the list.
+fn is_lower(site: SiteId, least: &Option<SiteId>, sites: &[SiteId]) -> bool
+    ensures { result ≡ (is_before_least site least.now && has_site sites.now site) }
+{
+    is_before(site, least) && is_in(sites, site)
 }
 
 // Whether a site stands before the least one so far.

@@ -1,10 +1,10 @@
-use Rattle.std.proofs.Common.{ℕ, ◌≡◌, ◌+◌, ◌<◌, ◌&&◌, ◌∙◌, true, length, take, arith, subst, sym, List}
-use Rattle.std.proofs.lemmas.Bool.{and_from, and_right}
+use Rattle.std.proofs.Common.{ℕ, ◌≡◌, ◌+◌, ◌<◌, ◌&&◌, ◌∙◌, true, length, take, arith, subst, sym, inl, inr, List}
+use Rattle.std.proofs.lemmas.Bool.{and_from, and_right, and_parts, and_cases}
 use Rattle.std.proofs.lemmas.List.{take_all}
-use Rattle.gz_model.specs.Sites.{has_site, IsLeastSite}
+use Rattle.gz_model.specs.Sites.{has_site, IsLeastSite, is_before_least}
 use Rattle.gz_model.proofs.LeastSites.{adds_more, has_site-last, least_taken, least_failed, least_above, least_of_two}
 use Rattle.gz_model.proofs.sites.meet.Goals as goal
-use Rattle.gz_model.proofs.sites.meet.Goals.{then-is_before+then-is_in, else-is_before, else-is_before-via-then-is_before+else-is_in, else-is_before-via-else-is_before}
+use Rattle.gz_model.proofs.sites.meet.Goals.{then-is_lower, else-is_lower}
 
 pub loop-site-preserved : goal.loop-site-preserved
 loop-site-preserved c =
@@ -17,18 +17,17 @@ loop-site-preserved c =
     let r = λ (s : ℕ). has_site (take (i + 1) a) s && has_site b s in
     let adds = adds_more a i x (has_site b) l c.site-item.is in
     let last : has_site (take (i + 1) a) x ≡ true = has_site-last a i x l c.site-item.is in
-    elim c.if-is_before.branch [
-      | then-is_before+then-is_in w ↦
+    let first = is_before_least x c.loop-site.least in
+    elim c.if-is_lower.branch [
+      | then-is_lower w ↦
+          let parts : (first ≡ true) × (has_site b x ≡ true) = and_parts first (has_site b x) (sym c.is_lower.ensures ∙ w.if-is_lower.true) in
+          subst (λ m. IsLeastSite r m) (sym w.least-is) (least_taken p r x c.loop-site.least adds (and_from _ _ last parts.1) parts.0 c.loop-site.invariant)
+      | else-is_lower w ↦
           subst (λ m. IsLeastSite r m) (sym w.least-is)
-          (least_taken p r x c.loop-site.least adds (and_from _ _ last (sym (w.is_in.ensures) ∙ w.if-is_in.true)) (sym c.is_before.ensures ∙ w.if-is_before.true) c.loop-site.invariant)
-      | else-is_before w ↦ elim w.else-is_before.branch [
-        | else-is_before-via-then-is_before+else-is_in w' ↦
-            subst (λ m. IsLeastSite r m) (sym w.least-is)
-            (least_failed p r x c.loop-site.least adds (and_right _ _ (sym (w'.is_in.ensures) ∙ w'.if-is_in.false)) c.loop-site.invariant)
-        | else-is_before-via-else-is_before w' ↦
-            subst (λ m. IsLeastSite r m) (sym w.least-is)
-            (least_above p r x c.loop-site.least adds (sym c.is_before.ensures ∙ w'.if-is_before.false) c.loop-site.invariant)
-      ]
+          (elim (and_cases first (has_site b x) (sym c.is_lower.ensures ∙ w.if-is_lower.false)) [
+            | inl e ↦ least_above p r x c.loop-site.least adds e c.loop-site.invariant
+            | inr e ↦ least_failed p r x c.loop-site.least adds (and_right _ _ e) c.loop-site.invariant
+          ])
     ]
 
 pub returns-clause-quorums : goal.returns-clause-quorums
