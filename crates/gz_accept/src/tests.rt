@@ -1,76 +1,90 @@
 //! The steps of the acceptor on small rows.
-ghost use Rattle.std.specs.Prelude.{◌≡◌, ◌≤◌};
-ghost use Rattle.gz_core.specs.Values.{name_of};
-
 use super::*;
 use gz_core::{Ballot, Column, PutName, Row, Session, Value, Version, Vote};
+use std::alloc::{AllocError, Global};
 use std::test::Fail;
 
-fn tomb(session: u32) -> Value
-    requires { 1 ≤ session }
-    ensures { (name_of result).session ≡ session }
-{
-    Value::Tomb {
-        name: PutName {
-            session: Session(session),
-            seq: 1,
-        },
-    }
+const ONE: PutName = PutName {
+    session: Session(1),
+    seq: 1,
+};
+
+const LOW: Ballot = Ballot {
+    round: 1,
+    session: 1,
+};
+
+const HIGH: Ballot = Ballot {
+    round: 1,
+    session: 2,
+};
+
+fn tomb(name: PutName) -> Value {
+    Value::Tomb { name }
+}
+
+/// Promises of a high ballot twice and of a low one, and then a fast vote, on the empty row.
+fn after_promises(alloc: Global) -> Result<[Step; 4], AllocError> {
+    let mut row = Row::empty(alloc);
+    let first = promise(&mut row, Version(1), HIGH)?;
+    let again = promise(&mut row, Version(1), HIGH)?;
+    let lower = promise(&mut row, Version(1), LOW)?;
+    let vote = fast_vote(&mut row, Version(1), &tomb(ONE))?;
+    Ok([first, again, lower, vote])
+}
+
+/// A collection up to version 1 twice, and fast votes at versions 1 and 2, on the empty row.
+fn after_trims(alloc: Global) -> Result<[Step; 4], AllocError> {
+    let mut row = Row::empty(alloc);
+    let first = trim(&mut row, Version(1), &tomb(ONE))?;
+    let again = trim(&mut row, Version(1), &tomb(ONE))?;
+    let below = fast_vote(&mut row, Version(1), &tomb(ONE))?;
+    let next = fast_vote(&mut row, Version(2), &tomb(ONE))?;
+    Ok([first, again, below, next])
+}
+
+/// A classic vote, and a decision at a lower version.
+fn decided_and_voted(alloc: Global) -> Result<Row, AllocError> {
+    let mut row = Row::empty(alloc);
+    classic_vote(&mut row, Version(3), LOW, &tomb(ONE))?;
+    decide(&mut row, Version(1), &tomb(ONE))?;
+    Ok(row)
 }
 
 #[test]
-fn a_promise_rises(rt: HostRuntime) -> Result<(), Fail> {
-    let mut row = Row::empty(rt.alloc());
-    let v = Version(1);
-    let low = Ballot::classic(1, Session(1));
-    let high = Ballot::classic(1, Session(2));
-    assert_eq!(rt; promise(&mut row, v, high)?, Step::Done);
-    assert_eq!(rt; promise(&mut row, v, high)?, Step::Already);
-    assert_eq!(rt; promise(&mut row, v, low)?, Step::Below { promised: high });
-    assert_eq!(rt;
-        fast_vote(&mut row, v, &tomb(1))?,
-        Step::Below { promised: high }
-    );
+fn answers_on_the_empty_row(rt: HostRuntime) -> Result<(), Fail> {
+    let floor = Version(1);
+    let promised = HIGH;
+    let promises = [
+        Step::Done,
+        Step::Already,
+        Step::Below { promised },
+        Step::Below { promised },
+    ];
+    let trims = [
+        Step::Done,
+        Step::Already,
+        Step::Trimmed { floor },
+        Step::Settled,
+    ];
+    assert_eq!(rt; after_promises(rt.alloc())?, promises);
+    assert_eq!(rt; after_trims(rt.alloc())?, trims);
     Ok(())
 }
 
 #[test]
-fn a_floor_collects(rt: HostRuntime) -> Result<(), Fail> {
-    let mut row = Row::empty(rt.alloc());
-    let x = tomb(1);
-    let to = Version(1);
-    assert_eq!(rt; trim(&mut row, to, &x)?, Step::Done);
-    assert_eq!(rt; trim(&mut row, to, &x)?, Step::Already);
-    assert_eq!(rt;
-        fast_vote(&mut row, Version(1), &x)?,
-        Step::Trimmed { floor: to }
-    );
-    assert_eq!(rt; fast_vote(&mut row, Version(2), &x)?, Step::Settled);
-    assert_eq!(rt; trim(&mut row, to, &tomb(2))?, Step::Already);
-    Ok(())
-}
-
-#[test]
-fn votes_and_decisions_stand(rt: HostRuntime) -> Result<(), Fail> {
-    let mut row = Row::empty(rt.alloc());
-    let ballot = Ballot::classic(2, Session(2));
-    assert_eq!(rt; fast_vote(&mut row, Version(3), &tomb(1))?, Step::Done);
-    assert_eq!(rt;
-        classic_vote(&mut row, Version(3), ballot, &tomb(2))?,
-        Step::Done
-    );
-    assert_eq!(rt; decide(&mut row, Version(1), &tomb(3))?, Step::Done);
-    let voted = Column::Open {
-        promise: ballot,
-        vote: Some(Vote {
-            ballot,
-            value: tomb(2),
-        }),
+fn a_vote_and_a_decision_stand(rt: HostRuntime) -> Result<(), Fail> {
+    let vote = Vote {
+        ballot: LOW,
+        value: tomb(ONE),
     };
-    let settled = Column::Decided { value: tomb(3) };
-    assert_eq!(rt;
-        row.columns(),
-        [(Version(1), settled), (Version(3), voted)].as_slice()
-    );
+    let voted = Column::Open {
+        promise: LOW,
+        vote: Some(vote),
+    };
+    let decided = Column::Decided { value: tomb(ONE) };
+    let columns = [(Version(1), decided), (Version(3), voted)];
+    let row = decided_and_voted(rt.alloc())?;
+    assert_eq!(rt; row.columns(), columns.as_slice());
     Ok(())
 }
