@@ -10,7 +10,7 @@ use Rattle.gz_core.specs.Slots.{Slot, Gone, OpenAt, DecidedAs, Act, VotesFast, P
 use Rattle.gz_core.specs.declared.rows.Column.{Column}
 use Rattle.gz_core.specs.declared.rows.Column.TheVariants.{Open, Decided}
 use Rattle.gz_accept.specs.Laws.{Leads, PromisesRise, VotesRise, DecisionsStay, CollectedStays, IsAtLeast}
-use Rattle.gz_accept.proofs.Ballots.{below_self, below_not, at_least_trans}
+use Rattle.gz_core.proofs.Ballots.{below_never, below_not, not_below_trans}
 use Rattle.gz_accept.proofs.Making.{KeepsRule, column_rule}
 
 -- a vote stays, or one comes that is not below the promise
@@ -30,7 +30,7 @@ Goes (OpenAt promise vote) (OpenAt next has) = (is_below next promise ≡ false)
 stays : (slot : Slot) → Goes slot slot
 stays Gone = tt
 stays (DecidedAs x) = refl
-stays (OpenAt promise vote) = (below_self promise, inl refl)
+stays (OpenAt promise vote) = (below_never promise, inl refl)
 
 -- one slot changes, and the others stay
 one_goes : (r : ℕ → Slot) (u : ℕ) (slot : Slot) → Goes (r u) slot → (v : ℕ) → Goes (r v) (with_slot r u slot v)
@@ -115,8 +115,8 @@ vote_low row v before had rule was =
     ]
 
 vote_goes : (before : BallotAt) (had : BallotAt × Name) (has : Option (BallotAt × Name)) → is_below before had.0 ≡ false → VoteGoes before (Some had) has → IsAtLeast had.0 has
-vote_goes before had has low (inl same) = subst (λ (vote : Option (BallotAt × Name)). IsAtLeast had.0 vote) (sym same) (below_self had.0)
-vote_goes before had has low (inr next) = subst (λ (vote : Option (BallotAt × Name)). IsAtLeast had.0 vote) (sym next.1) (at_least_trans next.0.0 before had.0 next.2 low)
+vote_goes before had has low (inl same) = subst (λ (vote : Option (BallotAt × Name)). IsAtLeast had.0 vote) (sym same) (below_never had.0)
+vote_goes before had has low (inr next) = subst (λ (vote : Option (BallotAt × Name)). IsAtLeast had.0 vote) (sym next.1) (not_below_trans next.0.0 before had.0 next.2 low)
 
 pub votes_rise : VotesRise
 votes_rise act old new lead v before after had has was now =

@@ -14,7 +14,8 @@ use Rattle.gz_core.specs.declared.rows.Column.TheVariants.{Open, Decided}
 use Rattle.gz_accept.specs.declared.answers.Step.{Step}
 use Rattle.gz_accept.specs.declared.answers.Step.TheVariants.{Done, Already, Below, Settled, Trimmed}
 use Rattle.gz_accept.specs.Steps.{answer_at, column_or_blank, is_cast_in, vote_in, fast_column, promise_column, classic_column, decide_column, trim_column, fast_answer, promise_answer, classic_answer, decide_answer, trim_answer, fast_voted, promised, classic_voted, decided, trimmed_to}
-use Rattle.gz_accept.proofs.Ballots.{below_otherwise, not_below_trans, same_refl, is_fast, same_names}
+use Rattle.gz_core.proofs.Ballots.{same_refl, name_means}
+use Rattle.gz_accept.proofs.Ballots.{below_otherwise, low_under, is_fast}
 use Rattle.gz_accept.proofs.Seen.{slots_above, slot_of_blank, slots_with, slots_trimmed}
 
 -- what the column of a version above the floor reads as
@@ -148,7 +149,7 @@ trim_named : (x y : Name) (column : Column) → trim_column x column ≡ Done �
 trim_named x y (Open promise vote) done decided = absurd cc
 trim_named x y (Decided value) done decided =
     elim (cases_Bool (same_name (name_of value) x)) [
-      | inl e ↦ let one : name_of value ≡ y = cc in sym one ∙ same_names (name_of value) x e
+      | inl e ↦ let one : name_of value ≡ y = cc in sym one ∙ name_means (name_of value) x e
       | inr e ↦ let no : Settled ≡ Done = rw e at done in absurd cc
     ]
 
@@ -193,7 +194,7 @@ rule_low promise (Some vote) (Some column) same rule = low_vote promise (Some vo
 
 vote_under : (promise b : BallotAt) (vote : Option Vote) → is_below promise b ≡ true → IsClassic b → IsLow promise vote → IsVoteUnder b vote
 vote_under promise b None below classic low = λ same. let none : b.round ≡ 0 = ap (λ c. c.round) same in let some = classic.0 in absurd (omega arith)
-vote_under promise b (Some vote) below classic low = not_below_trans promise b vote.ballot low below
+vote_under promise b (Some vote) below classic low = low_under vote.ballot promise b low below
 
 -- a vote stays under a promise that rises
 pub promise_rule : (row : RowAt) (v : ℕ) (b : BallotAt) (vote : Option Vote) → IsRow row → IsClassic b → promise_answer row v b ≡ Done → vote ≡ vote_in (column_at row v) → IsVoteUnder b vote

@@ -25,20 +25,24 @@ abbrev pub is_cast_in : BallotAt → Option Vote → Bool
 is_cast_in b None = false
 is_cast_in b (Some vote) = same_ballot vote.ballot b
 
+-- at an open column a promise above the ballot comes first, and then a step that was taken already
+abbrev pub open_answer : BallotAt → BallotAt → Bool → Step
+open_answer promise b taken = if is_below b promise then Below promise else (if taken then Already else Done)
+
 -- the fast ballot takes one vote, where nothing above it is promised
 abbrev pub fast_column : Column → Step
 fast_column (Decided value) = Settled
-fast_column (Open promise vote) = if is_below fast promise then Below promise else (if is_some vote then Already else Done)
+fast_column (Open promise vote) = open_answer promise fast (is_some vote)
 
 -- a promise rises
 abbrev pub promise_column : BallotAt → Column → Step
 promise_column b (Decided value) = Settled
-promise_column b (Open promise vote) = if is_below b promise then Below promise else (if same_ballot promise b then Already else Done)
+promise_column b (Open promise vote) = open_answer promise b (same_ballot promise b)
 
 -- a classic ballot takes one vote, where nothing above it is promised
 abbrev pub classic_column : BallotAt → Column → Step
 classic_column b (Decided value) = Settled
-classic_column b (Open promise vote) = if is_below b promise then Below promise else (if is_cast_in b vote then Already else Done)
+classic_column b (Open promise vote) = open_answer promise b (is_cast_in b vote)
 
 -- a decision is taken once
 abbrev pub decide_column : Column → Step

@@ -1,7 +1,7 @@
 //! What each step of the acceptor answers, without a change to the row and without memory.
 ghost use Rattle.std.specs.Prelude.{◌≡◌, ◌≤◌, ◌<◌, ◌+◌, ◌^◌};
 ghost use Rattle.gz_core.specs.Names.{IsClassic};
-ghost use Rattle.gz_accept.specs.Steps.{fast_answer, promise_answer, classic_answer, decide_answer, trim_answer, fast_column, promise_column, classic_column, decide_column, trim_column, is_cast_in};
+ghost use Rattle.gz_accept.specs.Steps.{fast_answer, promise_answer, classic_answer, decide_answer, trim_answer, fast_column, promise_column, classic_column, decide_column, trim_column, is_cast_in, open_answer};
 
 use gz_core::{Ballot, Column, PutName, Row, Version, Vote};
 
@@ -98,15 +98,7 @@ fn fast_step_at(column: &Column) -> Step
 {
     match column {
         Column::Decided { .. } => Step::Settled,
-        Column::Open { promise, vote } => {
-            if Ballot::fast().is_below(*promise) {
-                Step::Below { promised: *promise }
-            } else if vote.is_some() {
-                Step::Already
-            } else {
-                Step::Done
-            }
-        },
+        Column::Open { promise, vote } => open_step(*promise, Ballot::fast(), vote.is_some()),
     }
 }
 
@@ -115,15 +107,7 @@ fn promise_step_at(column: &Column, b: Ballot) -> Step
 {
     match column {
         Column::Decided { .. } => Step::Settled,
-        Column::Open { promise, .. } => {
-            if b.is_below(*promise) {
-                Step::Below { promised: *promise }
-            } else if *promise == b {
-                Step::Already
-            } else {
-                Step::Done
-            }
-        },
+        Column::Open { promise, .. } => open_step(*promise, b, *promise == b),
     }
 }
 
@@ -132,15 +116,20 @@ fn classic_step_at(column: &Column, b: Ballot) -> Step
 {
     match column {
         Column::Decided { .. } => Step::Settled,
-        Column::Open { promise, vote } => {
-            if b.is_below(*promise) {
-                Step::Below { promised: *promise }
-            } else if is_vote_in(vote, b) {
-                Step::Already
-            } else {
-                Step::Done
-            }
-        },
+        Column::Open { promise, vote } => open_step(*promise, b, is_vote_in(vote, b)),
+    }
+}
+
+/// The answer at an open column: a promise above ballot `b` comes before a step that was taken already.
+fn open_step(promise: Ballot, b: Ballot, taken: bool) -> Step
+    ensures { result ≡ open_answer promise b taken }
+{
+    if b.is_below(promise) {
+        Step::Below { promised: promise }
+    } else if taken {
+        Step::Already
+    } else {
+        Step::Done
     }
 }
 

@@ -35,15 +35,7 @@ passing_sites p (row ∷ rows) =
 pub count_rows : (p : Option RowAt → Bool) (rows : List (Option RowAt)) → count_by p rows ≡ count_sites (length rows) (λ s. p (row_at rows s))
 count_rows p rows = sym (is_count_by (passing p) p refl (λ row others. refl) rows) ∙ passing_sites p rows
 
--- a site that passes
-pub count_found : (n : ℕ) (p : ℕ → Bool) → 1 ≤ count_sites n p → (s : ℕ) × (s < n) × (p s ≡ true)
-count_found zero p some = absurd (omega arith)
-count_found (suc n) p some =
-    elim (cases_Bool (p n)) [
-      | inl e ↦ (n, omega arith, e)
-      | inr e ↦ let found = count_found n p (rw e at some) in let below = found.1 in (found.0, omega arith, found.2)
-    ]
-
+-- a site that passes is counted
 pub count_one : (n : ℕ) (p : ℕ → Bool) (s : ℕ) → s < n → p s ≡ true → 1 ≤ count_sites n p
 count_one zero p s below passed = absurd (omega arith)
 count_one (suc n) p s below passed =

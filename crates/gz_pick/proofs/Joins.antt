@@ -4,6 +4,7 @@ use Rattle.std.specs.Prelude.{drop, suc}
 use Rattle.std.proofs.Math.Seq.{drop-cons}
 use Rattle.std.proofs.lemmas.Bool.{cases_Bool}
 use Rattle.std.proofs.lemmas.Bool.Decides.{nat_tests}
+use Rattle.gz_core.proofs.Ballots.{below_not, same_from_order}
 use Rattle.gz_core.specs.Names.{Name, BallotAt, is_below}
 use Rattle.gz_core.specs.Rows.{RowAt}
 use Rattle.gz_pick.specs.Evidences.{higher, higher_ballot, top_ballot, votes_at, vote_of}
@@ -20,24 +21,12 @@ pub join_none : (top : Option BallotAt) → join top None ≡ top
 join_none None = refl
 join_none (Some top) = refl
 
-same_round : (a b : BallotAt) → is_below a b ≡ false → is_below b a ≡ false → a.round ≡ b.round
-same_round a b under over = grind (arith, nat_tests)
-
-same_session : (a b : BallotAt) → is_below a b ≡ false → is_below b a ≡ false → a.session ≡ b.session
-same_session a b under over = grind (arith, nat_tests)
-
-same_one : (a b : BallotAt) → is_below a b ≡ false → is_below b a ≡ false → a ≡ b
-same_one a b under over = λ i. record { round = same_round a b under over i; session = same_session a b under over i }
-
-below_not : (a b : BallotAt) → is_below a b ≡ true → is_below b a ≡ false
-below_not a b under = grind (arith, nat_tests)
-
 -- the order of two ballots does not tell which is higher
 higher_swap : (a b : BallotAt) → higher_ballot (Some a) b ≡ higher_ballot (Some b) a
 higher_swap a b =
     elim (cases_Bool (is_below a b)) [
       | inl e ↦ rw (e, below_not a b e) refl
-      | inr e ↦ elim (cases_Bool (is_below b a)) [ inl f ↦ rw (e, f) refl | inr f ↦ rw (e, f) (same_one a b e f) ]
+      | inr e ↦ elim (cases_Bool (is_below b a)) [ inl f ↦ rw (e, f) refl | inr f ↦ rw (e, f) (same_from_order a b e f) ]
     ]
 
 -- of three ballots the highest is found in any order
@@ -47,7 +36,7 @@ higher_three r w a =
       | inl e ↦ elim (cases_Bool (is_below a w)) [
         | inl f ↦ rw (e, f, e, below_not a w f) refl
         | inr f ↦ let under : is_below r a ≡ true = grind (arith, nat_tests) in
-            rw (e, f, under) (elim (cases_Bool (is_below w a)) [ inl g ↦ rw g refl | inr g ↦ rw g (same_one w a g f) ])
+            rw (e, f, under) (elim (cases_Bool (is_below w a)) [ inl g ↦ rw g refl | inr g ↦ rw g (same_from_order w a g f) ])
       ]
       | inr e ↦ elim (cases_Bool (is_below a w)) [
         | inl f ↦ let over : is_below r a ≡ false = grind (arith, nat_tests) in rw (e, f, e, over) refl

@@ -1,3 +1,3 @@
-mod Counts
+pub mod Counts
 mod Joins
-mod Shown
+pub mod Shown

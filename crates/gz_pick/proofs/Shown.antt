@@ -3,6 +3,8 @@ use Rattle.std.proofs.Common.{◌≡◌, ℕ, zero, suc, ◌<◌, ◌≤◌, Boo
 use Rattle.std.proofs.lemmas.Bool.{cases_Bool, false≢true}
 use Rattle.std.proofs.lemmas.Bool.Decides.{nat_tests}
 use Rattle.std.specs.List.{position}
+use Rattle.gz_core.proofs.Ballots.{same_refl, same_means, name_refl, name_means}
+use Rattle.gz_core.proofs.Counting.{count_found}
 use Rattle.gz_core.specs.Counts.{count_sites}
 use Rattle.gz_core.specs.Configurations.{need, AreQuorums}
 use Rattle.gz_core.specs.Names.{Name, BallotAt, fast, is_below, same_ballot, same_name}
@@ -12,10 +14,7 @@ use Rattle.gz_core.specs.declared.rows.Column.{Column}
 use Rattle.gz_core.specs.declared.rows.Column.TheVariants.{Open, Decided}
 use Rattle.gz_pick.specs.Looks.{row_decision, row_name, column_vote, column_decision, column_name}
 use Rattle.gz_pick.specs.Evidences.{vote_of, decision_of, is_for, is_named, votes_for, decides, votes_in, is_chosen, has_decided, is_in, shows_in, higher, top_ballot, votes_at, first_in, or_else, evidence_of, row_at, IsEvident, IsEvidence}
-use Rattle.gz_pick.proofs.Counts.{count_rows, count_found, count_one, first_there, first_passes}
-
-same_refl : (b : BallotAt) → same_ballot b b ≡ true
-same_refl b = grind (arith, nat_tests)
+use Rattle.gz_pick.proofs.Counts.{count_rows, count_one, first_there, first_passes}
 
 -- the highest ballot of votes that pass a test that only votes pass
 abbrev Tests : Type 0
@@ -69,27 +68,6 @@ some_there : {A : Type 0} (o : Option A) → is_some o ≡ true → (x : A) × (
 some_there None some = absurd (false≢true some)
 some_there (Some x) some = (x, refl)
 
-same_refl_name : (x : Name) → same_name x x ≡ true
-same_refl_name x = grind (arith, nat_tests)
-
-same_session : (x y : Name) → same_name x y ≡ true → x.session ≡ y.session
-same_session x y same = grind (arith, nat_tests)
-
-same_seq : (x y : Name) → same_name x y ≡ true → x.seq ≡ y.seq
-same_seq x y same = grind (arith, nat_tests)
-
-same_names : (x y : Name) → same_name x y ≡ true → x ≡ y
-same_names x y same = λ i. record { session = same_session x y same i; seq = same_seq x y same i }
-
-same_round : (a b : BallotAt) → same_ballot a b ≡ true → a.round ≡ b.round
-same_round a b same = grind (arith, nat_tests)
-
-same_drawer : (a b : BallotAt) → same_ballot a b ≡ true → a.session ≡ b.session
-same_drawer a b same = grind (arith, nat_tests)
-
-same_ballots : (a b : BallotAt) → same_ballot a b ≡ true → a ≡ b
-same_ballots a b same = λ i. record { round = same_round a b same i; session = same_drawer a b same i }
-
 -- a decision and a vote name the value of their column
 decision_named : (column : Option Column) (x : Name) → column_decision column ≡ Some x → column_name column ≡ Some x
 decision_named None x is = absurd cc
@@ -110,7 +88,7 @@ decided_names : (n qc qf : ℕ) (rows : List (Option RowAt)) (v : ℕ) (row : Op
 decided_names n qc qf rows v None has counted = absurd (false≢true has)
 decided_names n qc qf rows v (Some r) has counted =
     let decision = some_there (row_decision r v) has in
-    (r, decision.0, refl, decision_named (column_in r.columns v) decision.0 decision.1, inr (counted decision.0 (ap (is_named decision.0) decision.1 ∙ same_refl_name decision.0)))
+    (r, decision.0, refl, decision_named (column_in r.columns v) decision.0 decision.1, inr (counted decision.0 (ap (is_named decision.0) decision.1 ∙ name_refl decision.0)))
 
 -- a vote that is chosen has as many sites as its ballot needs
 chosen_counted : (n qc qf : ℕ) (rows : List (Option RowAt)) (v : ℕ) (vote : BallotAt × Name) → length rows ≡ n → is_chosen qc qf rows v (Some vote) ≡ true → need qc qf vote.0 ≤ count_sites n (λ s. votes_for vote.0 vote.1 v (row_at rows s))
@@ -134,7 +112,7 @@ vote_is : (b : BallotAt) (x : Name) (vote : Option (BallotAt × Name)) → is_fo
 vote_is b x None has = absurd (false≢true has)
 vote_is b x (Some vote) has =
     elim (cases_Bool (same_ballot vote.0 b)) [
-      | inl e ↦ let name : same_name vote.1 x ≡ true = rw e at has in (λ i. Some (same_ballots vote.0 b e i, same_names vote.1 x name i))
+      | inl e ↦ let name : same_name vote.1 x ≡ true = rw e at has in (λ i. Some (same_means vote.0 b e i, name_means vote.1 x name i))
       | inr e ↦ absurd (false≢true (rw e at has))
     ]
 

@@ -60,8 +60,11 @@ fn reaches_threshold(config: &Config, heard: &[Heard], vote: &Option<(Ballot, Pu
 {
     match vote {
         None => false,
-        Some((ballot, name)) => heard.len() + config.qf as usize
-            <= config.n as usize + count_heard(heard, *ballot, *name),
+        Some((ballot, name)) => {
+            let needed = heard.len() + config.qf as usize;
+            let given = config.n as usize + count_heard(heard, *ballot, *name);
+            needed <= given
+        },
     }
 }
 

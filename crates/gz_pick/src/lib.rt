@@ -6,6 +6,8 @@ pub mod choices;
 pub mod evidences;
 pub mod heard;
 pub mod looks;
+#[cfg(test)]
+mod tests;
 pub mod tops;
 mod votes;
 
