@@ -1,14 +1,13 @@
 -- A put on three sites.
-use Rattle.std.proofs.Common.{◌≡◌, ℕ, zero, suc, ◌+◌, ◌<◌, ◌≤◌, Bool, true, List, [], ◌∷◌, Option, Some, None, refl, ap, ◌∙◌, sym, subst, inl, inr, ◌⊎◌, arith}
-use Rattle.gz_core.specs.Names.{Name, BallotAt, fast}
-use Rattle.gz_core.specs.Slots.{Slot, Act, VotesFast, Makes}
+use Rattle.std.proofs.Common.{◌≡◌, ℕ, zero, suc, ◌<◌, ◌≤◌, Bool, true, List, [], ◌∷◌, refl, ap, sym, subst, inl, inr, arith}
+use Rattle.gz_core.specs.Names.{Name, fast}
+use Rattle.gz_core.specs.Slots.{Act, VotesFast}
 use Rattle.gz_core.specs.Counts.{count_sites}
 use Rattle.gz_core.proofs.Counting.{count_within}
 use Rattle.gz_ledger.specs.Histories.{IsIn, Seen, Write, cast, IsShown, VotesFor}
 use Rattle.gz_ledger.specs.Guards.{IsClear, MayVoteFast}
-use Rattle.gz_ledger.specs.Deeds.{Answered, Asked, Deed, Reads, Begins, Written, CanBegin, CanWrite, after_deeds, AreDeeds, seen_after, sent_after, writes_of}
+use Rattle.gz_ledger.specs.Deeds.{Reads, Begins, CanBegin, after_deeds, AreDeeds, seen_after}
 use Rattle.gz_ledger.specs.Runs.{three_sites, first_vote, one_put}
-use Rattle.gz_ledger.proofs.SlotTests.{IsVote}
 use Rattle.gz_ledger.proofs.Shown.{cast_from}
 
 -- each write that was sent is a fast vote at version 1
@@ -53,14 +52,17 @@ one_put_runs x =
     let two = more_act x 1 (w 0 ∷ []) one in
     let reads : AreDeeds three_sites (λ s. 0) (Reads 2 ∷ Reads 1 ∷ Reads 0 ∷ []) = (((tt, tt), tt), tt) in
     let zeroth : CanBegin three_sites (after_deeds (λ s. 0) (Reads 2 ∷ Reads 1 ∷ Reads 0 ∷ [])) [] (first_vote x 0) =
-        record { known = λ (e : Seen) (i : IsIn e []). absurd i; shown = inr (inr (inl refl)); makes = (refl, refl); may = first_may x [] none } in
+    record { known = λ (e : Seen) (i : IsIn e []). absurd i; shown = inr (inr (inl refl)); makes = (refl, refl); may = first_may x [] none } in
     let first : CanBegin three_sites (after_deeds (λ s. 0) (Begins [] (first_vote x 0) ∷ Reads 2 ∷ Reads 1 ∷ Reads 0 ∷ [])) [] (first_vote x 1) =
-        record { known = λ (e : Seen) (i : IsIn e []). absurd i; shown = inr (inl refl); makes = (refl, refl); may = first_may x (w 0 ∷ []) one } in
+    record { known = λ (e : Seen) (i : IsIn e []). absurd i; shown = inr (inl refl); makes = (refl, refl); may = first_may x (w 0 ∷ []) one } in
     let second : CanBegin three_sites (after_deeds (λ s. 0) (Begins [] (first_vote x 1) ∷ Begins [] (first_vote x 0) ∷ Reads 2 ∷ Reads 1 ∷ Reads 0 ∷ [])) [] (first_vote x 2) =
-        record { known = λ (e : Seen) (i : IsIn e []). absurd i; shown = inl refl; makes = (refl, refl); may = first_may x (w 1 ∷ w 0 ∷ []) two } in
+    record { known = λ (e : Seen) (i : IsIn e []). absurd i; shown = inl refl; makes = (refl, refl); may = first_may x (w 1 ∷ w 0 ∷ []) two } in
     let began : AreDeeds three_sites (λ s. 0) (Begins [] (first_vote x 2) ∷ Begins [] (first_vote x 1) ∷ Begins [] (first_vote x 0) ∷ Reads 2 ∷ Reads 1 ∷ Reads 0 ∷ []) = (((reads, zeroth), first), second) in
-    let wrote : AreDeeds three_sites (λ s. 0) (one_put x) =
-        (((began, record { asked = inr (inr (inl refl)); stands = refl; new = omega arith }),
-                record { asked = inr (inl refl); stands = refl; new = omega arith }),
-            record { asked = inl refl; stands = refl; new = omega arith }) in
+    let wrote : AreDeeds three_sites (λ s. 0) (one_put x) = (
+      (
+        (began, record { asked = inr (inr (inl refl)); stands = refl; new = omega arith }),
+        record { asked = inr (inl refl); stands = refl; new = omega arith },
+      ),
+      record { asked = inl refl; stands = refl; new = omega arith },
+    ) in
     (wrote, inl (fast, shown_votes x))

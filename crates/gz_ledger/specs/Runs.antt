@@ -1,11 +1,11 @@
 -- Runs that the guards allow.
-use Rattle.std.specs.Prelude.{ℕ, List, [], ◌∷◌, Option, Some, None}
+use Rattle.std.specs.Prelude.{ℕ, List, [], ◌∷◌, Some, None}
 use Rattle.gz_core.specs.Names.{Name, fast}
 use Rattle.gz_core.specs.Slots.{OpenAt, VotesFast, with_slot}
 use Rattle.gz_core.specs.declared.configuration.Config.{Config}
 use Rattle.gz_core.specs.declared.configuration.Order.TheVariants.{Parallel}
 use Rattle.gz_ledger.specs.Acceptors.{new_acceptor}
-use Rattle.gz_ledger.specs.Histories.{Write, IsShown}
+use Rattle.gz_ledger.specs.Histories.{IsShown}
 use Rattle.gz_ledger.specs.Deeds.{Asked, Deed, Reads, Begins, Written, AreDeeds, seen_after}
 
 -- three sites, of which one may be lost
@@ -15,8 +15,8 @@ three_sites = record { n = 3; qc = 2; qf = 3; k = 2; m = 1; f = 0; tries = 8; or
 -- the fast vote of a put for its own value at version 1 of a new object
 abbrev pub first_vote : Name → ℕ → Asked
 first_vote x s = record {
-    expect = None;
-    write = record { call = x; site = s; before = new_acceptor; act = VotesFast 1 x; after = with_slot new_acceptor 1 (OpenAt fast (Some (fast, x))) };
+  expect = None;
+  write = record { call = x; site = s; before = new_acceptor; act = VotesFast 1 x; after = with_slot new_acceptor 1 (OpenAt fast (Some (fast, x))) };
 }
 
 -- a put reads three sites and writes its fast vote at each, the newest deed first

@@ -39,5 +39,4 @@ pub fn store_agreement()
 /// The guards can be met: a put reads three sites and writes its fast vote at each, and its value is shown.
 pub fn one_put_runs()
     ensures { OnePutRuns }
-{
-}
+{}
