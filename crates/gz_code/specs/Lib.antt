@@ -1,0 +1,4 @@
+pub mod CodeWord
+pub mod Interpolation
+pub mod Polynomial
+pub mod Encoding
