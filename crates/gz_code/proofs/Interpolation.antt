@@ -14,7 +14,7 @@ use Rattle.gz_code.specs.Polynomial.{value, IsPolynomial, ArePoints}
 use Rattle.gz_code.proofs.Values.{AreElements, value-lt, product_swap, plus, value-plus, slice_index-plus, length-plus, plus_elements, scale, length-scale, scale_elements, value-scale}
 use Rattle.gz_code.proofs.Roots.{same_from_points}
 
-equal_or_not : (n j : ℕ) → (n ≡ j) ⊎ (n ≢ j)
+pub equal_or_not : (n j : ℕ) → (n ≡ j) ⊎ (n ≢ j)
 equal_or_not n j =
     elim (cases_lt n j) [
       | inl below ↦ inr (λ e. absurd (omega arith))

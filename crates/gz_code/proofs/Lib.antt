@@ -4,3 +4,4 @@ pub mod Interpolation
 pub mod Weights
 pub mod Pushes
 pub mod Pieces
+pub mod Seen

@@ -2,3 +2,4 @@ pub mod CodeWord
 pub mod Interpolation
 pub mod Polynomial
 pub mod Encoding
+pub mod Decoding

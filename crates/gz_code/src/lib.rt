@@ -2,5 +2,10 @@
 //! pieces give it back.
 #![tactic(auto)]
 
+mod decode;
 mod encode;
+mod error;
 mod interpolate;
+
+pub use encode::split;
+pub use error::CodeError;

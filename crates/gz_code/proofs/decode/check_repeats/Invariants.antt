@@ -1,0 +1,7 @@
+use Rattle.std.proofs.Common.{ℕ, ◌<◌, ◌≡◌, length, true, List, slice_index_or}
+use Rattle.gz_code.specs.Decoding.{IsRepeated}
+use Rattle.gz_code.proofs.Seen.{HasSeen}
+use Rattle.gz_code.proofs.decode.check_repeats.Given as goal
+
+abbrev pub invariant-loop-index : goal.invariant-loop-index
+invariant-loop-index l = HasSeen l.pieces l.index-index l.seen
