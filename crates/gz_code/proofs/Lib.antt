@@ -5,3 +5,4 @@ pub mod Weights
 pub mod Pushes
 pub mod Pieces
 pub mod Seen
+pub mod Rebuilding

@@ -1,5 +1,5 @@
 -- What `join` refuses, and what it makes of the pieces that it takes.
-use Rattle.std.specs.Prelude.{◌≡◌, ◌≢◌, ℕ, ◌+◌, ◌*◌, ◌<◌, ◌≤◌, List, [], length, map, slice_index, slice_index_or, Vec}
+use Rattle.std.specs.Prelude.{◌≡◌, ◌≢◌, ◌⊎◌, ℕ, ◌+◌, ◌*◌, ◌<◌, ◌≤◌, ◌++◌, ◌∷◌, List, [], length, map, slice_index, slice_index_or, Vec}
 use Rattle.std.specs.declared.alloc.Global.{Global}
 use Rattle.gz_code.specs.CodeWord.{piece_width, word_at}
 use Rattle.gz_code.specs.Polynomial.{value, IsPolynomial}
@@ -68,3 +68,36 @@ pub record IsDecoded (k len : ℕ) (given : Given) (object : List ℕ) : Type 0 
 -- the first k given pieces are pieces of that list
 abbrev pub AreAmong : ℕ → Given → List (List ℕ) → Type 0
 AreAmong k given pieces = (j : ℕ) → j < k → slice_index_or (bytes_given given) j [] ≡ slice_index_or pieces (index_at given j) []
+
+-- the steps of `join`
+
+-- new has the point at that place: it was there, or it was added at the end
+pub record IsPlaced (old new : List ℕ) (point at : ℕ) : Type 0 where
+  pub within : at < length new
+  pub is_point : slice_index new at ≡ point
+  pub grown : (new ≡ old) ⊎ ((new ≡ old ++ point ∷ []) × ((i : ℕ) → i < length old → slice_index old i ≢ point))
+
+-- where the first n points stand in a list that begins with the given points, and goes on with points that were not given
+pub record IsLocated (given points : List ℕ) (n : ℕ) (order : List ℕ) : Type 0 where
+  pub longer : length given ≤ length points
+  pub kept : (i : ℕ) → i < length given → slice_index points i ≡ slice_index given i
+  pub added : (t i : ℕ) → length given ≤ t → t < length points → i < length given → slice_index points t ≢ slice_index given i
+  pub count : length order ≡ n
+  pub within : (j : ℕ) → j < n → slice_index order j < length points
+  pub is_point : (j : ℕ) → j < n → slice_index points (slice_index order j) ≡ j
+
+-- the pieces in that order, one after another, as far as n of them and len bytes
+pub record IsAssembled (order : List ℕ) (pieces : List (List ℕ)) (width n len : ℕ) (object : List ℕ) : Type 0 where
+  pub long : length object ≡ len
+  pub bytes : (j place : ℕ) → j < n → place < width → j * width + place < len → slice_index object (j * width + place) ≡ word_at pieces place (slice_index order j)
+
+-- the indices of the first n given pieces
+pub record AreIndices (given : Given) (n : ℕ) (points : List ℕ) : Type 0 where
+  pub count : length points ≡ n
+  pub each : (i : ℕ) → i < n → slice_index points i ≡ index_at given i
+
+-- the bytes of the first n given pieces
+pub record AreSlices (given : Given) (n : ℕ) (slices : List (List ℕ)) : Type 0 where
+  pub count : length slices ≡ n
+  pub each : (i : ℕ) → i < n → slice_index_or slices i [] ≡ slice_index_or (bytes_given given) i []
+  pub are_bytes : (i place : ℕ) → i < n → slice_index (slice_index_or slices i []) place < 256

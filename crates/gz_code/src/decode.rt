@@ -1,7 +1,8 @@
 //! Pieces back into their object.
-ghost use Rattle.std.specs.Prelude.{◌≡◌, ◌⊎◌, ℕ, ◌+◌, ◌<◌, ◌≤◌, List, length, IfOk, IfErr, MatchResult};
+ghost use Rattle.std.specs.Prelude.{◌≡◌, ◌≢◌, ◌⊎◌, ℕ, ◌+◌, ◌*◌, ◌^◌, ◌<◌, ◌≤◌, List, length, slice_index, All, IfOk, IfErr, OnOk, ◌++◌, ◌∷◌, [], MatchResult, MatchOption};
+ghost use Rattle.gz_lanes.specs.Combination.{contents};
 ghost use Rattle.gz_code.specs.CodeWord.{IsSplit, piece_width};
-ghost use Rattle.gz_code.specs.Decoding.{Given, index_at, IsFirst, IsBeyond, IsRepeated, IsMisfit, Nowhere, IsRefused, IsDecoded, AreAmong};
+ghost use Rattle.gz_code.specs.Decoding.{Given, index_at, IsFirst, IsBeyond, IsRepeated, IsMisfit, Nowhere, IsRefused, IsDecoded, AreAmong, IsPlaced, IsLocated, IsAssembled, AreIndices, AreSlices};
 
 use crate::error::CodeError;
 use std::alloc::{AllocError, Global};
@@ -62,4 +63,107 @@ fn check(k: usize, m: usize, len: usize, pieces: &[(usize, Vec<u8>)]) -> Result<
         });
     }
     Ok(())
+}
+
+/// The place of a point.
+fn place_of(points: &[u8], point: u8) -> Option<usize>
+    ensures { MatchOption result ((i : ℕ) → i < length points.now → slice_index points.now i ≢ point) (λ i. (i < length points.now) × (slice_index points.now i ≡ point)) }
+{
+    for (i, other) in points.iter().enumerate() {
+        if *other == point {
+            return Some(i);
+        }
+    }
+    None
+}
+
+/// The place of a point, which is added where it is missing.
+fn place_or_add(points: &mut Vec<u8>, point: u8) -> Result<usize, AllocError>
+    ensures { IfOk result (IsPlaced points.old.items points.new.items point) }
+{
+    if let Some(place) = place_of(points, point) {
+        return Ok(place);
+    }
+    let place = points.len();
+    points.push(point)?;
+    Ok(place)
+}
+
+/// The places of the first `count` points; those that are missing are added.
+fn locate(alloc: Global, count: usize, points: &mut Vec<u8>) -> Result<Vec<usize>, AllocError>
+    requires { count ≤ 256 }
+    ensures { IfOk result (λ order. IsLocated points.old.items points.new.items count order.items) }
+{
+    let mut order = Vec::with_capacity(alloc, count)?;
+    for j in 0..count {
+        let place = place_or_add(points, j as u8)?;
+        order.push(place)?;
+    }
+    Ok(order)
+}
+
+/// The indices of the first `count` pieces.
+fn indices_of(
+    alloc: Global,
+    count: usize,
+    pieces: &[(usize, Vec<u8>)],
+) -> Result<Vec<u8>, AllocError>
+    requires enough { count ≤ length pieces.now }
+    requires below { Nowhere (IsBeyond 256 pieces.now) pieces.now }
+    ensures { IfOk result (λ points. AreIndices pieces.now count points.items) }
+{
+    let mut points = Vec::with_capacity(alloc, count)?;
+    for i in 0..count {
+        let (index, _) = &pieces[i];
+        points.push(*index as u8)?;
+    }
+    Ok(points)
+}
+
+/// Adds a slice at the end.
+fn push_slice<'a>(slices: &mut Vec<&'a [u8]>, slice: &'a [u8]) -> Result<(), AllocError>
+    ensures added { OnOk result (contents slices.new.items ≡ contents slices.old.items ++ slice.now ∷ []) }
+    ensures are_bytes { (place : ℕ) → slice_index slice.now place < 256 }
+{
+    slices.push(slice)?;
+    Ok(())
+}
+
+/// The bytes of the first `count` pieces.
+fn slices_given<'a>(
+    alloc: Global,
+    count: usize,
+    pieces: &'a [(usize, Vec<u8>)],
+) -> Result<Vec<&'a [u8]>, AllocError>
+    requires { count ≤ length pieces.now }
+    ensures { IfOk result (λ slices. AreSlices pieces.now count (contents slices.items)) }
+{
+    let mut slices = Vec::with_capacity(alloc, count)?;
+    for i in 0..count {
+        let (_, piece) = &pieces[i];
+        push_slice(&mut slices, piece.as_slice())?;
+    }
+    Ok(slices)
+}
+
+/// The first bytes, as many as `len`, of the pieces in their order.
+fn assemble(
+    alloc: Global,
+    order: &[usize],
+    pieces: &[&[u8]],
+    width: usize,
+    len: usize,
+) -> Result<Vec<u8>, AllocError>
+    requires enough { len ≤ length order.now * width }
+    requires fits { length order.now * width < 2 ^ 64 }
+    requires ordered { (j : ℕ) → j < length order.now → slice_index order.now j < length pieces.now }
+    requires widths { All (λ piece. length piece ≡ width) (contents pieces.now) }
+    ensures { IfOk result (λ object. IsAssembled order.now (contents pieces.now) width (length order.now) len object.items) }
+{
+    let mut object = Vec::with_capacity(alloc, order.len() * width)?;
+    for j in 0..order.len() {
+        object.extend_from_slice(pieces[order[j]])?;
+    }
+    object.truncate(len);
+    Ok(object)
 }
