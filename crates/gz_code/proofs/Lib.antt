@@ -6,3 +6,5 @@ pub mod Pushes
 pub mod Pieces
 pub mod Seen
 pub mod Rebuilding
+pub mod Decoded
+pub mod Refusals

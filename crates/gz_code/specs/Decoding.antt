@@ -1,5 +1,5 @@
 -- What `join` refuses, and what it makes of the pieces that it takes.
-use Rattle.std.specs.Prelude.{◌≡◌, ◌≢◌, ◌⊎◌, ℕ, ◌+◌, ◌*◌, ◌<◌, ◌≤◌, ◌++◌, ◌∷◌, List, [], length, map, slice_index, slice_index_or, Vec}
+use Rattle.std.specs.Prelude.{◌≡◌, ◌≢◌, ◌⊎◌, ℕ, ◌+◌, ◌*◌, ◌<◌, ◌≤◌, ◌++◌, ◌∷◌, List, [], length, map, slice_index, slice_index_or, Vec, min}
 use Rattle.std.specs.declared.alloc.Global.{Global}
 use Rattle.gz_code.specs.CodeWord.{piece_width, word_at}
 use Rattle.gz_code.specs.Polynomial.{value, IsPolynomial}
@@ -88,7 +88,7 @@ pub record IsLocated (given points : List ℕ) (n : ℕ) (order : List ℕ) : Ty
 
 -- the pieces in that order, one after another, as far as n of them and len bytes
 pub record IsAssembled (order : List ℕ) (pieces : List (List ℕ)) (width n len : ℕ) (object : List ℕ) : Type 0 where
-  pub long : length object ≡ len
+  pub long : length object ≡ min (n * width) len
   pub bytes : (j place : ℕ) → j < n → place < width → j * width + place < len → slice_index object (j * width + place) ≡ word_at pieces place (slice_index order j)
 
 -- the indices of the first n given pieces
@@ -101,3 +101,9 @@ pub record AreSlices (given : Given) (n : ℕ) (slices : List (List ℕ)) : Type
   pub count : length slices ≡ n
   pub each : (i : ℕ) → i < n → slice_index_or slices i [] ≡ slice_index_or (bytes_given given) i []
   pub are_bytes : (i place : ℕ) → i < n → slice_index (slice_index_or slices i []) place < 256
+
+-- the bytes of the first n given pieces, and then those of the recovered ones
+pub record AreAtHand (given : Given) (n : ℕ) (recovered slices : List (List ℕ)) : Type 0 where
+  pub front : List (List ℕ)
+  pub are_given : AreSlices given n front
+  pub joined : slices ≡ front ++ recovered

@@ -3,3 +3,4 @@ pub mod Interpolation
 pub mod Polynomial
 pub mod Encoding
 pub mod Decoding
+pub mod Laws

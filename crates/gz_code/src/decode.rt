@@ -1,10 +1,12 @@
 //! Pieces back into their object.
-ghost use Rattle.std.specs.Prelude.{◌≡◌, ◌≢◌, ◌⊎◌, ℕ, ◌+◌, ◌*◌, ◌^◌, ◌<◌, ◌≤◌, List, length, slice_index, All, IfOk, IfErr, OnOk, ◌++◌, ◌∷◌, [], MatchResult, MatchOption};
+ghost use Rattle.std.specs.Prelude.{◌≡◌, ◌≢◌, ◌⊎◌, ℕ, ◌+◌, ◌*◌, ◌^◌, ◌<◌, ◌≤◌, List, length, map, slice_index, All, IfOk, IfErr, OnOk, ◌++◌, ◌∷◌, [], MatchResult, MatchOption};
 ghost use Rattle.gz_lanes.specs.Combination.{contents};
 ghost use Rattle.gz_code.specs.CodeWord.{IsSplit, piece_width};
-ghost use Rattle.gz_code.specs.Decoding.{Given, index_at, IsFirst, IsBeyond, IsRepeated, IsMisfit, Nowhere, IsRefused, IsDecoded, AreAmong, IsPlaced, IsLocated, IsAssembled, AreIndices, AreSlices};
+ghost use Rattle.gz_code.specs.Decoding.{Given, index_at, IsFirst, IsBeyond, IsRepeated, IsMisfit, Nowhere, IsRefused, IsDecoded, AreAmong, IsPlaced, IsLocated, IsAssembled, AreIndices, AreSlices, AreAtHand};
 
+use crate::encode::slices_of;
 use crate::error::CodeError;
+use crate::interpolate::pieces_at;
 use std::alloc::{AllocError, Global};
 
 /// Whether each index is below the number of pieces.
@@ -154,16 +156,81 @@ fn assemble(
     width: usize,
     len: usize,
 ) -> Result<Vec<u8>, AllocError>
-    requires enough { len ≤ length order.now * width }
-    requires fits { length order.now * width < 2 ^ 64 }
     requires ordered { (j : ℕ) → j < length order.now → slice_index order.now j < length pieces.now }
     requires widths { All (λ piece. length piece ≡ width) (contents pieces.now) }
     ensures { IfOk result (λ object. IsAssembled order.now (contents pieces.now) width (length order.now) len object.items) }
 {
-    let mut object = Vec::with_capacity(alloc, order.len() * width)?;
+    let mut object = Vec::with_capacity(alloc, len)?;
     for j in 0..order.len() {
-        object.extend_from_slice(pieces[order[j]])?;
+        let piece = pieces[order[j]];
+        let count = width.min(len - object.len());
+        object.extend_from_slice(&piece[..count])?;
     }
-    object.truncate(len);
+    Ok(object)
+}
+
+/// The bytes of the first `count` pieces, and of the recovered ones.
+fn slices_at_hand<'a>(
+    alloc: Global,
+    count: usize,
+    pieces: &'a [(usize, Vec<u8>)],
+    recovered: &'a [Vec<u8>],
+) -> Result<Vec<&'a [u8]>, AllocError>
+    requires { count ≤ length pieces.now }
+    ensures { IfOk result (λ slices. AreAtHand pieces.now count (map (λ piece. piece.items) recovered.now) (contents slices.items)) }
+{
+    let mut slices = slices_given(alloc, count, pieces)?;
+    let mut others = slices_of(alloc, recovered)?;
+    slices.append(&mut others)?;
+    Ok(slices)
+}
+
+/// The object of `len` bytes from the first k pieces, which all have the width.
+fn rebuild(
+    alloc: Global,
+    k: usize,
+    len: usize,
+    width: usize,
+    pieces: &[(usize, Vec<u8>)],
+) -> Result<Vec<u8>, AllocError>
+    requires at_least_one { 1 ≤ k }
+    requires within_field { k ≤ 256 }
+    requires enough { k ≤ length pieces.now }
+    requires width_is { width ≡ piece_width k len }
+    requires below { Nowhere (IsBeyond 256 pieces.now) pieces.now }
+    requires distinct { Nowhere (IsRepeated pieces.now) pieces.now }
+    requires fitting { Nowhere (IsMisfit width pieces.now) pieces.now }
+    ensures { IfOk result (λ object. IsDecoded k len pieces.now object.items) }
+{
+    let mut points = indices_of(alloc, k, pieces)?;
+    let order = locate(alloc, k, &mut points)?;
+    let (given, lost) = points.split_at(k);
+    let sources = slices_given(alloc, k, pieces)?;
+    let recovered = pieces_at(alloc, given, &sources, width, lost)?;
+    let at_hand = slices_at_hand(alloc, k, pieces, &recovered)?;
+    assemble(alloc, &order, &at_hand, width, len)
+}
+
+/// The object of `len` bytes from any k of its k + m pieces, each with its index. Only the first k are used; the others are
+/// looked at for faults alone.
+pub fn join(
+    alloc: Global,
+    k: usize,
+    m: usize,
+    len: usize,
+    pieces: &[(usize, Vec<u8>)],
+) -> Result<Vec<u8>, CodeError>
+    requires at_least_one { 1 ≤ k }
+    requires within_field { k + m ≤ 256 }
+
+    // The first fault is refused, and nothing else is; want of memory alone needs no fault.
+    ensures refused { (e : CodeError) → IsRefused k m len pieces.now e → result ≡ Err e }
+    ensures cause { IfErr result (λ e. (e ≡ CodeError.NoMemory) ⊎ IsRefused k m len pieces.now e) }
+
+    ensures decoded { IfOk result (λ object. IsDecoded k len pieces.now object.items) }
+    ensures gives_back { (object : List ℕ) (all : List (List ℕ)) → IsSplit k m object all → length object ≡ len → AreAmong k pieces.now all → IfOk result (λ bytes. bytes.items ≡ object) }
+{
+    check(k, m, len, pieces)?;
+    let object = rebuild(alloc, k, len, len.div_ceil(k), pieces)?;
     Ok(object)
 }

@@ -53,7 +53,10 @@ fn points_from(alloc: Global, first: usize, count: usize) -> Result<Vec<u8>, All
 }
 
 /// The bytes of each piece.
-fn slices_of<'a>(alloc: Global, pieces: &'a [Vec<u8>]) -> Result<Vec<&'a [u8]>, AllocError>
+pub(crate) fn slices_of<'a>(
+    alloc: Global,
+    pieces: &'a [Vec<u8>],
+) -> Result<Vec<&'a [u8]>, AllocError>
     ensures { IfOk result (λ slices. contents slices.items ≡ map (λ piece. piece.items) pieces.now) }
 {
     let mut slices = Vec::with_capacity(alloc, pieces.len())?;

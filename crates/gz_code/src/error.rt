@@ -1,4 +1,5 @@
 //! Why pieces are refused.
+use std::alloc::AllocError;
 use thiserror::Error;
 
 /// The first fault of the pieces that were given to `join`, in the order of the variants. An `index` is that of the piece.
@@ -18,4 +19,15 @@ pub enum CodeError {
     TooFew { have: usize, need: usize },
     #[error("out of memory")]
     NoMemory,
+}
+
+impl From<AllocError> for CodeError {
+    ghost use Rattle.std.specs.Prelude.{◌≡◌};
+    ghost use Rattle.gz_code.specs.declared.error.CodeError.TheVariants.{NoMemory};
+
+    ghost from_gives = { λ _ e. e ≡ NoMemory };
+
+    fn from(_error: AllocError) -> CodeError {
+        CodeError::NoMemory
+    }
 }
