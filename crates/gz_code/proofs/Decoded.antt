@@ -1,5 +1,5 @@
 -- What `join` makes of the first k given pieces.
-use Rattle.std.proofs.Common.{◌≡◌, ◌≢◌, ℕ, zero, suc, ◌+◌, ◌-◌, ◌*◌, ◌/◌, ◌%◌, ◌<◌, ◌≤◌, ◌++◌, List, [], length, get_or, take, drop, slice_index, slice_index_or, sym, ◌∙◌, ap, subst, arith, inl, inr, Vec, length-append, length-drop, get_or-take, get_or-drop, min}
+use Rattle.std.proofs.Common.{◌≡◌, ℕ, zero, suc, ◌+◌, ◌-◌, ◌*◌, ◌/◌, ◌%◌, ◌<◌, ◌≤◌, List, [], length, get_or, take, drop, slice_index, slice_index_or, sym, ◌∙◌, ap, subst, arith, inl, inr, length-append, length-drop, get_or-take, get_or-drop, min}
 use Rattle.std.specs.Prelude.{All}
 use Rattle.std.proofs.Math.Nat.{mul_comm}
 use Rattle.std.proofs.lemmas.Nat.{div_below, mod_below}
@@ -7,8 +7,8 @@ use Rattle.std.proofs.lemmas.Grind.{same_number_lists}
 use Rattle.std.proofs.lemmas.Bool.{cases_lt}
 use Rattle.std.proofs.lemmas.List.{get_or_append_left, get_or-append_right, get_or_default, length-take-le}
 use Rattle.gz_code.specs.CodeWord.{word_at, piece_width, IsSplit}
-use Rattle.gz_code.specs.Decoding.{Given, index_at, bytes_given, IsBeyond, IsRepeated, IsMisfit, Nowhere, AreIndices, AreSlices, AreAtHand, IsLocated, IsAssembled, IsDecoded, IsDecodedAt, AreAmong}
-use Rattle.gz_code.specs.Interpolation.{AreAllValues, AreValues}
+use Rattle.gz_code.specs.Decoding.{Given, index_at, bytes_given, IsBeyond, IsRepeated, IsMisfit, Nowhere, AreIndices, AreSlices, AreAtHand, IsLocated, IsAssembled, IsDecoded, AreAmong}
+use Rattle.gz_code.specs.Interpolation.{AreAllValues}
 use Rattle.gz_code.specs.Polynomial.{value, IsPolynomial, ArePoints}
 use Rattle.gz_code.proofs.Interpolation.{equal_or_not, through, through_is_polynomial, through_passes}
 use Rattle.gz_code.proofs.Roots.{same_from_points}

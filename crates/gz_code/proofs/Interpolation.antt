@@ -1,17 +1,17 @@
 -- The polynomial through k values at k points, and its value at any other point as a sum of products.
-use Rattle.std.proofs.Common.{◌≡◌, ◌≢◌, ℕ, zero, suc, ◌<◌, ◌≤◌, List, [], ◌∷◌, length, slice_index, get_or, replicate, bit_xor, Bool, true, false, cond, eqb, refl, sym, ◌∙◌, ap, subst, arith, inl, inr, ◌⊎◌}
+use Rattle.std.proofs.Common.{◌≡◌, ◌≢◌, ℕ, zero, suc, ◌<◌, ◌≤◌, List, [], ◌∷◌, length, slice_index, replicate, bit_xor, true, false, cond, eqb, refl, sym, ◌∙◌, ap, subst, arith, inl, inr, ◌⊎◌}
 use Rattle.std.specs.Int.Bits.{xor_assoc, xor_self, xor_zero_l, xor_zero_r}
 use Rattle.std.proofs.lemmas.Nat.{xor_comm, xor_lt}
 use Rattle.std.proofs.lemmas.List.{length-replicate}
 use Rattle.std.proofs.lemmas.Bool.{cases_lt, eq-eqb, ne_eqb}
 use Rattle.gz_field.specs.Field.{product}
-use Rattle.gz_field.proofs.Additive.{xor_swap, xor_both}
+use Rattle.gz_field.proofs.Additive.{xor_both}
 use Rattle.gz_field.proofs.Algebra.{product-sum, product-sum_l, product-zero, product-zero_l, product-one, product-lt, product-comm, product-assoc}
-use Rattle.gz_field.proofs.Inverse.{inverse, inverse-lt, inverse_unique, product-inverse, factor_is_zero, sum_of_distinct, same_from_sum}
+use Rattle.gz_field.proofs.Inverse.{inverse, inverse-lt, product-inverse, factor_is_zero, sum_of_distinct}
 use Rattle.gz_lanes.specs.Combination.{combination}
 use Rattle.gz_code.specs.Interpolation.{apart}
 use Rattle.gz_code.specs.Polynomial.{value, IsPolynomial, ArePoints}
-use Rattle.gz_code.proofs.Values.{AreElements, value-lt, product_swap, plus, value-plus, slice_index-plus, length-plus, plus_elements, scale, length-scale, scale_elements, value-scale}
+use Rattle.gz_code.proofs.Values.{AreElements, value-lt, product_swap, plus, value-plus, length-plus, plus_elements, scale, length-scale, scale_elements, value-scale}
 use Rattle.gz_code.proofs.Roots.{same_from_points}
 
 pub equal_or_not : (n j : ℕ) → (n ≡ j) ⊎ (n ≢ j)

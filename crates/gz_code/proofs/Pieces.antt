@@ -6,7 +6,6 @@ use Rattle.std.specs.declared.alloc.Global.{Global}
 use Rattle.std.specs.Prelude.{All}
 use Rattle.gz_code.specs.CodeWord.{IsCodeWord, IsSplit, word_at, piece_width}
 use Rattle.gz_code.specs.Encoding.{AreDataPieces, AreParity}
-use Rattle.gz_code.specs.Interpolation.{rows}
 use Rattle.gz_code.specs.Polynomial.{value, IsPolynomial, ArePoints}
 use Rattle.gz_code.proofs.Interpolation.{through, through_is_polynomial, through_passes}
 

@@ -1,5 +1,5 @@
 -- The steps of `join`.
-use Rattle.std.proofs.Common.{◌≡◌, ◌≢◌, ℕ, ◌+◌, ◌-◌, ◌*◌, ◌<◌, ◌≤◌, ◌++◌, ◌∷◌, List, [], length, get_or, slice_index, slice_index_or, sym, ◌∙◌, ap, subst, arith, inl, inr, Vec, length-append, min, take, get_or-take}
+use Rattle.std.proofs.Common.{◌≡◌, ℕ, ◌+◌, ◌-◌, ◌*◌, ◌<◌, ◌≤◌, ◌++◌, ◌∷◌, List, [], length, get_or, slice_index, slice_index_or, sym, ◌∙◌, ap, subst, arith, inl, inr, Vec, length-append, min, take, get_or-take}
 use Rattle.std.proofs.Math.Nat.{mul-le-mul_left, mul_comm}
 use Rattle.std.specs.declared.alloc.Global.{Global}
 use Rattle.std.proofs.lemmas.Bool.{cases_lt}

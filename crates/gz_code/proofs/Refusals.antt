@@ -1,5 +1,5 @@
 -- At most one thing is refused.
-use Rattle.std.proofs.Common.{◌≡◌, ℕ, ◌+◌, ◌<◌, ◌≤◌, length, sym, ◌∙◌, ap, arith, inl, inr}
+use Rattle.std.proofs.Common.{◌≡◌, ℕ, ◌+◌, ◌≤◌, length, sym, ◌∙◌, ap, arith, inl, inr}
 use Rattle.std.proofs.lemmas.Bool.{cases_lt}
 use Rattle.gz_code.specs.CodeWord.{piece_width}
 use Rattle.gz_code.specs.Decoding.{Given, index_at, IsFirst, IsBeyond, IsRepeated, IsMisfit, Nowhere, IsRefused}

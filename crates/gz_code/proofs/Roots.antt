@@ -1,12 +1,12 @@
 -- A polynomial of n coefficients with n zeros is 0.
-use Rattle.std.proofs.Common.{◌≡◌, ◌≢◌, ℕ, zero, suc, ◌<◌, ◌≤◌, List, [], ◌∷◌, length, slice_index, get_or, bit_xor, refl, sym, ◌∙◌, ap, arith, inl, inr}
+use Rattle.std.proofs.Common.{◌≡◌, ◌≢◌, ℕ, zero, suc, ◌<◌, List, [], ◌∷◌, length, slice_index, bit_xor, refl, sym, ◌∙◌, ap, arith, inl, inr}
 use Rattle.std.specs.Int.Bits.{xor_assoc, xor_self, xor_zero_l, xor_zero_r}
 use Rattle.std.proofs.lemmas.Nat.{xor_comm, xor_lt}
 use Rattle.std.proofs.lemmas.Grind.{same_number_lists}
 use Rattle.std.proofs.lemmas.Bool.{cases_lt}
 use Rattle.gz_field.specs.Field.{product}
-use Rattle.gz_field.proofs.Additive.{xor_swap, xor_both}
-use Rattle.gz_field.proofs.Algebra.{product-sum, product-sum_l, product-zero, product-lt, product-comm, product-assoc}
+use Rattle.gz_field.proofs.Additive.{xor_swap}
+use Rattle.gz_field.proofs.Algebra.{product-sum, product-sum_l, product-zero}
 use Rattle.gz_field.proofs.Inverse.{factor_is_zero, sum_of_distinct, same_from_sum}
 use Rattle.gz_code.specs.Polynomial.{value, IsPolynomial, ArePoints}
 use Rattle.gz_code.proofs.Values.{AreElements, value-lt, product_swap, plus, value-plus, slice_index-plus, length-plus, plus_elements}

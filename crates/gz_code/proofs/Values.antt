@@ -1,10 +1,10 @@
 -- The value of a polynomial is additive and homogeneous in its coefficients.
-use Rattle.std.proofs.Common.{◌≡◌, ℕ, zero, suc, ◌<◌, List, [], ◌∷◌, length, slice_index, get_or, bit_xor, refl, sym, ◌∙◌, ap, arith}
-use Rattle.std.specs.Int.Bits.{xor_assoc, xor_self, xor_zero_l, xor_zero_r}
-use Rattle.std.proofs.lemmas.Nat.{xor_comm, xor_lt}
+use Rattle.std.proofs.Common.{◌≡◌, ℕ, zero, suc, ◌<◌, List, [], ◌∷◌, length, slice_index, bit_xor, refl, sym, ◌∙◌, ap, arith}
+use Rattle.std.specs.Int.Bits.{xor_zero_l, xor_zero_r}
+use Rattle.std.proofs.lemmas.Nat.{xor_lt}
 use Rattle.gz_field.specs.Field.{product}
-use Rattle.gz_field.proofs.Additive.{xor_swap, xor_both}
-use Rattle.gz_field.proofs.Algebra.{product-sum, product-sum_l, product-zero, product-lt, product-comm, product-assoc}
+use Rattle.gz_field.proofs.Additive.{xor_swap}
+use Rattle.gz_field.proofs.Algebra.{product-sum, product-zero, product-lt, product-comm, product-assoc}
 use Rattle.gz_code.specs.Polynomial.{value}
 
 abbrev pub AreElements : List ℕ → Type 0

@@ -1,15 +1,15 @@
 -- The weights as the code computes them.
-use Rattle.std.proofs.Common.{◌≡◌, ◌≢◌, ℕ, zero, suc, ◌<◌, ◌≤◌, List, length, slice_index, bit_xor, refl, sym, ◌∙◌, ap, subst, arith, inl, inr}
+use Rattle.std.proofs.Common.{◌≡◌, ℕ, zero, suc, ◌<◌, ◌≤◌, List, length, slice_index, bit_xor, refl, sym, ◌∙◌, ap, arith, inl, inr}
 use Rattle.std.proofs.lemmas.Nat.{xor_lt}
 use Rattle.std.proofs.lemmas.Bool.{cases_lt, eq-eqb, ne_eqb}
 use Rattle.gz_field.specs.Field.{product}
 use Rattle.gz_field.proofs.Additive.{xor_both}
 use Rattle.gz_field.proofs.Algebra.{product-comm, product-assoc, product-one}
-use Rattle.gz_field.proofs.Inverse.{inverse, inverse_unique}
+use Rattle.gz_field.proofs.Inverse.{inverse_unique}
 use Rattle.gz_lanes.specs.Combination.{combination, column, IsCombined}
 use Rattle.gz_code.specs.Interpolation.{apart, AreWeights, AreValues}
-use Rattle.gz_code.specs.Polynomial.{value, IsPolynomial, ArePoints}
-use Rattle.gz_code.proofs.Interpolation.{weight, base, apart-lt, span-lt, span_nonzero, base-lt, value_from_points}
+use Rattle.gz_code.specs.Polynomial.{ArePoints}
+use Rattle.gz_code.proofs.Interpolation.{weight, base, apart-lt, span-lt, span_nonzero, value_from_points}
 
 -- with nothing left out so far, it does not matter which place is to be left out
 none_left_out : (x : ℕ → ℕ) (i j n y : ℕ) → n ≤ i → n ≤ j → apart x i n y ≡ apart x j n y

@@ -1,5 +1,5 @@
 -- Polynomials over the field, each by its coefficients, that of 1 first.
-use Rattle.std.specs.Prelude.{◌≡◌, ◌≢◌, ℕ, ◌<◌, ◌≤◌, List, [], ◌∷◌, length, slice_index, bit_xor}
+use Rattle.std.specs.Prelude.{◌≡◌, ◌≢◌, ℕ, ◌<◌, List, [], ◌∷◌, length, slice_index, bit_xor}
 use Rattle.gz_field.specs.Field.{product}
 
 -- the value at x

@@ -1,4 +1,4 @@
-use Rattle.std.proofs.Common.{arith, length, slice_index, ◌≡◌, List, ℕ, sym, ◌∙◌}
+use Rattle.std.proofs.Common.{arith, length, slice_index, ◌≡◌, sym}
 use Rattle.std.proofs.lemmas.List.{length-take-le}
 use Rattle.gz_lanes.specs.Combination.{contents}
 use Rattle.gz_lanes.proofs.Columns.{contents_at, source_holds}

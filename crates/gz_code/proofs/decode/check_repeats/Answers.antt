@@ -1,5 +1,4 @@
-use Rattle.std.proofs.Common.{arith, sym, ◌∙◌, ap, subst, ◌<◌, ◌≡◌, get_or, false}
-use Rattle.gz_code.specs.Decoding.{index_at}
+use Rattle.std.proofs.Common.{arith, ◌<◌}
 use Rattle.gz_code.proofs.Seen.{index_of_item, index_below, seen_none, seen_more}
 use Rattle.gz_code.proofs.decode.check_repeats.Goals as goal
 

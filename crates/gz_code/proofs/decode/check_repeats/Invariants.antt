@@ -1,5 +1,3 @@
-use Rattle.std.proofs.Common.{ℕ, ◌<◌, ◌≡◌, length, true, List, slice_index_or}
-use Rattle.gz_code.specs.Decoding.{IsRepeated}
 use Rattle.gz_code.proofs.Seen.{HasSeen}
 use Rattle.gz_code.proofs.decode.check_repeats.Given as goal
 

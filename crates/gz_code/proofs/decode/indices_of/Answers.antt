@@ -1,4 +1,4 @@
-use Rattle.std.proofs.Common.{arith, ◌<◌, length, ◌^◌}
+use Rattle.std.proofs.Common.{arith, ◌<◌, length}
 use Rattle.gz_code.proofs.Seen.{index_of_item, index_below}
 use Rattle.gz_code.proofs.Rebuilding.{indices_more}
 use Rattle.gz_code.proofs.decode.indices_of.Goals as goal

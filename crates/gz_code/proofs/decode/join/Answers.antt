@@ -1,4 +1,4 @@
-use Rattle.std.proofs.Common.{◌∙◌, sym, ap, Err, arith}
+use Rattle.std.proofs.Common.{◌∙◌, ap, Err}
 use Rattle.std.proofs.lemmas.Result.{err_from_is_err_and}
 use Rattle.gz_code.proofs.Decoded.{gives_back}
 use Rattle.gz_code.proofs.Refusals.{refusal_unique, nothing_refused}

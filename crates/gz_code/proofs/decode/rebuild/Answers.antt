@@ -1,4 +1,4 @@
-use Rattle.std.proofs.Common.{ℕ, List, Vec, ◌≡◌, ◌∙◌, sym, ap, arith, length, take, drop, ◌<◌, ◌≤◌, subst, slice_index}
+use Rattle.std.proofs.Common.{ℕ, List, Vec, ◌≡◌, ◌∙◌, sym, ap, arith, length, take, drop, subst, slice_index}
 use Rattle.std.specs.Borrow.{Bor}
 use Rattle.std.specs.declared.alloc.Global.{Global}
 use Rattle.std.proofs.lemmas.Result.{IfOk-weaker}

@@ -1,4 +1,3 @@
-use Rattle.std.proofs.Common.{ℕ, arith}
 use Rattle.gz_code.proofs.Pieces.{data_wide, split_from}
 use Rattle.gz_code.proofs.encode.split.Goals as goal
 

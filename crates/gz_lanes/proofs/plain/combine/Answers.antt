@@ -1,7 +1,6 @@
-use Rattle.std.proofs.Common.{arith, ◌≡◌, ℕ, ◌<◌, length, slice_index, get_or, bit_xor, sym, ◌∙◌, ap, add-one}
+use Rattle.std.proofs.Common.{arith, ◌≡◌, ◌<◌, length, get_or, sym, ◌∙◌, ap}
 use Rattle.std.proofs.lemmas.List.{get_or-replicate}
-use Rattle.gz_field.specs.Field.{product}
-use Rattle.gz_lanes.specs.Combination.{combination, column, contents}
+use Rattle.gz_lanes.specs.Combination.{combination}
 use Rattle.gz_lanes.proofs.Columns.{source_holds, combination_more}
 use Rattle.gz_lanes.proofs.plain.combine.Goals as goal
 
