@@ -1,0 +1,10 @@
+pub mod Calls
+pub mod Causes
+pub mod Configurations
+pub mod Counts
+pub mod Keys
+pub mod Names
+pub mod Puts
+pub mod Rows
+pub mod Slots
+pub mod Values

@@ -1,0 +1,81 @@
+//! The calls that a session makes, and their answers.
+ghost use Rattle.std.specs.Prelude.{◌≡◌};
+ghost use Rattle.gz_core.specs.Calls.{key_of};
+
+use crate::keys::Key;
+use crate::lists::Items;
+use crate::names::{PutName, Version};
+
+/// A call of a session.
+#[derive(Clone, Debug, PartialEq, Eq, Drop)]
+pub enum Call {
+    /// Writes the bytes as a new version of the object. At most 1,048,576 bytes.
+    Put { key: Key, bytes: Items<u8> },
+    /// Reads the latest version.
+    Get { key: Key },
+}
+
+impl Call {
+    /// The key of the object that the call is about.
+    pub fn key(&self) -> &Key
+        ensures { result.now ≡ key_of self.now }
+    {
+        match self {
+            Call::Put { key, .. } => key,
+            Call::Get { key } => key,
+        }
+    }
+}
+
+/// The part of a call that sent its last row write, or `Look` where it sent none.
+#[derive(Clone, Copy, Debug, PartialEq, Eq)]
+pub enum Phase {
+    Look,
+    Fast,
+    Prepare,
+    Accept,
+    Trim,
+}
+
+/// Why a put that may have taken effect ended without knowing.
+#[derive(Clone, Copy, Debug, PartialEq, Eq)]
+pub enum UnsureWhy {
+    /// Too few sites were left. `heard` counts the sites that were heard and are not given up.
+    NoQuorum { phase: Phase, heard: u32 },
+    /// Other writes came between too often: `met` times.
+    Contended { met: u32 },
+}
+
+/// The answer of a call.
+#[derive(Clone, Debug, PartialEq, Eq, Drop)]
+pub enum Answer {
+    /// The put is chosen at this version.
+    Ok {
+        version: Version,
+    },
+    /// The value of the latest version: that of the put with this name.
+    Bytes {
+        version: Version,
+        name: PutName,
+        bytes: Items<u8>,
+    },
+    /// The object was never written.
+    Absent,
+    /// Too few sites were left. `heard` counts the sites that were heard and are not given up.
+    NoQuorum {
+        phase: Phase,
+        heard: u32,
+    },
+    /// Other writes came between too often: `met` times.
+    Contended {
+        met: u32,
+    },
+    /// The put may have taken effect or may yet take it.
+    Unsure {
+        why: UnsureWhy,
+    },
+    /// Every site was heard or given up, and no value is known to be chosen at this version.
+    Unsettled {
+        version: Version,
+    },
+}

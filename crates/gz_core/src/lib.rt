@@ -1,0 +1,23 @@
+//! The values that every part of the store speaks of: names, ballots, keys, values, rows of acceptor
+//! columns, calls with their answers, and the sizes of quorums.
+#![tactic(auto)]
+
+pub mod calls;
+pub mod configuration;
+pub mod keys;
+pub mod lists;
+pub mod names;
+pub mod requests;
+pub mod rows;
+pub mod texts;
+pub mod values;
+
+pub use calls::{Answer, Call, Phase, UnsureWhy};
+pub use configuration::{Config, ConfigError, Order};
+pub use keys::Key;
+pub use lists::Items;
+pub use names::{Ballot, Etag, PutName, Session, SiteId, Version};
+pub use requests::{Op, Out, Reply, RowStep, Turn};
+pub use rows::{Column, Row, Vote};
+pub use texts::{TextError, Why, Word};
+pub use values::{PutValue, Value};

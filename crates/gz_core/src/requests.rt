@@ -1,0 +1,79 @@
+//! What a client asks of sites, and what it is answered.
+use crate::calls::Answer;
+use crate::keys::Key;
+use crate::lists::Items;
+use crate::names::{Ballot, Etag, SiteId, Version};
+use crate::rows::Row;
+use crate::values::Value;
+
+/// The step of an acceptor that made a row out of the one that was heard. (Lamport 2006, "Fast Paxos".)
+#[derive(Clone, Debug, Drop)]
+pub enum RowStep {
+    /// A vote in the fast ballot.
+    FastVote {
+        version: Version,
+        value: Value,
+    },
+    /// A promise of a classic ballot.
+    Promise {
+        version: Version,
+        ballot: Ballot,
+    },
+    /// A vote in a classic ballot.
+    ClassicVote {
+        version: Version,
+        ballot: Ballot,
+        value: Value,
+    },
+    /// The value that is known to be chosen.
+    Decide {
+        version: Version,
+        value: Value,
+    },
+    /// The versions up to `to` are collected; `value` is chosen at the one after.
+    Trim {
+        to: Version,
+        value: Value,
+    },
+}
+
+/// An operation that is asked of a site.
+#[derive(Clone, Debug, Drop)]
+pub enum Op {
+    /// Reads the row of a key.
+    ReadRow {
+        key: Key,
+    },
+    /// Writes a row where the one stored stands under `expect` (none: where there is no row). `step` made it.
+    WriteRow {
+        key: Key,
+        expect: Option<Etag>,
+        step: RowStep,
+        row: Row,
+    },
+}
+
+/// A request to send. A notice is one that nobody awaits.
+#[derive(Clone, Debug, Drop)]
+pub struct Out {
+    pub site: SiteId,
+    pub op: Op,
+    pub awaited: bool,
+}
+
+/// What a site answered to a request.
+#[derive(Clone, Debug, Drop)]
+pub enum Reply {
+    Row { etag: Etag, row: Row },
+    NoRow,
+    Written { etag: Etag },
+    Changed,
+    Failed,
+}
+
+/// What a client does at one event: the requests that it sends, and the answer of its call where it ends.
+#[derive(Debug, Drop)]
+pub struct Turn {
+    pub send: Items<Out>,
+    pub answer: Option<Answer>,
+}
