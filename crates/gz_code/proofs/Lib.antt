@@ -1,0 +1,10 @@
+pub mod Values
+pub mod Roots
+pub mod Interpolation
+pub mod Weights
+pub mod Pushes
+pub mod Pieces
+pub mod Seen
+pub mod Rebuilding
+pub mod Decoded
+pub mod Refusals

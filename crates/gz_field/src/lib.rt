@@ -1,0 +1,74 @@
+//! The field with 256 elements: a byte stands for a polynomial over GF(2) of degree below 8, and products are taken
+//! modulo x^8 + x^4 + x^3 + x^2 + 1 (0x11d).
+#![tactic(auto)]
+
+ghost use Rattle.std.specs.Prelude.{◌≡◌, ◌≢◌, ℕ, ◌<◌, bit_xor};
+ghost use Rattle.gz_field.specs.Field.{product, carryless, IsRemainder};
+ghost use Rattle.gz_field.specs.Laws.{IsFieldOfBytes, AllPowersOfTwo};
+
+mod tables;
+
+use tables::{HIGH_PRODUCTS, INVERSES, LOW_PRODUCTS};
+
+/// The sum of two elements: of their polynomials, coefficient by coefficient, without carries.
+pub fn add(a: u8, b: u8) -> u8
+    ensures { result ≡ bit_xor a b }
+{
+    a ^ b
+}
+
+/// The product of two elements.
+pub fn mul(a: u8, b: u8) -> u8
+    ensures { result ≡ product a b }
+{
+    let row = usize::from(a) * 16;
+    let low = LOW_PRODUCTS[row + usize::from(b % 16)];
+    let high = HIGH_PRODUCTS[row + usize::from(b / 16)];
+    add(low, high)
+}
+
+/// The inverse of an element: the one whose product with it is 1.
+pub fn inv(a: u8) -> u8
+    requires { a ≢ 0 }
+    ensures { product a result ≡ 1 }
+{
+    INVERSES[usize::from(a)]
+}
+
+/// Law: the bytes are a field.
+pub fn bytes_are_a_field()
+    ensures { IsFieldOfBytes bit_xor product }
+{}
+
+/// Law: the product of two elements is the remainder of their product as polynomials over GF(2), on division by
+/// x^8 + x^4 + x^3 + x^2 + 1.
+pub fn product_is_remainder()
+    ensures { (a b : ℕ) → a < 256 → b < 256 → IsRemainder (carryless 8 a b) (product a b) }
+{}
+
+/// Law: the powers of two run through all 255 elements but 0.
+pub fn powers_of_two_reach_all()
+    ensures { AllPowersOfTwo }
+{}
+
+#[cfg(test)]
+mod tests {
+    use super::*;
+
+    #[test]
+    fn products_and_inverses(rt: HostRuntime) {
+        assert_eq!(rt; add(0x53, 0xca), 0x99);
+        for (a, b, product) in [
+            (2, 0x80, 0x1d),
+            (3, 2, 6),
+            (2, 0x8e, 1),
+            (0x80, 0x80, 0x13),
+            (0, 7, 0),
+            (1, 0xff, 0xff),
+        ] {
+            assert_eq!(rt; mul(a, b), product, "{a} times {b}");
+        }
+        assert_eq!(rt; inv(1), 1);
+        assert_eq!(rt; inv(2), 0x8e);
+    }
+}

@@ -1,0 +1,27 @@
+-- Sums of products in the field.
+use Rattle.std.specs.Prelude.{◌≡◌, ℕ, zero, suc, ◌<◌, ◌≤◌, List, [], length, map, slice_index, slice_index_or, bit_xor}
+use Rattle.std.specs.Borrow.{Bor}
+use Rattle.gz_field.specs.Field.{product}
+
+-- the sum, over the j below n, of the products of c j and v j
+unfoldable pub combination : ℕ → (ℕ → ℕ) → (ℕ → ℕ) → ℕ
+combination zero c v = 0
+combination (suc n) c v = bit_xor (combination n c v) (product (c n) (v n))
+
+-- the bytes that each of a list of slices holds
+abbrev pub contents : List (Bor (List ℕ)) → List (List ℕ)
+contents sources = map (λ source. source.now) sources
+
+-- the bytes at one place of each of a list of lists, by the list's place
+abbrev pub column : List (List ℕ) → ℕ → ℕ → ℕ
+column rows place j = slice_index (slice_index_or rows j []) place
+
+-- at each place below n, the sum of the bytes that the sources hold there, each times its coefficient
+abbrev pub IsCombined : List ℕ → List (List ℕ) → List ℕ → ℕ → Type 0
+IsCombined coefficients sources sum n =
+    (place : ℕ) → place < n → slice_index sum place ≡ combination (length coefficients) (slice_index coefficients) (column sources place)
+
+-- at each place below n, new has the sum of what old has and of the source's byte times the coefficient
+pub record HasAdded (coefficient : ℕ) (source old new : List ℕ) (n : ℕ) : Type 0 where
+  pub below : (place : ℕ) → place < n → slice_index new place ≡ bit_xor (slice_index old place) (product coefficient (slice_index source place))
+  pub rest : (place : ℕ) → n ≤ place → slice_index new place ≡ slice_index old place
