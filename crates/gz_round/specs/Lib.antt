@@ -1,0 +1,9 @@
+pub mod History
+pub mod Sites
+pub mod Sent
+pub mod Marks
+pub mod Rounds
+pub mod Shown
+pub mod Sending
+pub mod Counting
+pub mod Causes
