@@ -1,7 +1,6 @@
 pub mod History
 pub mod Sites
 pub mod Sent
-pub mod Marks
 pub mod Rounds
 pub mod Shown
 pub mod Sending
