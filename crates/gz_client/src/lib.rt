@@ -1,13 +1,6 @@
-// A library with one function.
+//! The calls of a session, as a machine that is handed the replies of its requests one at a time.
 #![tactic(auto)]
 
-ghost use Rattle.std.specs.Prelude.{◌≡◌};
-ghost use Rattle.gz_client.specs.Echo.{echo_of};
+pub mod client;
 
-// The `ensures` clause is the contract: what `echo` returns is `echo_of` of its argument, a definition
-// in `specs/Echo.antt`, which a caller's clause can cite too.
-pub fn echo(x: usize) -> usize
-    ensures { result ≡ echo_of x }
-{
-    x
-}
+pub use client::Client;

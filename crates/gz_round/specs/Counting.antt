@@ -39,5 +39,5 @@ HasNotice ms s op = (number : ℕ) × WasSent ms (record { number = number; site
 -- row, and that has answered all that is awaited of it, where the last row that it heard there takes the decision
 abbrev pub IsNoticed : Config → Caller → List Moment → ℕ → Type 0
 IsNoticed c w ms v = (s : ℕ) → s < c.n → (site_now ms s).out ≡ false → (site_now ms s).unanswered ≡ false →
-  (seen : Seen) → (site_now ms s).row ≡ Some seen → (x : Value) → own_value w.name w.call ≡ Some x → decide_answer seen.row v ≡ Done →
-  HasNotice ms s (WriteRow (key_of w.call) seen.etag (Decide v x) (decided seen.row v x))
+    (seen : Seen) → (site_now ms s).row ≡ Some seen → (x : Value) → own_value w.name w.call ≡ Some x → decide_answer seen.row v ≡ Done →
+    HasNotice ms s (WriteRow (key_of w.call) seen.etag (Decide v x) (decided seen.row v x))

@@ -59,7 +59,7 @@ abbrev pub begun : ℕ → Call → ℕ → Turn → List Tale → Tale
 begun session call first turn earlier = record {
   caller = record { name = record { session = session; seq = length earlier + 1 }; call = call };
   moments = sent_from first turn.send [];
-  answer = turn.answer
+  answer = turn.answer;
 }
 
 -- the tale of a running call after one more event: a moment, what is sent at it, and how the event closes
@@ -67,5 +67,5 @@ abbrev pub turned : ℕ → Turn → Moment → List Moment → Tale → Tale
 turned first turn moment closing tale = record {
   caller = tale.caller;
   moments = closing ++ sent_from first turn.send (moment ∷ tale.moments);
-  answer = turn.answer
+  answer = turn.answer;
 }

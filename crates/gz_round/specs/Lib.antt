@@ -6,3 +6,4 @@ pub mod Shown
 pub mod Sending
 pub mod Counting
 pub mod Causes
+pub mod Standing

@@ -81,14 +81,14 @@ IsNamedAt heard at x = (h : Heard) × ((vote : BallotAt × Name) × ((slice_get 
 -- where the choice is free, a put proposes its own value, and another call one that it heard a vote for
 abbrev pub MayPropose : Config → Caller → List Moment → ℕ → Value → Type 0
 MayPropose c w ms v x =
-  ((own_value w.name w.call ≡ Some x) × (IsCurrent c ms v × IsClear c w.name ms v))
-  ⊎ ((own_value w.name w.call ≡ None) × ((s : ℕ) × ((row : RowAt) × ((b : BallotAt) × (WasHeard ms s row × (row_vote row v ≡ Some (b, name_of x)))))))
+    ((own_value w.name w.call ≡ Some x) × (IsCurrent c ms v × IsClear c w.name ms v))
+    ⊎ ((own_value w.name w.call ≡ None) × ((s : ℕ) × ((row : RowAt) × ((b : BallotAt) × (WasHeard ms s row × (row_vote row v ≡ Some (b, name_of x)))))))
 
 -- the promises that were heard leave the value to the call
 abbrev pub IsLeft : Config → Caller → List Moment → ℕ → List Heard → Value → Type 0
 IsLeft c w ms v heard x =
-  ((at : ℕ) × ((pick_of c.n c.qf heard ≡ Forced at) × IsNamedAt heard at (name_of x)))
-  ⊎ ((pick_of c.n c.qf heard ≡ Free) × MayPropose c w ms v x)
+    ((at : ℕ) × ((pick_of c.n c.qf heard ≡ Forced at) × IsNamedAt heard at (name_of x)))
+    ⊎ ((pick_of c.n c.qf heard ≡ Free) × MayPropose c w ms v x)
 
 -- a vote in a classic ballot that the call promised: rows of a classic quorum promise it, their votes leave the
 -- value to the call, and all its votes of the ballot are for one value

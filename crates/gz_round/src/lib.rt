@@ -1,2 +1,6 @@
 //! One phase of a call: what it asks of the sites, what it is told, and when it reaches its goal.
 #![tactic(auto)]
+
+pub mod run;
+
+pub use run::{Awaited, Mark, Run, Stage};
