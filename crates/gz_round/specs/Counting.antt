@@ -10,7 +10,8 @@ use Rattle.gz_core.specs.declared.requests.Op.TheVariants.{WriteRow}
 use Rattle.gz_accept.specs.declared.answers.Step.TheVariants.{Done}
 use Rattle.gz_accept.specs.Steps.{decide_answer, decided}
 use Rattle.gz_round.specs.History.{Asked, Moment, Sent, Caller}
-use Rattle.gz_round.specs.Sites.{Seen, SiteNow, site_now, known}
+use Rattle.gz_round.specs.declared.hearing.Seen.{Seen}
+use Rattle.gz_round.specs.Sites.{SiteNow, site_now, known}
 use Rattle.gz_round.specs.Sent.{met}
 
 -- how many sites are out

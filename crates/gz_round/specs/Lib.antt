@@ -1,9 +1,12 @@
 pub mod History
 pub mod Sites
 pub mod Sent
-pub mod Rounds
 pub mod Shown
+pub mod Rounds
 pub mod Sending
 pub mod Counting
 pub mod Causes
+pub mod Steps
+pub mod Noting
+pub mod Asking
 pub mod Standing

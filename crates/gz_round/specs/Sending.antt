@@ -10,21 +10,35 @@ use Rattle.gz_core.specs.declared.requests.RowStep.{RowStep}
 use Rattle.gz_core.specs.declared.requests.RowStep.TheVariants.{FastVote, Promise, ClassicVote, Decide, Trim}
 use Rattle.gz_core.specs.declared.requests.Op.{Op}
 use Rattle.gz_core.specs.declared.requests.Op.TheVariants.{ReadRow, WriteRow}
+use Rattle.gz_accept.specs.declared.answers.Step.{Step}
 use Rattle.gz_accept.specs.declared.answers.Step.TheVariants.{Done}
 use Rattle.gz_accept.specs.Steps.{fast_answer, fast_voted, promise_answer, promised, classic_answer, classic_voted, decide_answer, decided, trim_answer, trimmed_to}
 use Rattle.gz_round.specs.Rounds.{MayPromise, MayClassicVote}
 use Rattle.gz_round.specs.History.{Asked, Moment, Sent, Handed, GaveUp, Rested, GaveIn, Caller, Tale}
-use Rattle.gz_round.specs.Sites.{Seen, SiteNow, site_now}
+use Rattle.gz_round.specs.declared.hearing.Seen.{Seen}
+use Rattle.gz_round.specs.Sites.{SiteNow, site_now}
 use Rattle.gz_round.specs.Sent.{has_promised}
 use Rattle.gz_round.specs.Shown.{IsShown, IsCurrent, IsNext, IsClear}
 
+-- what a step answers on a row
+abbrev pub answer_of : RowStep → RowAt → Step
+answer_of (FastVote v x) row = fast_answer row v
+answer_of (Promise v b) row = promise_answer row v b
+answer_of (ClassicVote v b x) row = classic_answer row v b
+answer_of (Decide v x) row = decide_answer row v
+answer_of (Trim to x) row = trim_answer row to (name_of x)
+
+-- the row that a step makes where it is done
+abbrev pub made_by : RowStep → RowAt → RowAt
+made_by (FastVote v x) row = fast_voted row v x
+made_by (Promise v b) row = promised row v b
+made_by (ClassicVote v b x) row = classic_voted row v b x
+made_by (Decide v x) row = decided row v x
+made_by (Trim to x) row = trimmed_to row to x
+
 -- the step is done on the old row and makes the new one
 abbrev pub IsMade : RowStep → RowAt → RowAt → Type 0
-IsMade (FastVote v x) old new = (fast_answer old v ≡ Done) × (new ≡ fast_voted old v x)
-IsMade (Promise v b) old new = (promise_answer old v b ≡ Done) × (new ≡ promised old v b)
-IsMade (ClassicVote v b x) old new = (classic_answer old v b ≡ Done) × (new ≡ classic_voted old v b x)
-IsMade (Decide v x) old new = (decide_answer old v ≡ Done) × (new ≡ decided old v x)
-IsMade (Trim to x) old new = (trim_answer old to (name_of x) ≡ Done) × (new ≡ trimmed_to old to x)
+IsMade step old new = (answer_of step old ≡ Done) × (new ≡ made_by step old)
 
 -- a vote in the fast ballot: nothing above the version has begun, the one before is settled, and where the call
 -- voted for its value at another version, that version went to another value

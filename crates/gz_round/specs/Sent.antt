@@ -98,14 +98,15 @@ phase_or_look (Some phase) = phase
 abbrev pub phase_of : List Moment → Phase
 phase_of ms = phase_or_look (last_sent phase_by ms)
 
-abbrev pub met_at : Moment → ℕ
-met_at (Sent a) = 0
-met_at (Handed a reply) = if is_changed reply then 1 else 0
-met_at (GaveUp a) = 0
-met_at Rested = 0
-met_at GaveIn = 0
+-- a reply tells that a write was overtaken
+abbrev pub overtakes : Moment → Bool
+overtakes (Sent a) = false
+overtakes (Handed a reply) = is_changed reply
+overtakes (GaveUp a) = false
+overtakes Rested = false
+overtakes GaveIn = false
 
 -- how many writes of the call were overtaken
 abbrev pub met : List Moment → ℕ
 met [] = 0
-met (m ∷ ms) = met_at m + met ms
+met (m ∷ ms) = if overtakes m then met ms + 1 else met ms

@@ -1,33 +1,41 @@
 -- What a call knows of each site, as of now: the last row that it heard there, whether that row was overtaken
 -- since, whether the site is out for the call, and the request that is awaited from it.
 use Rattle.std.specs.Prelude.{ℕ, ◌≡◌, ◌⊎◌, Bool, true, false, ◌&&◌, ◌||◌, ◌==◌, ◌^◌, nat_lt, if◌then◌else◌, List, [], ◌∷◌, length, Option, Some, None, option_map}
+use Rattle.std.specs.List.{list_all}
 use Rattle.gz_core.specs.Rows.{RowAt, empty_row}
+use Rattle.gz_core.specs.declared.values.Value.{Value}
+use Rattle.gz_core.specs.declared.values.Value.TheVariants.{Tomb, Put}
+use Rattle.gz_core.specs.declared.rows.Vote.{Vote}
 use Rattle.gz_core.specs.declared.rows.Column.{Column}
 use Rattle.gz_core.specs.declared.rows.Column.TheVariants.{Open, Decided}
 use Rattle.gz_core.specs.declared.requests.Op.{Op}
 use Rattle.gz_core.specs.declared.requests.Op.TheVariants.{ReadRow, WriteRow}
 use Rattle.gz_core.specs.declared.requests.Reply.{Reply}
 use Rattle.gz_core.specs.declared.requests.Reply.TheVariants.{Row, NoRow, Written, Changed, Failed}
+use Rattle.gz_round.specs.declared.hearing.Seen.{Seen}
 use Rattle.gz_round.specs.History.{Asked, Moment, Sent, Handed, GaveUp, Rested, GaveIn, is_row_request}
 
--- a promise below the rounds that no run reaches
-abbrev pub column_stands : Column → Bool
-column_stands (Open promise vote) = nat_lt promise.round (2 ^ 31)
-column_stands (Decided value) = true
+-- no call of this store deletes yet, so a value is a put's
+abbrev pub value_stands : Value → Bool
+value_stands (Tomb name) = false
+value_stands (Put put) = true
 
--- versions and promises that a run can hold
-abbrev pub columns_stand : List (ℕ × Column) → Bool
-columns_stand [] = true
-columns_stand (c ∷ cs) = nat_lt c.0 (2 ^ 62) && column_stands c.1 && columns_stand cs
+abbrev pub vote_stands : Option Vote → Bool
+vote_stands None = true
+vote_stands (Some vote) = value_stands vote.value
+
+-- a promise below the rounds that no run reaches, and a value that a run can hold
+abbrev pub column_stands : Column → Bool
+column_stands (Open promise vote) = nat_lt promise.round (2 ^ 31) && vote_stands vote
+column_stands (Decided value) = value_stands value
+
+-- the same at a version that a run can reach
+abbrev pub entry_stands : ℕ × Column → Bool
+entry_stands c = nat_lt c.0 (2 ^ 62) && column_stands c.1
 
 -- a row that a run can hold: no version or floor of 2^62 or more, no round of 2^31 or more, fewer than 2^22 columns
 abbrev pub can_stand : RowAt → Bool
-can_stand row = nat_lt row.floor (2 ^ 62) && nat_lt (length row.columns) (2 ^ 22) && columns_stand row.columns
-
--- a row that was heard, and the tag that it stands under (none: where there is no row)
-pub record Seen : Type 0 where
-  pub etag : Option ℕ
-  pub row : RowAt
+can_stand row = nat_lt row.floor (2 ^ 62) && (nat_lt (length row.columns) (2 ^ 22) && list_all entry_stands row.columns)
 
 -- a row that no run can hold isn't heard
 abbrev pub seen_under : Option ℕ → RowAt → Option Seen
@@ -126,7 +134,7 @@ passes p (Some seen) = p seen.row
 -- whether some row that was heard from a site passes a test
 abbrev pub some_heard : (RowAt → Bool) → List Moment → ℕ → Bool
 some_heard p [] s = false
-some_heard p (m ∷ ms) s = (concerns m s && passes p (heard_in m)) || some_heard p ms s
+some_heard p (m ∷ ms) s = (passes p (heard_in m) && concerns m s) || some_heard p ms s
 
 -- a row was heard from a site
 abbrev pub WasHeard : List Moment → ℕ → RowAt → Type 0

@@ -10,7 +10,8 @@ use Rattle.gz_round.specs.declared.run.Run.{Run}
 use Rattle.gz_round.specs.declared.run.Stage.{Stage}
 use Rattle.gz_round.specs.declared.run.Stage.TheVariants.{Look, Fast}
 use Rattle.gz_round.specs.History.{Asked, Moment, Caller, Tale}
-use Rattle.gz_round.specs.Sites.{Seen, SiteNow, site_now, known, written_by}
+use Rattle.gz_round.specs.declared.hearing.Seen.{Seen}
+use Rattle.gz_round.specs.Sites.{SiteNow, site_now, known, written_by}
 use Rattle.gz_round.specs.Sent.{met, voted, phase_of}
 use Rattle.gz_round.specs.Sending.{AreAllowed, MayFastVote, MayRead}
 use Rattle.gz_round.specs.Counting.{IsGoing}

@@ -1,6 +1,10 @@
 //! One phase of a call: what it asks of the sites, what it is told, and when it reaches its goal.
 #![tactic(auto)]
 
+pub mod asking;
+pub mod hearing;
+pub mod making;
 pub mod run;
 
+pub use hearing::Seen;
 pub use run::{Awaited, Mark, Run, Stage};
