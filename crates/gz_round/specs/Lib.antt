@@ -10,3 +10,5 @@ pub mod Steps
 pub mod Noting
 pub mod Asking
 pub mod Standing
+pub mod Following
+pub mod Evidence

@@ -73,3 +73,6 @@ pub record Runs (c : Config) (w : Caller) (past : List Tale) (run : Run) (ms : L
   pub again : AreAskedAgain c ms
   pub going : IsGoing c ms
   pub waits : IsWaiting c ms
+
+abbrev pub IsKept : Config → Run → Type 0
+IsKept c run = (w : Caller) × ((past : List Tale) × ((ms : List Moment) × Stands c w past run ms))

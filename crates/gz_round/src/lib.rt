@@ -2,9 +2,12 @@
 #![tactic(auto)]
 
 pub mod asking;
+pub mod counts;
+pub mod following;
 pub mod hearing;
 pub mod making;
 pub mod run;
 
+pub use following::Next;
 pub use hearing::Seen;
 pub use run::{Awaited, Mark, Run, Stage};
