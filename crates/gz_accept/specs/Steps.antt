@@ -1,6 +1,6 @@
 -- The steps of an acceptor at one version of a row: what each answers, and the row that it makes.
 -- (Lamport 2006, "Fast Paxos", section 2.)
-use Rattle.std.specs.Prelude.{ℕ, ◌≡◌, ◌+◌, true, false, Bool, nat_lt, nat_le, if◌then◌else◌, List, [], ◌∷◌, filter, Option, Some, None, is_some, Result, Ok, Err}
+use Rattle.std.specs.Prelude.{ℕ, ◌+◌, false, Bool, nat_lt, nat_le, if◌then◌else◌, List, [], ◌∷◌, filter, Option, Some, None, is_some, Result, Ok, Err}
 use Rattle.gz_core.specs.Names.{Name, BallotAt, fast, is_below, same_ballot, same_name}
 use Rattle.gz_core.specs.Values.{name_of}
 use Rattle.gz_core.specs.Rows.{RowAt, column_in}
@@ -70,11 +70,6 @@ abbrev pub IsOpenColumn : Column → Type 0
 IsOpenColumn (Open promise vote) = Unit {0}
 IsOpenColumn (Decided value) = ⊥
 
--- how many columns, from the first on, are of lower versions
-abbrev pub place_of : ℕ → List (ℕ × Column) → ℕ
-place_of v [] = 0
-place_of v (c ∷ cs) = if nat_lt c.0 v then 1 + place_of v cs else 0
-
 -- the columns with another one at a version
 abbrev pub with_column : ℕ → Column → List (ℕ × Column) → List (ℕ × Column)
 with_column v column [] = (v, column) ∷ []
@@ -107,7 +102,7 @@ decided row v x = with_column_at row v (Decided x)
 
 -- the floor raised to `to`: columns up to it are gone, and the next version is decided
 abbrev pub trimmed_to : RowAt → ℕ → Value → RowAt
-trimmed_to row to x = record { floor = to; columns = with_column (to + 1) (Decided x) (filter (λ c. nat_lt to c.0) row.columns) }
+trimmed_to row to x = record { floor = to; columns = filter (λ c. nat_lt to c.0) (with_column (to + 1) (Decided x) row.columns) }
 
 -- the row after an answer: the one that the step makes exactly at Done, and else the old one
 abbrev pub row_after : {E : Type 0} → Result Step E → RowAt → RowAt → RowAt

@@ -1,12 +1,15 @@
 //! One column of a row put in place, over the columns that stand there.
-ghost use Rattle.std.specs.Prelude.{◌≡◌, ◌<◌, ◌↔◌, IsTrue, IsSomeAnd, slice_get, OnOk, OnErr};
+ghost use Rattle.std.specs.Prelude.{◌≡◌, ◌<◌, ◌≤◌, length, filter, nat_lt, slice_set, IfOk, IfErr, OnOk, OnErr};
+ghost use Rattle.std.specs.List.{insert};
 ghost use Rattle.gz_core.specs.Rows.{column_in, IsColumn};
-ghost use Rattle.gz_accept.specs.Steps.{with_column, with_column_at, column_or_blank, IsOpenColumn, place_of};
+ghost use Rattle.gz_core.specs.declared.rows.Column.{Column};
+ghost use Rattle.gz_accept.specs.Steps.{with_column, with_column_at, column_or_blank, IsOpenColumn};
 
 use gz_core::{Column, Items, Row, Version};
 use std::alloc::AllocError;
 
 /// Puts a column at a version of the row that is open so far.
+#[tactic(auto, using(crate::proofs::Rising::row_put))]
 pub fn put_column(row: &mut Row, v: Version, column: Column) -> Result<(), AllocError>
     requires above { row.old.floor < v }
     requires rule { IsColumn column }
@@ -26,33 +29,37 @@ pub fn put(
     ensures ok { OnOk result (columns.new ≡ with_column v column columns.old) }
     ensures err { OnErr result (columns.new ≡ columns.old) }
 {
-    let at = place(columns.as_slice(), v);
-    if stands_at(columns.as_slice(), at, v) {
-        columns.set(at, (v, column));
-        Ok(())
-    } else {
-        columns.insert(at, (v, column))
+    match place(columns.as_slice(), v) {
+        Ok(at) => {
+            columns.set(at, (v, column));
+            Ok(())
+        },
+        Err(at) => columns.insert(at, (v, column)),
     }
 }
 
-/// The place of a version among rising ones: how many of them, from the first on, are below it.
-fn place(columns: &[(Version, Column)], v: Version) -> usize
-    ensures { result ≡ place_of v columns.now }
+/// Keeps the columns of the versions above `to`.
+pub fn keep_above(columns: &mut Items<(Version, Column)>, to: Version)
+    ensures { columns.new ≡ filter (λ c. nat_lt to c.0) columns.old }
+{
+    columns.retain(|column| column.0 > to);
+}
+
+/// Where a version stands among columns by rising version, or else where it would stand.
+#[tactic(auto, using(crate::proofs::Placing::set_there))]
+fn place(columns: &[(Version, Column)], v: Version) -> Result<usize, usize>
+    ensures stands { IfOk result (λ at. at < length columns.now) }
+    ensures set { IfOk result (λ at. (column : Column) → slice_set columns.now at (v, column) ≡ with_column v column columns.now) }
+    ensures within { IfErr result (λ at. at ≤ length columns.now) }
+    ensures insert { IfErr result (λ at. (column : Column) → insert columns.now at (v, column) ≡ with_column v column columns.now) }
 {
     for (at, column) in columns.iter().enumerate() {
-        if column.0 >= v {
-            return at;
+        if column.0 == v {
+            return Ok(at);
+        }
+        if column.0 > v {
+            return Err(at);
         }
     }
-    columns.len()
-}
-
-/// Whether the version itself stands at a place.
-fn stands_at(columns: &[(Version, Column)], at: usize, v: Version) -> bool
-    ensures { IsTrue result ↔ IsSomeAnd (slice_get columns.now at) (λ c. c.0 ≡ v) }
-{
-    match columns.get(at) {
-        None => false,
-        Some((version, _)) => *version == v,
-    }
+    Err(columns.len())
 }

@@ -1,13 +1,13 @@
 //! The steps of the acceptor. Each changes the row exactly where it answers `Done`.
-ghost use Rattle.std.specs.Prelude.{◌≡◌, ◌≤◌, ◌<◌, ◌+◌, ◌^◌, IfOk, OnOk, OnErr};
+ghost use Rattle.std.specs.Prelude.{◌≡◌, ◌≤◌, ◌<◌, ◌+◌, ◌^◌, Some, IfOk, OnOk, OnErr};
 ghost use Rattle.gz_core.specs.Names.{IsClassic};
-ghost use Rattle.gz_core.specs.Rows.{column_in};
+ghost use Rattle.gz_core.specs.Rows.{IsRow, column_in};
 ghost use Rattle.gz_core.specs.Values.{name_of};
 ghost use Rattle.gz_core.specs.Slots.{Makes, slots, VotesFast, Promises, VotesClassic, Decides, Trims};
-ghost use Rattle.gz_accept.specs.Steps.{fast_answer, promise_answer, classic_answer, decide_answer, trim_answer, fast_voted, promised, classic_voted, decided, trimmed_to, row_after, AtDone, vote_in, column_or_blank};
+ghost use Rattle.gz_accept.specs.Steps.{fast_answer, promise_answer, classic_answer, decide_answer, trim_answer, fast_voted, promised, classic_voted, decided, trimmed_to, row_after, AtDone, vote_in, column_or_blank, with_column_at, IsOpenColumn};
 
 use crate::answers::{Step, classic_step, decide_step, fast_step, promise_step, trim_step};
-use crate::columns::{put, put_column};
+use crate::columns::{keep_above, put, put_column};
 use gz_core::{Ballot, Column, Row, Value, Version, Vote};
 use std::alloc::AllocError;
 
@@ -20,18 +20,7 @@ pub fn fast_vote(row: &mut Row, v: Version, x: &Value) -> Result<Step, AllocErro
 {
     match fast_step(row, v) {
         Step::Done => {
-            let vote = Vote {
-                ballot: Ballot::fast(),
-                value: x.clone()?,
-            };
-            put_column(
-                row,
-                v,
-                Column::Open {
-                    promise: Ballot::fast(),
-                    vote: Some(vote),
-                },
-            )?;
+            cast(row, v, Ballot::fast(), x)?;
             Ok(Step::Done)
         },
         other => Ok(other),
@@ -66,18 +55,7 @@ pub fn classic_vote(row: &mut Row, v: Version, b: Ballot, x: &Value) -> Result<S
 {
     match classic_step(row, v, b) {
         Step::Done => {
-            let vote = Vote {
-                ballot: b,
-                value: x.clone()?,
-            };
-            put_column(
-                row,
-                v,
-                Column::Open {
-                    promise: b,
-                    vote: Some(vote),
-                },
-            )?;
+            cast(row, v, b, x)?;
             Ok(Step::Done)
         },
         other => Ok(other),
@@ -93,8 +71,8 @@ pub fn decide(row: &mut Row, v: Version, x: &Value) -> Result<Step, AllocError>
 {
     match decide_step(row, v) {
         Step::Done => {
-            let value = x.clone()?;
-            put_column(row, v, Column::Decided { value })?;
+            let column = decided_column(x)?;
+            put_column(row, v, column)?;
             Ok(Step::Done)
         },
         other => Ok(other),
@@ -111,30 +89,60 @@ pub fn trim(row: &mut Row, to: Version, x: &Value) -> Result<Step, AllocError>
 {
     match trim_step(row, to, x.name()) {
         Step::Done => {
-            let value = x.clone()?;
-            collect(row, to, value)?;
+            collect(row, to, x)?;
             Ok(Step::Done)
         },
         other => Ok(other),
     }
 }
 
-/// Raises the floor to `to`: the columns up to it go, and `value` is decided at the next version.
-fn collect(row: &mut Row, to: Version, value: Value) -> Result<(), AllocError>
-    requires above { row.old.floor < to }
-    requires next { to + 1 < 2 ^ 63 }
-    ensures ok { OnOk result (row.new ≡ trimmed_to row.old to value) }
+/// Puts a vote for `x` in a ballot, with the promise of that ballot.
+fn cast(row: &mut Row, v: Version, ballot: Ballot, x: &Value) -> Result<(), AllocError>
+    requires above { row.old.floor < v }
+    requires free { IsOpenColumn (column_or_blank (column_in row.old.columns v)) }
+    ensures ok { OnOk result (row.new ≡ with_column_at row.old v (Column.Open ballot (Some (record { ballot = ballot; value = x.now })))) }
     ensures err { OnErr result (row.new ≡ row.old) }
 {
-    put(&mut row.columns, to.next(), Column::Decided { value })?;
-    row.columns.retain(|column| column.0 > to);
+    let vote = Vote {
+        ballot,
+        value: x.clone()?,
+    };
+    put_column(
+        row,
+        v,
+        Column::Open {
+            promise: ballot,
+            vote: Some(vote),
+        },
+    )
+}
+
+/// Raises the floor to `to`: the columns up to it go, and `x` is decided at the next version.
+fn collect(row: &mut Row, to: Version, x: &Value) -> Result<(), AllocError>
+    requires above { row.old.floor < to }
+    requires next { to + 1 < 2 ^ 63 }
+    ensures ok { OnOk result (row.new ≡ trimmed_to row.old to x.now) }
+    ensures err { OnErr result (row.new ≡ row.old) }
+{
+    let column = decided_column(x)?;
+    put(&mut row.columns, to.next(), column)?;
+    keep_above(&mut row.columns, to);
     row.floor = to;
     Ok(())
 }
 
+/// The column of a version whose value is known to be chosen.
+fn decided_column(x: &Value) -> Result<Column, AllocError>
+    ensures { IfOk result (λ column. column ≡ Column.Decided x.now) }
+{
+    let value = x.clone()?;
+    Ok(Column::Decided { value })
+}
+
 /// A copy of the vote that stands at a version, if there is one.
 fn vote_at(row: &Row, v: Version) -> Result<Option<Vote>, AllocError>
-    ensures { IfOk result (λ vote. vote ≡ vote_in (column_or_blank (column_in row.now.columns v))) }
+    ensures vote { IfOk result (λ vote. vote ≡ vote_in (column_or_blank (column_in row.now.columns v))) }
+    ensures row { IsRow row.now }
 {
     match row.column(v) {
         Some(Column::Open { vote, .. }) => vote.clone(),

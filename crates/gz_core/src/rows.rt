@@ -89,7 +89,8 @@ impl Row {
 
     /// The column of a version, where it has one.
     pub fn column(&self, version: Version) -> Option<&Column>
-        ensures { option_copied result ≡ column_in self.now.columns version }
+        ensures same { option_copied result ≡ column_in self.now.columns version }
+        ensures row { IsRow self.now }
     {
         column_of(self.columns.as_slice(), version)
     }
