@@ -1,0 +1,45 @@
+use Rattle.std.proofs.Common.{ℕ, ◌≡◌, ◌+◌, ◌<◌, ◌&&◌, ◌∙◌, true, length, take, arith, subst, sym, List}
+use Rattle.std.proofs.lemmas.Bool.{and_from, and_right, and_left}
+use Rattle.std.proofs.lemmas.List.{take_all}
+use Rattle.gz_model.specs.Sites.{has_site, IsLeastSite}
+use Rattle.gz_model.proofs.LeastSites.{adds_more, has_site-last, least_taken, least_failed, least_above, least_of_three}
+use Rattle.gz_model.proofs.sites.meet3.Goals as goal
+use Rattle.gz_model.proofs.sites.meet3.Goals.{then-is_before+then-is_in+then-is_in-2, else-is_before, else-is_before-via-then-is_before+then-is_in+else-is_in-2, else-is_before-via-then-is_before+else-is_in, else-is_before-via-else-is_before}
+
+pub loop-site-preserved : goal.loop-site-preserved
+loop-site-preserved g =
+    let a = g.args.a.now in
+    let b = g.args.b.now in
+    let c = g.args.c.now in
+    let i = g.loop-site.site-index in
+    let x = g.site-item.result in
+    let l : i < length a = omega arith in
+    let p = λ (s : ℕ). has_site (take i a) s && (has_site b s && has_site c s) in
+    let r = λ (s : ℕ). has_site (take (i + 1) a) s && (has_site b s && has_site c s) in
+    let adds = adds_more a i x (λ (s : ℕ). has_site b s && has_site c s) l g.site-item.is in
+    let last : has_site (take (i + 1) a) x ≡ true = has_site-last a i x l g.site-item.is in
+    elim g.if-is_before.branch [
+      | then-is_before+then-is_in+then-is_in-2 w ↦
+          subst (λ m. IsLeastSite r m) (sym w.least-is)
+          (least_taken p r x g.loop-site.least adds (and_from _ _ last (and_from _ _ (sym (w.is_in.ensures) ∙ w.if-is_in.true) (sym (w.is_in-then-is_in.ensures) ∙ w.if-is_in-2.true))) (sym g.is_before.ensures ∙ w.if-is_before.true) g.loop-site.invariant)
+      | else-is_before w ↦ elim w.else-is_before.branch [
+        | else-is_before-via-then-is_before+then-is_in+else-is_in-2 w' ↦
+            subst (λ m. IsLeastSite r m) (sym w.least-is)
+            (least_failed p r x g.loop-site.least adds (and_right _ _ (and_right _ _ (sym (w'.is_in-then-is_in.ensures) ∙ w'.if-is_in-2.false))) g.loop-site.invariant)
+        | else-is_before-via-then-is_before+else-is_in w' ↦
+            subst (λ m. IsLeastSite r m) (sym w.least-is)
+            (least_failed p r x g.loop-site.least adds (and_right _ _ (and_left _ _ (sym (w'.is_in.ensures) ∙ w'.if-is_in.false))) g.loop-site.invariant)
+        | else-is_before-via-else-is_before w' ↦
+            subst (λ m. IsLeastSite r m) (sym w.least-is)
+            (least_above p r x g.loop-site.least adds (sym g.is_before.ensures ∙ w'.if-is_before.false) g.loop-site.invariant)
+      ]
+    ]
+
+pub returns-clause-quorums : goal.returns-clause-quorums
+returns-clause-quorums g n =
+    let a = g.args.a.now in
+    let b = g.args.b.now in
+    let c = g.args.c.now in
+    let all : IsLeastSite (λ s. has_site a s && (has_site b s && has_site c s)) g.loop-site.least =
+    subst (λ (xs : List ℕ). IsLeastSite (λ s. has_site xs s && (has_site b s && has_site c s)) g.loop-site.least) (take_all g.loop-site.site-index a (omega arith)) g.loop-site.invariant in
+    least_of_three n a b c g.loop-site.least all
