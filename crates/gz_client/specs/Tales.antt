@@ -36,7 +36,7 @@ pub record IsTold (c : Config) (past : List Tale) (t : Tale) : Type 0 where
 -- the tales of a session, newest first: each is told by the rules, and the names count up
 abbrev pub AreTold : Config → ℕ → List Tale → Type 0
 AreTold c session [] = Unit {0}
-AreTold c session (t ∷ ts) = IsTold c ts t × ((t.caller.name ≡ record { session = session; seq = length ts + 1 }) × AreTold c session ts)
+AreTold c session (t ∷ ts) = IsTold c ts t × (t.caller.name ≡ record { session = session; seq = length ts + 1 }) × AreTold c session ts
 
 -- every call has its answer
 abbrev pub AreOver : List Tale → Type 0
@@ -52,7 +52,7 @@ pub record AreNumbered (c : Config) (ms : List Moment) (next : ℕ) : Type 0 whe
 abbrev pub HoldsRun : Config → ℕ → Option Run → List Tale → Type 0
 HoldsRun c next None ts = AreOver ts
 HoldsRun c next (Some run) [] = ⊥
-HoldsRun c next (Some run) (t ∷ ts) = (t.answer ≡ None) × (Runs c t.caller ts run t.moments × (AreNumbered c t.moments next × AreOver ts))
+HoldsRun c next (Some run) (t ∷ ts) = (t.answer ≡ None) × Runs c t.caller ts run t.moments × AreNumbered c t.moments next × AreOver ts
 
 -- the client stands for these tales of its session
 pub record Holds (client : Client) (next : ℕ) (ts : List Tale) : Type 0 where
@@ -87,7 +87,7 @@ IsLive c (t ∷ ts) n = (a : Asked) × IsAwaited c t a n
 
 -- the client may be told of this request, and the next ones go out from `first` on
 abbrev pub CanBeTold : Client → ℕ → ℕ → Type 0
-CanBeTold client n first = (next : ℕ) × ((t : Tale) × ((ts : List Tale) × ((a : Asked) × (Holds client next (t ∷ ts) × (IsAwaited client.config t a n × (next ≤ first))))))
+CanBeTold client n first = (next : ℕ) × (t : Tale) × (ts : List Tale) × (a : Asked) × Holds client next (t ∷ ts) × IsAwaited client.config t a n × (next ≤ first)
 
 -- no call runs, and so few came before that the next one has a name
 pub record CanBegin (client : Client) : Type 0 where
@@ -109,4 +109,4 @@ IsWithin (Get key) = Unit {0}
 abbrev pub Extends : Client → Client → ℕ → ℕ → (Asked → Moment) → Turn → Type 0
 Extends old new n first moment turn =
     (next : ℕ) (t : Tale) (ts : List Tale) (a : Asked) → Holds old next (t ∷ ts) → IsAwaited old.config t a n → next ≤ first →
-    (closing : List Moment) × (IsClosing closing × Holds new (first + length turn.send) (turned first turn (moment a) closing t ∷ ts))
+    (closing : List Moment) × IsClosing closing × Holds new (first + length turn.send) (turned first turn (moment a) closing t ∷ ts)

@@ -1,5 +1,5 @@
 -- What is asked of a site, as the running call keeps it, and what the call keeps once it is asked.
-use Rattle.std.specs.Prelude.{ℕ, Bool, true, false, ◌||◌, not, if◌then◌else◌, slice_set, Option, Some, None, is_some}
+use Rattle.std.specs.Prelude.{ℕ, ◌≡◌, ◌+◌, Bool, true, false, ◌||◌, not, if◌then◌else◌, List, [], ◌∷◌, ◌++◌, length, slice_get, slice_set, Option, Some, None, is_some}
 use Rattle.gz_core.specs.Names.{Name}
 use Rattle.gz_core.specs.Rows.{RowAt}
 use Rattle.gz_core.specs.declared.calls.Phase.{Phase}
@@ -71,8 +71,27 @@ noted run op = record run {
 }
 
 abbrev pub marked_run : Run → ℕ → ℕ → Mark → Out → Run
-marked_run run at number mark out = if out.awaited then record run { marks = slice_set run.marks at (marked_as mark number out) } else run
+marked_run run at number mark out = record run { marks = if out.awaited then slice_set run.marks at (marked_as mark number out) else run.marks }
 
 -- what is kept once a request has gone out
 abbrev pub sent_run : Run → ℕ → ℕ → Mark → Out → Run
 sent_run run at number mark out = noted (marked_run run at number mark out) out.op
+
+-- what asking a site came to
+abbrev pub AskedBy : Run → ℕ → ℕ → List Out → Mark → Option Out → Run → List Out → Type 0
+AskedBy old at first outs mark None new sent = (new ≡ old) × (sent ≡ outs)
+AskedBy old at first outs mark (Some out) new sent = (new ≡ sent_run old at (first + length outs) mark out) × (sent ≡ outs ++ (out ∷ []))
+
+-- a site was asked for all that it may be asked for
+abbrev pub IsAskedAt : Run → ℕ → Option RowStep → ℕ → List Out → Run → List Out → Type 0
+IsAskedAt old at step first outs new sent = (mark : Mark) (row : Option RowAt) → slice_get old.marks at ≡ Some mark → slice_get old.rows at ≡ Some row → AskedBy old at first outs mark (asks_of old at mark step row) new sent
+
+-- what asking leaves as it was
+pub record IsLeftBy (old new : Run) (step : Option RowStep) : Type 0 where
+  pub rows : new.rows ≡ old.rows
+  pub marks_len : length new.marks ≡ length old.marks
+  pub stage : new.stage ≡ old.stage
+  pub own : new.own ≡ old.own
+  pub name : new.name ≡ old.name
+  pub voted : step ≡ None → new.voted ≡ old.voted
+  pub wrote : step ≡ None → new.wrote ≡ old.wrote

@@ -27,7 +27,7 @@ use Rattle.gz_round.specs.Counting.{outs, known_count, IsGoing, IsNoticed}
 
 -- the call is a put, and its value is shown at the version
 abbrev pub IsChosenOwn : Config → Caller → List Moment → ℕ → Type 0
-IsChosenOwn c w ms v = (x : Value) × ((own_value w.name w.call ≡ Some x) × IsShown c ms v w.name)
+IsChosenOwn c w ms v = (x : Value) × (own_value w.name w.call ≡ Some x) × IsShown c ms v w.name
 
 -- the value that a vote has
 abbrev pub vote_value : Option Vote → Option Value
@@ -45,7 +45,7 @@ row_value row v = column_value (column_in row.columns v)
 
 -- a heard row has the value at the version, as a vote or a decision
 abbrev pub IsValueHeard : List Moment → ℕ → Value → Type 0
-IsValueHeard ms v x = (s : ℕ) × ((row : RowAt) × (WasHeard ms s row × (row_value row v ≡ Some x)))
+IsValueHeard ms v x = (s : ℕ) × (row : RowAt) × WasHeard ms s row × (row_value row v ≡ Some x)
 
 -- the call is no put; the value is shown at the version, no later one has begun, and the value itself was heard there
 pub record IsLearnt (c : Config) (w : Caller) (ms : List Moment) (v : ℕ) (x : Name) (bytes : List ℕ) : Type 0 where
@@ -80,7 +80,7 @@ rows_known ms s = known (site_now ms s)
 -- the version is the highest at which one of the rows has a vote or a decision
 pub record IsHighest (c : Config) (ms : List Moment) (v : ℕ) : Type 0 where
   pub none_above : (s : ℕ) (row : RowAt) → s < c.n → rows_known ms s ≡ Some row → row_top row ≤ v
-  pub reached : (v ≡ 0) ⊎ ((s : ℕ) × ((row : RowAt) × ((s < c.n) × ((rows_known ms s ≡ Some row) × (row_top row ≡ v)))))
+  pub reached : (v ≡ 0) ⊎ ((s : ℕ) × (row : RowAt) × (s < c.n) × (rows_known ms s ≡ Some row) × (row_top row ≡ v))
 
 -- nothing is awaited, every site was heard or is out, no value is evident at the version, and either the call has
 -- not voted and this is the highest version that was begun, or no row takes a vote of the fast ballot there
@@ -97,7 +97,7 @@ UnsureCause c ms (UnsureContended m) = IsOvertaken c ms m
 
 -- when each answer comes. An answer other than the last three comes only while the call could go on.
 abbrev pub HasCause : Config → Caller → List Moment → Answer → Type 0
-HasCause c w ms (Ok v) = IsGoing c ms × (IsChosenOwn c w ms v × IsNoticed c w ms v)
+HasCause c w ms (Ok v) = IsGoing c ms × IsChosenOwn c w ms v × IsNoticed c w ms v
 HasCause c w ms (Bytes v x bytes) = IsGoing c ms × IsLearnt c w ms v x bytes
 HasCause c w ms Absent = IsGoing c ms × IsAbsent c w ms
 HasCause c w ms (Unsettled v) = IsGoing c ms × IsUnsettled c w ms v

@@ -48,7 +48,7 @@ pub record Ready (c : Config) (w : Caller) (past : List Tale) (run : Run) (ms : 
   pub stage : StageStands c w run.stage ms
 
 abbrev pub IsReady : Config → Run → Type 0
-IsReady c run = (w : Caller) × ((past : List Tale) × ((ms : List Moment) × Ready c w past run ms))
+IsReady c run = (w : Caller) × (past : List Tale) × (ms : List Moment) × Ready c w past run ms
 
 -- the call may vote at a version, or pass on to the next one once another value is shown there
 pub record MayPass (c : Config) (w : Caller) (ms : List Moment) (v : ℕ) : Type 0 where
@@ -76,8 +76,8 @@ pub record IsFound (c : Config) (w : Caller) (run : Run) (ms : List Moment) (v :
 -- what the rows that are known come to
 abbrev pub NextMeans : Config → Caller → Run → List Moment → Next → Type 0
 NextMeans c w run ms Wait = IsUnmet c run run.stage ms
-NextMeans c w run ms (Vote v) = MayFastVote c w ms v × (NoEvidence c ms v × ((x : Value) × (own_value w.name w.call ≡ Some x)))
-NextMeans c w run ms (Chosen v) = (1 ≤ v) × (IsShown c ms v w.name × ((x : Value) × (own_value w.name w.call ≡ Some x)))
+NextMeans c w run ms (Vote v) = MayFastVote c w ms v × NoEvidence c ms v × ((x : Value) × (own_value w.name w.call ≡ Some x))
+NextMeans c w run ms (Chosen v) = (1 ≤ v) × IsShown c ms v w.name × ((x : Value) × (own_value w.name w.call ≡ Some x))
 NextMeans c w run ms (Learnt v s) = IsFound c w run ms v s
 NextMeans c w run ms Absent = IsAbsent c w ms
 
@@ -94,7 +94,7 @@ IsSettledBy w ms s seen (Some step) = answer_of step seen.row ≡ Done → (is_n
 -- all that may be asked of a site was asked: it is awaited, or out, or its last row stands and takes no step
 abbrev pub IsServed : Caller → List Moment → Option RowStep → ℕ → Type 0
 IsServed w ms step s = (site_now ms s).awaits ≡ None → (site_now ms s).out ≡ false →
-  (seen : Seen) × (((site_now ms s).row ≡ Some seen) × (((site_now ms s).changed ≡ false) × IsSettledBy w ms s seen step))
+  (seen : Seen) × ((site_now ms s).row ≡ Some seen) × ((site_now ms s).changed ≡ false) × IsSettledBy w ms s seen step
 
 abbrev pub AreServed : Config → Caller → List Moment → Option RowStep → Type 0
 AreServed c w ms step = (s : ℕ) → s < c.n → IsServed w ms step s
@@ -105,11 +105,11 @@ pub record Asks (c : Config) (w : Caller) (past : List Tale) (run : Run) (ms : L
   pub may : MayMakeOf c w past ms step
 
 abbrev pub CanAsk : Config → Run → ℕ → List Out → Option RowStep → Type 0
-CanAsk c run first outs step = (w : Caller) × ((past : List Tale) × ((ms : List Moment) × Asks c w past run (sent_from first outs ms) step))
+CanAsk c run first outs step = (w : Caller) × (past : List Tale) × (ms : List Moment) × Asks c w past run (sent_from first outs ms) step
 
 -- at most one more request was sent, to this site
 abbrev pub IsOneMore : ℕ → List Moment → List Moment → Type 0
-IsOneMore at old new = (new ≡ old) ⊎ ((a : Asked) × ((new ≡ Sent a ∷ old) × (a.site ≡ at)))
+IsOneMore at old new = (new ≡ old) ⊎ ((a : Asked) × (new ≡ Sent a ∷ old) × (a.site ≡ at))
 
 -- after an event: the call runs on, or its answer has its cause
 abbrev pub Turned : Config → Caller → List Tale → Run → List Moment → Option Answer → Type 0

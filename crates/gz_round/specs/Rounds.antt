@@ -73,22 +73,22 @@ has_cast ms v b y = some_sent cast_by (λ k. (k.version == v) && same_ballot k.b
 
 -- a row of the site was heard that promises the ballot, with this vote of a ballot below
 abbrev pub IsPromiseHeard : List Moment → ℕ → BallotAt → Heard → Type 0
-IsPromiseHeard ms v b h = (row : RowAt) × (WasHeard ms h.site row × ((slots row v ≡ OpenAt b h.vote) × (IsVoteOf b h.vote → ⊥)))
+IsPromiseHeard ms v b h = (row : RowAt) × WasHeard ms h.site row × (slots row v ≡ OpenAt b h.vote) × (IsVoteOf b h.vote → ⊥)
 
 -- the vote that was heard at this place has this name
 abbrev pub IsNamedAt : List Heard → ℕ → Name → Type 0
-IsNamedAt heard at x = (h : Heard) × ((vote : BallotAt × Name) × ((slice_get heard at ≡ Some h) × ((h.vote ≡ Some vote) × (vote.1 ≡ x))))
+IsNamedAt heard at x = (h : Heard) × (vote : BallotAt × Name) × (slice_get heard at ≡ Some h) × (h.vote ≡ Some vote) × (vote.1 ≡ x)
 
 -- where the choice is free, a put proposes its own value, and another call one that it heard a vote for
 abbrev pub MayPropose : Config → Caller → List Moment → ℕ → Value → Type 0
 MayPropose c w ms v x =
-    ((own_value w.name w.call ≡ Some x) × (IsCurrent c ms v × IsClear c w.name ms v))
-    ⊎ ((own_value w.name w.call ≡ None) × ((s : ℕ) × ((row : RowAt) × ((b : BallotAt) × (WasHeard ms s row × (row_vote row v ≡ Some (b, name_of x)))))))
+    ((own_value w.name w.call ≡ Some x) × IsCurrent c ms v × IsClear c w.name ms v)
+    ⊎ ((s : ℕ) × (row : RowAt) × (b : BallotAt) × (own_value w.name w.call ≡ None) × WasHeard ms s row × (row_vote row v ≡ Some (b, name_of x)))
 
 -- the promises that were heard leave the value to the call
 abbrev pub IsLeft : Config → Caller → List Moment → ℕ → List Heard → Value → Type 0
 IsLeft c w ms v heard x =
-    ((at : ℕ) × ((pick_of c.n c.qf heard ≡ Forced at) × IsNamedAt heard at (name_of x)))
+    ((at : ℕ) × (pick_of c.n c.qf heard ≡ Forced at) × IsNamedAt heard at (name_of x))
     ⊎ ((pick_of c.n c.qf heard ≡ Free) × MayPropose c w ms v x)
 
 -- a vote in a classic ballot that the call promised: rows of a classic quorum promise it, their votes leave the

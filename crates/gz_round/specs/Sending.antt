@@ -81,7 +81,7 @@ pub record MaySend (c : Config) (w : Caller) (past : List Tale) (ms : List Momen
 
 -- row requests rest once a value is shown
 abbrev pub MayRest : Config → List Moment → Type 0
-MayRest c ms = (v : ℕ) × ((x : Name) × IsShown c ms v x)
+MayRest c ms = (v : ℕ) × (x : Name) × IsShown c ms v x
 
 -- no phase gives in yet
 abbrev pub MayGiveIn : Config → Caller → List Moment → Type 0

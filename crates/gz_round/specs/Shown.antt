@@ -26,7 +26,7 @@ IsCurrent c ms v = c.qc ≤ heard_at c (λ r. nat_le (row_top r) v) ms
 
 -- the version is the first, or a value is shown at the one before
 abbrev pub IsNext : Config → List Moment → ℕ → Type 0
-IsNext c ms v = (v ≡ 1) ⊎ ((u : ℕ) × ((x : Name) × ((v ≡ u + 1) × IsShown c ms u x)))
+IsNext c ms v = (v ≡ 1) ⊎ ((u : ℕ) × (x : Name) × (v ≡ u + 1) × IsShown c ms u x)
 
 -- work at the version has a ground: it is the next one, or a heard row has a vote or a decision there or above
 abbrev pub IsGrounded : Config → List Moment → ℕ → Type 0
@@ -34,4 +34,4 @@ IsGrounded c ms v = IsNext c ms v ⊎ (1 ≤ heard_at c (λ r. nat_le v (row_top
 
 -- at each other version at which the call voted for the value of this name, another one is shown
 abbrev pub IsClear : Config → Name → List Moment → ℕ → Type 0
-IsClear c x ms v = (u : ℕ) → u ≢ v → voted_at x ms u ≡ true → (y : Name) × ((y ≢ x) × IsShown c ms u y)
+IsClear c x ms v = (u : ℕ) → u ≢ v → voted_at x ms u ≡ true → (y : Name) × (y ≢ x) × IsShown c ms u y

@@ -139,4 +139,4 @@ some_heard p (m ∷ ms) s = (passes p (heard_in m) && concerns m s) || some_hear
 -- a row was heard from a site
 abbrev pub WasHeard : List Moment → ℕ → RowAt → Type 0
 WasHeard [] s row = ⊥
-WasHeard (m ∷ ms) s row = ((concerns m s ≡ true) × ((seen : Seen) × ((heard_in m ≡ Some seen) × (seen.row ≡ row)))) ⊎ WasHeard ms s row
+WasHeard (m ∷ ms) s row = ((seen : Seen) × (concerns m s ≡ true) × (heard_in m ≡ Some seen) × (seen.row ≡ row)) ⊎ WasHeard ms s row

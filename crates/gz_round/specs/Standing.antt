@@ -37,7 +37,7 @@ pub record Knows (c : Config) (run : Run) (ms : List Moment) : Type 0 where
 -- a request is awaited only from the site that it was sent to, which isn't out; and from each site that hasn't
 -- answered all that is awaited of it, a request is awaited
 pub record IsSound (now : SiteNow) (s : ℕ) : Type 0 where
-  pub inside : (a : Asked) → now.awaits ≡ Some a → (now.out ≡ false) × ((a.site ≡ s) × (a.awaited ≡ true))
+  pub inside : (a : Asked) → now.awaits ≡ Some a → (now.out ≡ false) × (a.site ≡ s) × (a.awaited ≡ true)
   pub answered : now.unanswered ≡ is_some now.awaits
 
 -- the call keeps what has happened to it, and each moment of it was allowed
@@ -63,7 +63,7 @@ AreAskedAgain c ms = (s : ℕ) → s < c.n → MayRead (site_now ms s) → (site
 
 -- a request is awaited from a site
 abbrev pub IsWaiting : Config → List Moment → Type 0
-IsWaiting c ms = (s : ℕ) × ((a : Asked) × ((s < c.n) × ((site_now ms s).awaits ≡ Some a)))
+IsWaiting c ms = (s : ℕ) × (a : Asked) × (s < c.n) × ((site_now ms s).awaits ≡ Some a)
 
 -- between two events: the phase stands, each site is asked for what it may be asked, the call can go on, and it
 -- awaits a request
@@ -75,4 +75,4 @@ pub record Runs (c : Config) (w : Caller) (past : List Tale) (run : Run) (ms : L
   pub waits : IsWaiting c ms
 
 abbrev pub IsKept : Config → Run → Type 0
-IsKept c run = (w : Caller) × ((past : List Tale) × ((ms : List Moment) × Stands c w past run ms))
+IsKept c run = (w : Caller) × (past : List Tale) × (ms : List Moment) × Stands c w past run ms

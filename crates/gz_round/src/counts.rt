@@ -1,35 +1,25 @@
 //! The counts by which a call goes on or ends.
-ghost use Rattle.std.specs.Prelude.{◌≡◌, ◌≤◌, count_by, is_some, length};
+ghost use Rattle.std.specs.Prelude.{◌≡◌, count_by, is_some};
 ghost use Rattle.std.specs.List.{list_any, list_all};
 ghost use Rattle.gz_round.specs.Following.{is_blank_known, is_topless};
 
-use crate::run::Run;
+use crate::run::{Mark, Run};
 use gz_core::{Row, Version};
 use gz_pick::top_of;
 
 impl Run {
     /// How many sites are out.
     pub fn outs(&self) -> usize
-        ensures count { result ≡ count_by (λ mark. mark.out) self.now.marks }
-        ensures bound { result ≤ length self.now.marks }
+        ensures { result ≡ count_by (λ mark. mark.out) self.now.marks }
     {
-        self.marks
-            .as_slice()
-            .iter()
-            .filter(|mark| mark.out)
-            .count()
+        count_out(self.marks.as_slice())
     }
 
     /// How many sites are known.
     pub fn known(&self) -> usize
-        ensures count { result ≡ count_by is_some self.now.rows }
-        ensures bound { result ≤ length self.now.rows }
+        ensures { result ≡ count_by (λ row. is_some row) self.now.rows }
     {
-        self.rows
-            .as_slice()
-            .iter()
-            .filter(|row| row.is_some())
-            .count()
+        count_known(self.rows.as_slice())
     }
 
     /// Whether a request is awaited.
@@ -49,6 +39,30 @@ impl Run {
     {
         self.rows.as_slice().iter().all(|row| is_blank(row))
     }
+}
+
+fn count_out(marks: &[Mark]) -> usize
+    ensures { result ≡ count_by (λ mark. mark.out) marks.now }
+{
+    let mut count = 0;
+    for mark in marks {
+        if mark.out {
+            count += 1;
+        }
+    }
+    count
+}
+
+fn count_known(rows: &[Option<Row>]) -> usize
+    ensures { result ≡ count_by (λ row. is_some row) rows.now }
+{
+    let mut count = 0;
+    for row in rows {
+        if row.is_some() {
+            count += 1;
+        }
+    }
+    count
 }
 
 fn is_blank(row: &Option<Row>) -> bool
