@@ -1,6 +1,6 @@
 -- The value that a coordinator of a classic ballot may propose, from the votes of a quorum's promises.
 -- (Lamport 2006, "Fast Paxos", section 2.2, "the coordinator's rule".)
-use Rattle.std.specs.Prelude.{ℕ, ◌+◌, ◌<◌, Bool, true, false, ◌≡◌, nat_le, ◌==◌, not, ◌&&◌, if◌then◌else◌, List, [], ◌∷◌, length, Option, Some, None, count_by, position}
+use Rattle.std.specs.Prelude.{ℕ, ◌+◌, ◌<◌, Bool, true, false, ◌≡◌, nat_le, ◌==◌, ◌&&◌, if◌then◌else◌, List, [], ◌∷◌, length, Option, Some, None, count_by, position}
 use Rattle.gz_core.specs.Names.{Name, BallotAt, fast, same_ballot}
 use Rattle.gz_pick.specs.Evidences.{is_for, is_in, higher}
 use Rattle.gz_pick.specs.declared.heard.Heard.{Heard}

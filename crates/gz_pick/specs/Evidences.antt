@@ -1,6 +1,6 @@
 -- When known rows show that a value is chosen at a version, and which site's row shows it first.
 -- (Lamport 2006, "Fast Paxos", section 2.2: a value is chosen where a quorum of its ballot votes for it.)
-use Rattle.std.specs.Prelude.{ℕ, ◌≤◌, Bool, false, ◌&&◌, nat_le, not, is_some, if◌then◌else◌, ◌⊎◌, List, [], ◌∷◌, Option, Some, None, slice_get, count_by, position}
+use Rattle.std.specs.Prelude.{ℕ, ◌≤◌, Bool, false, ◌&&◌, nat_le, is_some, if◌then◌else◌, ◌⊎◌, List, [], ◌∷◌, Option, Some, None, slice_get, count_by, position}
 use Rattle.gz_core.specs.Names.{Name, BallotAt, fast, is_below, same_ballot, same_name}
 use Rattle.gz_core.specs.Counts.{count_sites}
 use Rattle.gz_core.specs.Configurations.{need}
@@ -57,11 +57,15 @@ is_in b (Some vote) = same_ballot vote.0 b
 abbrev pub shows_in : ℕ → ℕ → List (Option RowAt) → ℕ → BallotAt → Option RowAt → Bool
 shows_in qc qf rows v b row = is_in b (vote_of row v) && is_chosen qc qf rows v (vote_of row v)
 
+-- the higher of a ballot, where there is one, and another
+abbrev pub higher_ballot : Option BallotAt → BallotAt → BallotAt
+higher_ballot None b = b
+higher_ballot (Some top) b = if is_below top b then b else top
+
 -- the higher of a ballot, where there is one, and a vote's
 abbrev pub higher : Option BallotAt → Option (BallotAt × Name) → Option BallotAt
 higher top None = top
-higher None (Some vote) = Some vote.0
-higher (Some top) (Some vote) = if is_below top vote.0 then Some vote.0 else Some top
+higher top (Some vote) = Some (higher_ballot top vote.0)
 
 -- the highest ballot of these votes that pass a test
 abbrev pub top_ballot : (Option (BallotAt × Name) → Bool) → List (Option (BallotAt × Name)) → Option BallotAt

@@ -7,6 +7,7 @@ pub mod evidences;
 pub mod heard;
 pub mod looks;
 pub mod tops;
+mod votes;
 
 pub use choices::pick;
 pub use evidences::evidence;

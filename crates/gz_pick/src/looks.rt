@@ -1,5 +1,5 @@
 //! What one row shows of a version.
-ghost use Rattle.std.specs.Prelude.{◌≡◌};
+ghost use Rattle.std.specs.Prelude.{◌≡◌, Some, max};
 ghost use Rattle.gz_pick.specs.Looks.{row_vote, row_decision, row_name, row_top, cast_of, column_vote, column_decision, column_name, top_in, shows_value};
 
 use gz_core::{Ballot, Column, PutName, Row, Version, Vote};
@@ -40,11 +40,18 @@ pub fn top_of(row: &Row) -> Version
 {
     let mut top = Version::none();
     for (version, column) in row.columns() {
-        if has_value(column) && *version > top {
-            top = *version;
+        if has_value(column) {
+            top = later_of(top, *version);
         }
     }
     top
+}
+
+/// The greater of two versions.
+pub fn later_of(a: Version, b: Version) -> Version
+    ensures { result ≡ max a b }
+{
+    if a < b { b } else { a }
 }
 
 fn column_vote_of(column: &Column) -> Option<(Ballot, PutName)>

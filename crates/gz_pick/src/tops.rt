@@ -2,7 +2,7 @@
 ghost use Rattle.std.specs.Prelude.{◌≡◌};
 ghost use Rattle.gz_pick.specs.Looks.{highest_of};
 
-use crate::looks::top_of;
+use crate::looks::{later_of, top_of};
 use gz_core::{Row, Version};
 
 /// The greatest version for which a row has a vote or a decision, 0 where there is none: a promise alone does
@@ -13,7 +13,7 @@ pub fn highest(rows: &[Option<Row>]) -> Version
     let mut top = Version::none();
     for row in rows {
         if let Some(row) = row {
-            top = top.max(top_of(row));
+            top = later_of(top, top_of(row));
         }
     }
     top
