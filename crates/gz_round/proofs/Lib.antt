@@ -1,3 +1,5 @@
 pub mod Lists
 pub mod Moments
 pub mod Heard
+pub mod Columns
+pub mod Known

@@ -12,3 +12,4 @@ pub mod Asking
 pub mod Standing
 pub mod Following
 pub mod Evidence
+pub mod Acting

@@ -1,18 +1,18 @@
 //! All that a call does at an event, once what came was noted.
 ghost use Rattle.std.specs.Prelude.{◌≡◌, ◌≤◌, ◌<◌, ◌+◌, ◌^◌, ℕ, List, [], length, Some, slice_get, IfOk, MatchOption};
 ghost use Rattle.gz_core.specs.Rows.{RowAt};
-ghost use Rattle.gz_core.specs.Names.{Name};
 ghost use Rattle.gz_core.specs.Configurations.{IsConfig};
 ghost use Rattle.gz_round.specs.History.{Moment, Caller, Tale, sent_from};
 ghost use Rattle.gz_round.specs.Standing.{Stands, IsKept};
 ghost use Rattle.gz_round.specs.Counting.{IsGoing};
-ghost use Rattle.gz_round.specs.Causes.{HasCause};
-ghost use Rattle.gz_round.specs.Acting.{IsPlain, Acts, CanAct, CanClose, CanFinish, Finishes, IsAnswerOf, stage_step, working_version};
+ghost use Rattle.std.specs.Option.{option_copied};
+ghost use Rattle.gz_round.specs.Causes.{HasCause, row_value, column_value, vote_value};
+ghost use Rattle.gz_round.specs.Acting.{IsPlain, Acts, CanAct, CanFinish, Finishes, IsPut, IsPutAt, IsKnownPut, IsAnswerFor, IsAnswerOf, stage_step, vote_for, notice_for, working_version};
 ghost use Rattle.gz_round.specs.Following.{Ready, IsReady, Turned};
 
 use crate::run::{Run, Stage};
 use crate::following::Next;
-use gz_core::{Answer, Config, Items, Phase, Row, RowStep, SiteId, Turn, UnsureWhy, Value, Version};
+use gz_core::{Answer, Column, Config, Items, Row, RowStep, SiteId, Turn, UnsureWhy, Value, Version, Vote};
 use gz_pick::highest;
 use std::alloc::{AllocError, Global};
 
@@ -131,13 +131,26 @@ impl Run {
 
     /// The vote for the call's own value, if it has one.
     fn vote(&self, version: Version) -> Result<Option<RowStep>, AllocError>
-        ensures { IfOk result (λ step. (stage_is : self.now.stage ≡ Stage.Fast version) → step ≡ stage_step self.now) }
+        ensures { IfOk result (λ step. step ≡ vote_for version self.now.own) }
     {
         match &self.own {
             None => Ok(None),
             Some(value) => {
                 let value = value.clone()?;
                 Ok(Some(RowStep::FastVote { version, value }))
+            },
+        }
+    }
+
+    /// The notice that the call's own value is chosen, if it has one.
+    fn notice(&self, version: Version) -> Result<Option<RowStep>, AllocError>
+        ensures { IfOk result (λ step. step ≡ notice_for version self.now.own) }
+    {
+        match &self.own {
+            None => Ok(None),
+            Some(value) => {
+                let value = value.clone()?;
+                Ok(Some(RowStep::Decide { version, value }))
             },
         }
     }
@@ -195,5 +208,74 @@ impl Run {
             send,
             answer: Some(Answer::Ok { version }),
         })
+    }
+
+    /// The answer of a call that has learnt the value of a version, which the row of this site has.
+    fn told(&self, version: Version, site: SiteId) -> Result<Answer, AllocError>
+        requires site { site < length self.now.rows }
+        requires known { IsKnownPut self.now site version }
+        ensures { IfOk result (λ answer. (row : RowAt) → slice_get self.now.rows site ≡ Some (Some row) → IsAnswerOf row version answer) }
+    {
+        match self.rows.at(site.index()) {
+            None => unreachable!(),
+            Some(row) => bytes_of(row, version),
+        }
+    }
+}
+
+/// The answer with the value that a row has at a version.
+fn bytes_of(row: &Row, version: Version) -> Result<Answer, AllocError>
+    requires { IsPutAt row.now version }
+    ensures { IfOk result (λ answer. IsAnswerOf row.now version answer) }
+{
+    match value_at(row, version) {
+        None => unreachable!(),
+        Some(value) => put_answer(value, version),
+    }
+}
+
+fn put_answer(value: &Value, version: Version) -> Result<Answer, AllocError>
+    requires { IsPut value.now }
+    ensures { IfOk result (λ answer. IsAnswerFor value.now version answer) }
+{
+    match value {
+        Value::Tomb { .. } => unreachable!(),
+        Value::Put(put) => {
+            let name = put.name;
+            let bytes = put.bytes.clone()?;
+            Ok(Answer::Bytes {
+                version,
+                name,
+                bytes,
+            })
+        },
+    }
+}
+
+/// The value that a row has at a version, of a vote or a decision.
+fn value_at(row: &Row, version: Version) -> Option<&Value>
+    ensures { option_copied result ≡ row_value row.now version }
+{
+    match row.column(version) {
+        None => None,
+        Some(column) => value_in(column),
+    }
+}
+
+fn value_in(column: &Column) -> Option<&Value>
+    ensures { option_copied result ≡ column_value (Some column.now) }
+{
+    match column {
+        Column::Decided { value } => Some(value),
+        Column::Open { vote, .. } => value_of(vote),
+    }
+}
+
+fn value_of(vote: &Option<Vote>) -> Option<&Value>
+    ensures { option_copied result ≡ vote_value vote.now }
+{
+    match vote {
+        None => None,
+        Some(vote) => Some(&vote.value),
     }
 }

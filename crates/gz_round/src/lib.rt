@@ -1,11 +1,13 @@
 //! One phase of a call: what it asks of the sites, what it is told, and when it reaches its goal.
 #![tactic(auto)]
 
+mod acting;
 pub mod asking;
 pub mod counts;
 pub mod following;
 pub mod hearing;
 pub mod making;
+mod passing;
 pub mod run;
 
 pub use following::Next;
