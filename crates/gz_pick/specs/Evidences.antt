@@ -1,11 +1,11 @@
 -- When known rows show that a value is chosen at a version, and which site's row shows it first.
 -- (Lamport 2006, "Fast Paxos", section 2.2: a value is chosen where a quorum of its ballot votes for it.)
-use Rattle.std.specs.Prelude.{ℕ, ◌≤◌, Bool, false, ◌&&◌, nat_le, is_some, if◌then◌else◌, ◌⊎◌, List, [], ◌∷◌, Option, Some, None, slice_get, count_by, position}
+use Rattle.std.specs.Prelude.{ℕ, ◌≡◌, ◌≤◌, Bool, false, ◌&&◌, nat_le, is_some, if◌then◌else◌, ◌⊎◌, List, [], ◌∷◌, Option, Some, None, slice_get, count_by, position}
 use Rattle.gz_core.specs.Names.{Name, BallotAt, fast, is_below, same_ballot, same_name}
 use Rattle.gz_core.specs.Counts.{count_sites}
 use Rattle.gz_core.specs.Configurations.{need}
 use Rattle.gz_core.specs.Rows.{RowAt}
-use Rattle.gz_pick.specs.Looks.{row_vote, row_decision}
+use Rattle.gz_pick.specs.Looks.{row_vote, row_decision, row_name}
 
 -- the vote at a version of a row that may be unknown
 abbrev pub vote_of : Option RowAt → ℕ → Option (BallotAt × Name)
@@ -108,3 +108,9 @@ abbrev pub IsEvident : ℕ → ℕ → ℕ → (ℕ → Option RowAt) → ℕ �
 IsEvident n qc qf rows v x =
     ((b : BallotAt) × (need qc qf b ≤ count_sites n (λ s. votes_for b x v (rows s))))
     ⊎ (1 ≤ count_sites n (λ s. decides x v (rows s)))
+
+-- what the rows show: the site's row names a value that is known to be chosen, and without a site none is
+abbrev pub IsEvidence : ℕ → ℕ → ℕ → List (Option RowAt) → ℕ → Option ℕ → Type 0
+IsEvidence n qc qf rows v None = (x : Name) → IsEvident n qc qf (row_at rows) v x → ⊥
+IsEvidence n qc qf rows v (Some s) =
+    (row : RowAt) × (x : Name) × (row_at rows s ≡ Some row) × (row_name row v ≡ Some x) × IsEvident n qc qf (row_at rows) v x

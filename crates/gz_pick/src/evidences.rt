@@ -2,7 +2,7 @@
 ghost use Rattle.std.specs.Prelude.{◌≡◌, ◌<◌, length, position, IfSome};
 ghost use Rattle.gz_core.specs.Names.{fast};
 ghost use Rattle.gz_core.specs.Configurations.{IsConfig, need};
-ghost use Rattle.gz_pick.specs.Evidences.{evidence_of, has_decided, first_in, shows_in, is_chosen, top_ballot, votes_at, or_else};
+ghost use Rattle.gz_pick.specs.Evidences.{evidence_of, has_decided, first_in, shows_in, is_chosen, top_ballot, votes_at, or_else, IsEvidence};
 
 use crate::votes::{count_votes, is_cast_in, is_decided, raise, vote_of_row};
 use gz_core::{Ballot, Config, PutName, Row, SiteId, Version};
@@ -14,7 +14,8 @@ use gz_core::{Ballot, Config, PutName, Row, SiteId, Version};
 pub fn evidence(config: &Config, rows: &[Option<Row>], v: Version) -> Option<SiteId>
     requires config { IsConfig config.now }
     requires rows { length rows.now ≡ config.now.n }
-    ensures { result ≡ evidence_of config.now.qc config.now.qf rows.now v }
+    ensures exact { result ≡ evidence_of config.now.qc config.now.qf rows.now v }
+    ensures shows { IsEvidence config.now.n config.now.qc config.now.qf rows.now v result }
 {
     match evident_place(config, rows, v) {
         None => None,
