@@ -6,3 +6,4 @@ pub mod Known
 pub mod Guards
 pub mod Sends
 pub mod Serves
+pub mod Follows

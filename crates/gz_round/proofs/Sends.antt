@@ -41,7 +41,7 @@ done_means (Below promised) made row e = absurd (none-some row e)
 done_means Settled made row e = absurd (none-some row e)
 done_means (Trimmed floor) made row e = absurd (none-some row e)
 
-undone_means : (answer : Step) (made : RowAt) → if_done answer made ≡ None → answer ≢ Done
+pub undone_means : (answer : Step) (made : RowAt) → if_done answer made ≡ None → answer ≢ Done
 undone_means Done made e h = absurd (none-some made (sym e))
 undone_means Already made e h = cc
 undone_means (Below promised) made e h = cc
@@ -103,7 +103,7 @@ pub kind_of : (run : Run) (at : ℕ) (mark : Mark) (step : Option RowStep) (row 
 kind_of run at mark step row out (reads e why) = record { writes = λ (made : RowStep) (h : of_step (λ s. Some s) out.op ≡ Some made). absurd (none-some made (sym (ap (λ o. of_step (λ s. Some s) o.op) e) ∙ h)) }
 kind_of run at mark step row out (writes made before new s r same made_is e) = record { writes = λ (other : RowStep) (h : of_step (λ s. Some s) out.op ≡ Some other). s ∙ ap (λ z. Some z) (same_Some made other (sym (ap (λ o. of_step (λ s. Some s) o.op) e) ∙ h)) }
 
-etag_last : (o : Option Seen) (seen : Seen) → o ≡ Some seen → o ≡ Some (record { etag = etag_seen o; row = seen.row })
+pub etag_last : (o : Option Seen) (seen : Seen) → o ≡ Some seen → o ≡ Some (record { etag = etag_seen o; row = seen.row })
 etag_last o seen e = subst (λ (p : Option Seen). p ≡ Some (record { etag = etag_seen p; row = seen.row })) (sym e) refl
 
 kind_asks : (c : Config) (w : Caller) (past : List Tale) (run : Run) (ms : List Moment) (at : ℕ) (step : Option RowStep) (out : Out) → run.key ≡ key_of w.call → MayMakeOf c w past ms step →

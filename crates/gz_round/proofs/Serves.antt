@@ -91,12 +91,12 @@ served_some w run ms at number step out key (writes made before new s r same mad
         let op_is : out.op ≡ WriteRow (key_of w.call) last.0.etag made (made_by made last.0.row) =
           ap (λ o. o.op) e ∙ write_same made run.key (key_of w.call) (etag_seen (site_now ms at).row) last.0.etag new (made_by made last.0.row) key (sym last.3) (made_is.1 ∙ ap (made_by made) (sym last.2)) in
         (last.0, ap (λ n. n.row) stays ∙ last.1, ap (λ n. n.changed) stays ∙ same,
-          subst (IsSettledBy w (Sent (asked_of number out) ∷ ms) at last.0) (sym s) (λ (done : answer_of made last.0.row ≡ Done). (n, number, inl (notice_sent number out at (key_of w.call) last.0.etag made (made_by made last.0.row) here op_is (ap (λ o. o.awaited) e ∙ ap not n))))))
+          subst (IsSettledBy w (Sent (asked_of number out) ∷ ms) at last.0) (sym s) (λ (done : answer_of made last.0.row ≡ Done). (n, (number, inl (notice_sent number out at (key_of w.call) last.0.etag made (made_by made last.0.row) here op_is (ap (λ o. o.awaited) e ∙ ap not n)))))))
     ]
 
 settled_more : (w : Caller) (m : Moment) (ms : List Moment) (s : ℕ) (seen : Seen) (step : Option RowStep) → IsSettledBy w ms s seen step → IsSettledBy w (m ∷ ms) s seen step
 settled_more w m ms s seen None h = tt
-settled_more w m ms s seen (Some step) h = λ (done : answer_of step seen.row ≡ Done). let k = h done in (k.0, k.1.0, inr k.1.1)
+settled_more w m ms s seen (Some step) h = λ (done : answer_of step seen.row ≡ Done). let k = h done in (k.0, (k.1.0, inr k.1.1))
 
 -- a request to one site leaves the others served
 pub served_other : (w : Caller) (ms : List Moment) (a : Asked) (s : ℕ) (step : Option RowStep) → s ≢ a.site → IsServed w ms step s → IsServed w (Sent a ∷ ms) step s

@@ -21,7 +21,7 @@ use Rattle.gz_round.specs.declared.hearing.Seen.{Seen}
 use Rattle.gz_round.specs.History.{Asked, Moment, Sent, Caller, Tale, sent_from}
 use Rattle.gz_round.specs.Sites.{SiteNow, site_now}
 use Rattle.gz_round.specs.Sent.{met, voted}
-use Rattle.gz_round.specs.Shown.{IsShown, IsCurrent, IsClear}
+use Rattle.gz_round.specs.Shown.{heard_at, IsShown, IsCurrent, IsClear}
 use Rattle.gz_round.specs.Sending.{MayMake, MayFastVote, AreAllowed, answer_of, made_by}
 use Rattle.gz_round.specs.Counting.{known_count, HasNotice, IsGoing}
 use Rattle.gz_round.specs.Causes.{HasCause, IsAbsent, IsValueHeard, is_blank, rows_known}
@@ -56,6 +56,18 @@ pub record MayPass (c : Config) (w : Caller) (ms : List Moment) (v : ℕ) : Type
   pub current : IsCurrent c ms v
   pub clear : IsClear c w.name ms v
   pub own : (x : Value) × (own_value w.name w.call ≡ Some x)
+
+-- the object was never written, as the known rows of a classic quorum show, and the call hasn't voted
+pub record IsFirst (c : Config) (w : Caller) (ms : List Moment) : Type 0 where
+  pub blank : c.qc ≤ heard_at c is_blank ms
+  pub unvoted : voted w.name ms ≡ false
+  pub none : NoEvidence c ms 1
+
+-- nothing above the version has begun, and the call hasn't voted
+pub record IsLatest (c : Config) (w : Caller) (ms : List Moment) (v : ℕ) : Type 0 where
+  pub above : 1 ≤ v
+  pub current : IsCurrent c ms v
+  pub unvoted : voted w.name ms ≡ false
 
 -- the phase's goal isn't reached
 abbrev pub IsUnmet : Config → Run → Stage → List Moment → Type 0

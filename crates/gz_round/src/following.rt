@@ -4,7 +4,8 @@ ghost use Rattle.gz_core.specs.Rows.{RowAt};
 ghost use Rattle.gz_pick.specs.Looks.{row_name};
 ghost use Rattle.gz_core.specs.Configurations.{IsConfig};
 ghost use Rattle.gz_round.specs.History.{Moment, Caller, Tale};
-ghost use Rattle.gz_round.specs.Following.{IsReady, Ready, NextMeans, MayPass};
+ghost use Rattle.gz_round.specs.Following.{IsReady, Ready, NextMeans, MayPass, IsFirst, IsLatest};
+ghost use Rattle.gz_core.specs.declared.configuration.Config.{Config};
 ghost use Rattle.gz_round.specs.Evidence.{NoneEvident, EvidentAt};
 ghost use Rattle.gz_round.specs.Standing.{Stands, IsKept};
 
@@ -61,7 +62,9 @@ impl Run {
     }
 
     /// An object that was never written is voted for at its first version, or is absent.
-    fn begin_first(&self) -> Next {
+    fn begin_first(&self) -> Next
+        ensures { (c : Config) (w : Caller) (past : List Tale) (ms : List Moment) → Stands c w past self.now ms → IsFirst c w ms → NextMeans c w self.now ms result }
+    {
         if self.own.is_some() {
             Next::Vote {
                 version: Version(1),
@@ -76,6 +79,8 @@ impl Run {
         requires config { IsConfig config.now }
         requires kept { IsKept config.now self.now }
         requires evident { EvidentAt config.now self.now.rows version site }
+        ensures { (w : Caller) (past : List Tale) (ms : List Moment) → Stands config.now w past self.now ms → IsLatest config.now w ms version
+            → NextMeans config.now w self.now ms result }
     {
         if self.own.is_some() {
             self.pass(config, version, site)
