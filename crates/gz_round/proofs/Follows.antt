@@ -156,3 +156,70 @@ topless_highest (Some row ∷ rows) e =
 -- where some row shows a value, the highest version is one
 pub highest_positive : (rows : List (Option RowAt)) → list_all is_topless rows ≡ false → 1 ≤ highest_of rows
 highest_positive rows h = elim (cases_eq (highest_of rows) 0) [ inl e ↦ absurd (both_ways (list_all is_topless rows) h (topless_highest rows e)) | inr n ↦ omega arith ]
+
+some_row : (o : Option RowAt) → is_some o ≡ true → (row : RowAt) × (o ≡ Some row)
+some_row None h = absurd (false≢true h)
+some_row (Some row) h = (row, refl)
+
+own_some : (o : Option Value) → is_some o ≡ true → (x : Value) × (o ≡ Some x)
+own_some None h = absurd (false≢true h)
+own_some (Some x) h = (x, refl)
+
+own_none : (o : Option Value) → is_some o ≡ false → o ≡ None
+own_none None h = refl
+own_none (Some x) h = absurd (true≢false h)
+
+-- the call writes a value
+pub own_of : (c : Config) (w : Caller) (past : List Tale) (run : Run) (ms : List Moment) → Stands c w past run ms → is_some run.own ≡ true → (x : Value) × (own_value w.name w.call ≡ Some x)
+own_of c w past run ms h some = let k = own_some run.own some in (k.0, sym h.own_is ∙ k.1)
+
+-- it writes none
+pub no_own : (c : Config) (w : Caller) (past : List Tale) (run : Run) (ms : List Moment) → Stands c w past run ms → is_some run.own ≡ false → own_value w.name w.call ≡ None
+no_own c w past run ms h none = sym h.own_is ∙ own_none run.own none
+
+-- an object that was never written is voted for at its first version
+pub first_means : (c : Config) (w : Caller) (past : List Tale) (run : Run) (ms : List Moment) → Stands c w past run ms → IsFirst c w ms → is_some run.own ≡ true → NextMeans c w run ms (VoteAt 1)
+first_means c w past run ms h f some =
+    let low : heard_at c is_blank ms ≤ heard_at c (λ r. leb (row_top r) 1) ms = heard_weaker c is_blank (λ r. leb (row_top r) 1) ms (λ (r : RowAt) (k : is_blank r ≡ true). let top : row_top r ≡ 0 = eqb-true (row_top r) 0 (and_parts (row_top r == 0) (r.floor == 0) k).0 in le-leb (row_top r) 1 (omega arith)) in
+    (record { above = omega arith; current = omega (arith, f.blank, low); next = inl refl; clear = unvoted_clear c w.name ms 1 f.unvoted }, f.none, own_of c w past run ms h some)
+
+-- the known rows of a classic quorum show nothing
+pub first_from : (c : Config) (w : Caller) (past : List Tale) (run : Run) (ms : List Moment) → IsConfig c → Stands c w past run ms → voted w.name ms ≡ false → list_all is_blank_known run.rows ≡ true → list_all is_topless run.rows ≡ true → c.qc ≤ known_count c ms → IsFirst c w ms
+first_from c w past run ms config h unvoted blank topless enough =
+    let counted : known_count c ms ≤ heard_at c is_blank ms = counted_heard c is_blank (λ s. is_some (rows_known ms s)) ms (λ (s : ℕ) (l : s < c.n) (k : is_some (rows_known ms s) ≡ true).
+        let w = some_row (rows_known ms s) k in
+        let listed : slice_get run.rows s ≡ Some (Some w.0) = h.knows.rows s l ∙ ap (λ o. Some o) w.1 in
+        (w.0, known_heard ms s w.0 w.1, all_at is_blank_known run.rows s (Some w.0) blank listed)) in
+    record {
+      blank = omega arith;
+      unvoted = unvoted;
+      none = none_above c ms 1 config (λ (s : ℕ) (row : RowAt) (l : s < c.n) (e : rows_known ms s ≡ Some row).
+        let listed : slice_get run.rows s ≡ Some (Some row) = h.knows.rows s l ∙ ap (λ o. Some o) e in
+        let top : row_top row ≡ 0 = eqb-true (row_top row) 0 (all_at is_topless run.rows s (Some row) topless listed) in
+        omega arith)
+    }
+
+-- the highest version that the known rows of a classic quorum show
+pub latest_from : (c : Config) (w : Caller) (past : List Tale) (run : Run) (ms : List Moment) → Stands c w past run ms → voted w.name ms ≡ false → list_all is_topless run.rows ≡ false → c.qc ≤ known_count c ms → IsLatest c w ms (highest_of run.rows)
+latest_from c w past run ms h unvoted shown enough = record {
+  above = highest_positive run.rows shown;
+  current = known_current c run ms h.knows (highest_of run.rows) enough (λ (s : ℕ) (row : RowAt) (e : slice_get run.rows s ≡ Some (Some row)). top_highest run.rows s row e);
+  unvoted = unvoted
+}
+
+-- a put goes on from the latest version
+pub latest_pass : (c : Config) (w : Caller) (past : List Tale) (run : Run) (ms : List Moment) (v : ℕ) → Stands c w past run ms → IsLatest c w ms v → is_some run.own ≡ true → MayPass c w ms v
+latest_pass c w past run ms v h l some = record { above = l.above; current = l.current; clear = unvoted_clear c w.name ms v l.unvoted; own = own_of c w past run ms h some }
+
+-- a get has learnt its value
+pub found_means : (c : Config) (w : Caller) (past : List Tale) (run : Run) (ms : List Moment) (v s : ℕ) → Stands c w past run ms → IsLatest c w ms v → EvidentAt c run.rows v s → is_some run.own ≡ false → IsFound c w run ms v s
+found_means c w past run ms v s h l e none = record {
+  reads = no_own c w past run ms h none;
+  current = l.current;
+  name = e.name;
+  shown = listed_shown c run ms h.knows v e.name e.evident;
+  inside = e.inside;
+  row = e.row;
+  known = e.known;
+  named = e.named
+}

@@ -7,3 +7,5 @@ pub mod Guards
 pub mod Sends
 pub mod Serves
 pub mod Follows
+pub mod Endings
+pub mod Passes

@@ -1,11 +1,13 @@
 -- What a call does at an event, once what came was noted.
-use Rattle.std.specs.Prelude.{ℕ, ◌≡◌, ◌≤◌, Bool, List, Option, Some, None, slice_get}
+use Rattle.std.specs.Prelude.{ℕ, ◌≡◌, ◌≤◌, Bool, List, if◌then◌else◌, Option, Some, None, is_some, slice_get}
 use Rattle.gz_core.specs.Calls.{own_value}
 use Rattle.gz_core.specs.Rows.{RowAt}
 use Rattle.gz_core.specs.declared.values.Value.{Value}
 use Rattle.gz_core.specs.declared.values.Value.TheVariants.{Tomb, Put}
 use Rattle.gz_core.specs.declared.calls.Answer.{Answer}
 use Rattle.gz_core.specs.declared.calls.Answer.TheVariants.{Ok, Bytes, Absent, NoQuorum, Contended, Unsure, Unsettled}
+use Rattle.std.specs.List.{count_by}
+use Rattle.gz_core.specs.declared.calls.UnsureWhy.TheVariants.{NoQuorum as UnsureNoQuorum, Contended as UnsureContended}
 use Rattle.gz_core.specs.declared.configuration.Config.{Config}
 use Rattle.gz_core.specs.declared.requests.RowStep.{RowStep}
 use Rattle.gz_core.specs.declared.requests.RowStep.TheVariants.{FastVote, Promise, ClassicVote, Decide, Trim}
@@ -97,3 +99,11 @@ IsAnswerFor (Put put) v answer = answer ≡ Bytes v put.name put.bytes
 
 abbrev pub IsAnswerOf : RowAt → ℕ → Answer → Type 0
 IsAnswerOf row v answer = (x : Value) × (row_value row v ≡ Some x) × IsAnswerFor x v answer
+
+-- the answer of a call that was overtaken too often
+abbrev pub contended_of : Run → Answer
+contended_of run = if run.voted then Unsure (UnsureContended run.met) else Contended run.met
+
+-- the answer of a call with too few sites left
+abbrev pub cut_off_of : Run → Answer
+cut_off_of run = if run.voted then Unsure (UnsureNoQuorum run.wrote (count_by (λ row. is_some row) run.rows)) else NoQuorum run.wrote (count_by (λ row. is_some row) run.rows)

@@ -7,12 +7,12 @@ ghost use Rattle.gz_round.specs.Standing.{Stands, IsKept};
 ghost use Rattle.gz_round.specs.Counting.{IsGoing};
 ghost use Rattle.std.specs.Option.{option_copied};
 ghost use Rattle.gz_round.specs.Causes.{HasCause, row_value, column_value, vote_value};
-ghost use Rattle.gz_round.specs.Acting.{IsPlain, Acts, CanAct, CanFinish, Finishes, IsPut, IsPutAt, IsKnownPut, IsAnswerFor, IsAnswerOf, stage_step, vote_for, notice_for, working_version};
+ghost use Rattle.gz_round.specs.Acting.{IsPlain, Acts, CanAct, contended_of, cut_off_of, CanFinish, Finishes, IsPut, IsPutAt, IsKnownPut, IsAnswerFor, IsAnswerOf, stage_step, vote_for, notice_for, working_version};
 ghost use Rattle.gz_round.specs.Following.{Ready, IsReady, Turned};
 
 use crate::run::{Run, Stage};
 use crate::following::Next;
-use gz_core::{Answer, Column, Config, Items, Row, RowStep, SiteId, Turn, UnsureWhy, Value, Version, Vote};
+use gz_core::{Answer, Column, Config, Row, RowStep, SiteId, Turn, UnsureWhy, Value, Version, Vote};
 use gz_pick::highest;
 use std::alloc::{AllocError, Global};
 
@@ -48,7 +48,9 @@ impl Run {
     }
 
     /// The answer of a call that was overtaken too often.
-    fn contended(&self) -> Answer {
+    fn contended(&self) -> Answer
+        ensures { result ≡ contended_of self.now }
+    {
         let met = self.met;
         if self.voted {
             Answer::Unsure {
@@ -62,6 +64,7 @@ impl Run {
     /// The answer of a call with too few sites left.
     fn cut_off(&self) -> Answer
         requires { length self.now.rows ≤ 16 }
+        ensures { result ≡ cut_off_of self.now }
     {
         let phase = self.wrote;
         let heard = self.known() as u32;
@@ -106,9 +109,8 @@ impl Run {
         ensures { IfOk result (λ turn. (w : Caller) (past : List Tale) (ms : List Moment) → Acts config.now w past self.old ms
             → Turned config.now w past self.new (sent_from first turn.send ms) turn.answer) }
     {
-        let mut send = Items::new(alloc);
         let step = self.step()?;
-        self.ask_all(config, &step, first, &mut send)?;
+        let send = self.first_pass(alloc, config, &step, first)?;
         let answer = if self.waits() {
             None
         } else {
@@ -179,8 +181,7 @@ impl Run {
         ensures { IfOk result (λ turn. (w : Caller) (past : List Tale) (ms : List Moment) → Stands config.now w past self.old ms
             → HasCause config.now w ms answer × IsPlain answer → Turned config.now w past self.new (sent_from first turn.send ms) turn.answer) }
     {
-        let mut send = Items::new(alloc);
-        self.ask_all(config, &None, first, &mut send)?;
+        let send = self.first_pass(alloc, config, &None, first)?;
         Ok(Turn {
             send,
             answer: Some(answer),
@@ -201,9 +202,8 @@ impl Run {
         ensures { IfOk result (λ turn. (w : Caller) (past : List Tale) (ms : List Moment) → Finishes config.now w past self.old ms version
             → Turned config.now w past self.new (sent_from first turn.send ms) turn.answer) }
     {
-        let mut send = Items::new(alloc);
         let step = self.notice(version)?;
-        self.ask_all(config, &step, first, &mut send)?;
+        let send = self.first_pass(alloc, config, &step, first)?;
         Ok(Turn {
             send,
             answer: Some(Answer::Ok { version }),

@@ -1,5 +1,5 @@
 //! One pass over the sites: each is asked for all that it may be asked for.
-ghost use Rattle.std.specs.Prelude.{◌≡◌, ◌≤◌, ◌<◌, ◌+◌, ◌^◌, ℕ, List, length, OnOk};
+ghost use Rattle.std.specs.Prelude.{◌≡◌, ◌≤◌, ◌<◌, ◌+◌, ◌^◌, ℕ, List, [], length, IfOk, OnOk};
 ghost use Rattle.gz_core.specs.Configurations.{IsConfig};
 ghost use Rattle.gz_round.specs.History.{Moment, Caller, Tale, sent_from};
 ghost use Rattle.gz_round.specs.Steps.{IsStepOf};
@@ -8,7 +8,7 @@ ghost use Rattle.gz_round.specs.Following.{Asks, AreServed, CanAsk};
 
 use crate::run::Run;
 use gz_core::{Config, Items, Out, RowStep};
-use std::alloc::AllocError;
+use std::alloc::{AllocError, Global};
 
 impl Run {
     /// Asks a site for all that it may be asked for.
@@ -27,7 +27,6 @@ impl Run {
         requires few { length send.old < 2 ^ 20 }
 
         ensures asked { OnOk result (IsAskedAt self.old at step.now first send.old self.new send.new) }
-        ensures left { OnOk result (IsLeftBy self.old self.new step.now) }
         ensures few { length send.new ≤ length send.old + 1 }
     {
         let Some(out) = self.request(at, step)? else {
@@ -61,5 +60,27 @@ impl Run {
             self.ask(at, step, first, send)?;
         }
         Ok(())
+    }
+
+    /// The requests of a first pass over the sites.
+    pub fn first_pass(
+        &mut self,
+        alloc: Global,
+        config: &Config,
+        step: &Option<RowStep>,
+        first: u32,
+    ) -> Result<Items<Out>, AllocError>
+        requires config { IsConfig config.now }
+        requires step { IsStepOf step.now }
+        requires first { first < 2 ^ 31 }
+        requires asks { CanAsk config.now self.old first [] step.now }
+
+        ensures asked { IfOk result (λ send. (w : Caller) (past : List Tale) (ms : List Moment) → Asks config.now w past self.old ms step.now
+            → Asks config.now w past self.new (sent_from first send ms) step.now × AreServed config.now w (sent_from first send ms) step.now) }
+        ensures left { OnOk result (IsLeftBy self.old self.new step.now) }
+    {
+        let mut send = Items::new(alloc);
+        self.ask_all(config, step, first, &mut send)?;
+        Ok(send)
     }
 }
