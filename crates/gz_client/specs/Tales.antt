@@ -13,6 +13,7 @@ use Rattle.gz_round.specs.Sites.{site_now}
 use Rattle.gz_round.specs.Sending.{AreAllowed}
 use Rattle.gz_round.specs.Counting.{IsGoing}
 use Rattle.gz_round.specs.Causes.{HasCause}
+use Rattle.gz_round.specs.Numbering.{AreNumbered}
 use Rattle.gz_round.specs.Standing.{IsWaiting, Runs}
 use Rattle.gz_client.specs.declared.client.Client.{Client}
 
@@ -42,11 +43,6 @@ AreTold c session (t ∷ ts) = IsTold c ts t × (t.caller.name ≡ record { sess
 abbrev pub AreOver : List Tale → Type 0
 AreOver [] = Unit {0}
 AreOver (t ∷ ts) = ((answer : Answer) × (t.answer ≡ Some answer)) × AreOver ts
-
--- the requests that are awaited have numbers of their own, below the next one
-pub record AreNumbered (c : Config) (ms : List Moment) (next : ℕ) : Type 0 where
-  pub below : (s : ℕ) (a : Asked) → s < c.n → (site_now ms s).awaits ≡ Some a → a.number < next
-  pub apart : (s u : ℕ) (a b : Asked) → s < c.n → u < c.n → (site_now ms s).awaits ≡ Some a → (site_now ms u).awaits ≡ Some b → a.number ≡ b.number → s ≡ u
 
 -- the running call, if there is one, is the newest
 abbrev pub HoldsRun : Config → ℕ → Option Run → List Tale → Type 0
@@ -99,11 +95,6 @@ pub record CanBegin (client : Client) : Type 0 where
 pub record IsSameClient (old new : Client) : Type 0 where
   pub config_is : new.config ≡ old.config
   pub session_is : new.session ≡ old.session
-
--- an object's bytes are within the bound
-abbrev pub IsWithin : Call → Type 0
-IsWithin (Put key bytes) = length bytes ≤ 1048576
-IsWithin (Get key) = Unit {0}
 
 -- the client stands for the same tales, with one more moment of the running call
 abbrev pub Extends : Client → Client → ℕ → ℕ → (Asked → Moment) → Turn → Type 0

@@ -9,3 +9,8 @@ pub mod Serves
 pub mod Follows
 pub mod Endings
 pub mod Passes
+pub mod Turns
+pub mod Arms
+pub mod Replies
+pub mod Starts
+pub mod Numbers

@@ -92,3 +92,10 @@ pub all_at : {A : Type 0} (p : A → Bool) (xs : List A) (s : ℕ) (x : A) → l
 all_at p [] s x h e = absurd (cc)
 all_at p (y ∷ ys) zero x h e = subst (λ z. p z ≡ true) (same_Some y x e) (and_parts (p y) (list_all p ys) h).0
 all_at p (y ∷ ys) (suc s) x h e = all_at p ys s x (and_parts (p y) (list_all p ys) h).1 e
+
+-- one more of the same
+pub each_pushed : {A : Type 0} (xs : List A) (x : A) (n : ℕ) → length xs ≡ n → ((s : ℕ) → s < n → slice_get xs s ≡ Some x) → (s : ℕ) → s < n + 1 → slice_get (xs ++ (x ∷ [])) s ≡ Some x
+each_pushed [] x n len h zero l = refl
+each_pushed [] x n len h (suc s) l = absurd (omega arith)
+each_pushed (y ∷ ys) x n len h zero l = h zero (omega arith)
+each_pushed (y ∷ ys) x n len h (suc s) l = each_pushed ys x (length ys) refl (λ (k : ℕ) (m : k < length ys). h (suc k) (omega arith)) s (omega arith)

@@ -6,7 +6,7 @@ use Rattle.gz_core.specs.declared.values.Value.{Value}
 use Rattle.gz_core.specs.declared.values.Value.TheVariants.{Tomb, Put}
 use Rattle.gz_core.specs.declared.calls.Answer.{Answer}
 use Rattle.gz_core.specs.declared.calls.Answer.TheVariants.{Ok, Bytes, Absent, NoQuorum, Contended, Unsure, Unsettled}
-use Rattle.std.specs.List.{count_by}
+use Rattle.std.specs.List.{count_by, list_any}
 use Rattle.gz_core.specs.declared.calls.UnsureWhy.TheVariants.{NoQuorum as UnsureNoQuorum, Contended as UnsureContended}
 use Rattle.gz_core.specs.declared.configuration.Config.{Config}
 use Rattle.gz_core.specs.declared.requests.RowStep.{RowStep}
@@ -51,6 +51,10 @@ pub record Finishes (c : Config) (w : Caller) (past : List Tale) (run : Run) (ms
 
 abbrev pub CanFinish : Config → Run → ℕ → Type 0
 CanFinish c run v = (w : Caller) × (past : List Tale) × (ms : List Moment) × Finishes c w past run ms v
+
+-- the call can go on
+abbrev pub CanFollow : Config → Run → Type 0
+CanFollow c run = (w : Caller) × (past : List Tale) × (ms : List Moment) × Ready c w past run ms × IsGoing c ms
 
 abbrev pub vote_for : ℕ → Option Value → Option RowStep
 vote_for v None = None
@@ -107,3 +111,7 @@ contended_of run = if run.voted then Unsure (UnsureContended run.met) else Conte
 -- the answer of a call with too few sites left
 abbrev pub cut_off_of : Run → Answer
 cut_off_of run = if run.voted then Unsure (UnsureNoQuorum run.wrote (count_by (λ row. is_some row) run.rows)) else NoQuorum run.wrote (count_by (λ row. is_some row) run.rows)
+
+-- what a pass comes to: where nothing is awaited, the phase has ended without its goal
+abbrev pub outcome_of : Run → Option Answer
+outcome_of run = if list_any (λ mark. is_some mark.awaited) run.marks then None else Some (Unsettled (working_version run))

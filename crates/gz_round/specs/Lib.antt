@@ -13,3 +13,6 @@ pub mod Standing
 pub mod Following
 pub mod Evidence
 pub mod Acting
+pub mod Starting
+pub mod Numbering
+pub mod Awaiting

@@ -7,7 +7,7 @@ ghost use Rattle.gz_round.specs.Standing.{Stands, IsKept};
 ghost use Rattle.gz_round.specs.Counting.{IsGoing};
 ghost use Rattle.std.specs.Option.{option_copied};
 ghost use Rattle.gz_round.specs.Causes.{HasCause, row_value, column_value, vote_value};
-ghost use Rattle.gz_round.specs.Acting.{IsPlain, Acts, CanAct, contended_of, cut_off_of, CanFinish, Finishes, IsPut, IsPutAt, IsKnownPut, IsAnswerFor, IsAnswerOf, stage_step, vote_for, notice_for, working_version};
+ghost use Rattle.gz_round.specs.Acting.{IsPlain, Acts, CanAct, CanFollow, outcome_of, contended_of, cut_off_of, CanFinish, Finishes, IsPut, IsPutAt, IsKnownPut, IsAnswerFor, IsAnswerOf, stage_step, vote_for, notice_for, working_version};
 ghost use Rattle.gz_round.specs.Following.{Ready, IsReady, Turned};
 
 use crate::run::{Run, Stage};
@@ -81,7 +81,7 @@ impl Run {
     fn follow(&mut self, alloc: Global, config: &Config, first: u32) -> Result<Turn, AllocError>
         requires config { IsConfig config.now }
         requires first { first < 2 ^ 31 }
-        requires ready { IsReady config.now self.old }
+        requires follows { CanFollow config.now self.old }
         ensures { IfOk result (λ turn. (w : Caller) (past : List Tale) (ms : List Moment) → Ready config.now w past self.old ms → IsGoing config.now ms
             → Turned config.now w past self.new (sent_from first turn.send ms) turn.answer) }
     {
@@ -111,14 +111,21 @@ impl Run {
     {
         let step = self.step()?;
         let send = self.first_pass(alloc, config, &step, first)?;
-        let answer = if self.waits() {
+        let answer = self.outcome();
+        Ok(Turn { send, answer })
+    }
+
+    /// What a pass comes to: where nothing is awaited, the phase has ended without its goal.
+    fn outcome(&self) -> Option<Answer>
+        ensures { result ≡ outcome_of self.now }
+    {
+        if self.waits() {
             None
         } else {
             Some(Answer::Unsettled {
                 version: self.working(),
             })
-        };
-        Ok(Turn { send, answer })
+        }
     }
 
     /// The step of the phase: none in `Look`, which reads alone.

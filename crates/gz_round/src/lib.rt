@@ -3,12 +3,15 @@
 
 mod acting;
 pub mod asking;
+pub mod awaiting;
 pub mod counts;
 pub mod following;
 pub mod hearing;
 pub mod making;
+mod noting;
 mod passing;
 pub mod run;
+mod starting;
 
 pub use following::Next;
 pub use hearing::Seen;

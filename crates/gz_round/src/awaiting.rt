@@ -1,0 +1,30 @@
+//! Which requests a call awaits.
+ghost use Rattle.std.specs.Prelude.{◌≡◌, ℕ};
+ghost use Rattle.gz_round.specs.Awaiting.{has_number, IsSiteOf};
+
+use crate::run::{Mark, Run};
+
+impl Run {
+    /// The site from which request `n` is awaited.
+    pub fn site_of(&self, n: u32) -> usize
+        requires { (s : ℕ) × IsSiteOf self.now.marks n s }
+        ensures { IsSiteOf self.now.marks n result }
+    {
+        for (at, mark) in self.marks.as_slice().iter().enumerate() {
+            if has_number(mark, n) {
+                return at;
+            }
+        }
+        unreachable!()
+    }
+}
+
+/// Whether request `n` is awaited from a site.
+fn has_number(mark: &Mark, n: u32) -> bool
+    ensures { result ≡ has_number n mark.now }
+{
+    match &mark.awaited {
+        None => false,
+        Some(awaited) => awaited.number == n,
+    }
+}
