@@ -101,3 +101,8 @@ abbrev pub Extends : Client → Client → ℕ → ℕ → (Asked → Moment) �
 Extends old new n first moment turn =
     (next : ℕ) (t : Tale) (ts : List Tale) (a : Asked) → Holds old next (t ∷ ts) → IsAwaited old.config t a n → next ≤ first →
     (closing : List Moment) × IsClosing closing × Holds new (first + length turn.send) (turned first turn (moment a) closing t ∷ ts)
+
+-- a call goes on where it wasn't answered
+abbrev pub going_on : Run → Option Answer → Option Run
+going_on run None = Some run
+going_on run (Some answer) = None

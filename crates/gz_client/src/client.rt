@@ -1,10 +1,11 @@
 //! A session's client.
-ghost use Rattle.std.specs.Prelude.{◌≡◌, ℕ, ◌≤◌, ◌<◌, ◌+◌, ◌^◌, ◌↔◌, List, [], ◌∷◌, length, IsTrue, IfOk, OnErr};
+ghost use Rattle.std.specs.Prelude.{◌≡◌, ℕ, ◌≤◌, ◌<◌, ◌+◌, ◌^◌, ◌↔◌, List, [], ◌∷◌, length, IsTrue, Some, IsSome, IfOk, OnErr};
 ghost use Rattle.gz_core.specs.Configurations.{IsConfig};
 ghost use Rattle.gz_round.specs.History.{Tale, Handed, GaveUp, begun};
-ghost use Rattle.gz_client.specs.Tales.{Holds, CanBegin, CanBeTold, IsSameClient, IsWithin, IsRunning, Extends};
+ghost use Rattle.gz_round.specs.Starting.{IsWithin};
+ghost use Rattle.gz_client.specs.Tales.{Holds, CanBegin, CanBeTold, IsSameClient, IsRunning, Extends, going_on};
 
-use gz_core::{Call, Config, Reply, Session, Turn};
+use gz_core::{Call, Config, PutName, Reply, Session, Turn};
 use gz_round::Run;
 use std::alloc::{AllocError, Global};
 
@@ -44,10 +45,15 @@ impl Client {
         ensures same { IsSameClient self.old self.new }
         ensures err { OnErr result (self.new ≡ self.old) }
     {
-        let _ = alloc;
-        let _ = call;
-        let _ = first;
-        Err(AllocError)
+        let name = PutName {
+            session: self.session,
+            seq: self.calls + 1,
+        };
+        let mut run = Run::start(alloc, &self.config, name, call)?;
+        let turn = run.act(alloc, &self.config, first)?;
+        self.calls += 1;
+        self.run = going_on(run, &turn);
+        Ok(turn)
     }
 
     /// Hands the client a reply of request `n`, which it awaits. What it sends at this goes out under the
@@ -66,11 +72,12 @@ impl Client {
         ensures same { IsSameClient self.old self.new }
         ensures err { OnErr result (self.new ≡ self.old) }
     {
-        let _ = alloc;
-        let _ = n;
-        let _ = answer;
-        let _ = first;
-        Err(AllocError)
+        let mut run = self.copy_run()?;
+        let at = run.site_of(n);
+        run.note_reply(alloc, at, answer)?;
+        let turn = run.act(alloc, &self.config, first)?;
+        self.run = going_on(run, &turn);
+        Ok(turn)
     }
 
     /// Tells the client that request `n`, which it awaits, won't be answered. What it sends at this goes out
@@ -83,10 +90,23 @@ impl Client {
         ensures same { IsSameClient self.old self.new }
         ensures err { OnErr result (self.new ≡ self.old) }
     {
-        let _ = alloc;
-        let _ = n;
-        let _ = first;
-        Err(AllocError)
+        let mut run = self.copy_run()?;
+        let at = run.site_of(n);
+        run.note_give_up(at);
+        let turn = run.act(alloc, &self.config, first)?;
+        self.run = going_on(run, &turn);
+        Ok(turn)
+    }
+
+    /// A copy of the running call.
+    fn copy_run(&self) -> Result<Run, AllocError>
+        requires { IsSome self.now.run }
+        ensures { IfOk result (λ run. self.now.run ≡ Some run) }
+    {
+        match &self.run {
+            None => unreachable!(),
+            Some(run) => run.copy(),
+        }
     }
 
     /// Whether a call runs. Takes no memory.
@@ -94,5 +114,16 @@ impl Client {
         ensures { (next : ℕ) (ts : List Tale) → Holds self.now next ts → (IsTrue result ↔ IsRunning ts) }
     {
         self.run.is_some()
+    }
+}
+
+/// The call that goes on where it wasn't answered.
+fn going_on(run: Run, turn: &Turn) -> Option<Run>
+    ensures { result ≡ going_on run turn.now.answer }
+{
+    if turn.answer.is_some() {
+        None
+    } else {
+        Some(run)
     }
 }

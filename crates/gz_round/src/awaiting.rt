@@ -1,5 +1,5 @@
 //! Which requests a call awaits.
-ghost use Rattle.std.specs.Prelude.{◌≡◌, ℕ};
+ghost use Rattle.std.specs.Prelude.{◌≡◌, ℕ, MatchOption};
 ghost use Rattle.gz_round.specs.Awaiting.{has_number, IsSiteOf};
 
 use crate::run::{Mark, Run};
@@ -10,13 +10,23 @@ impl Run {
         requires { (s : ℕ) × IsSiteOf self.now.marks n s }
         ensures { IsSiteOf self.now.marks n result }
     {
-        for (at, mark) in self.marks.as_slice().iter().enumerate() {
-            if has_number(mark, n) {
-                return at;
-            }
+        match place_of(self.marks.as_slice(), n) {
+            None => unreachable!(),
+            Some(at) => at,
         }
-        unreachable!()
     }
+}
+
+/// The first place at which request `n` is awaited.
+fn place_of(marks: &[Mark], n: u32) -> Option<usize>
+    ensures { MatchOption result ((s : ℕ) → IsSiteOf marks.now n s → ⊥) (λ s. IsSiteOf marks.now n s) }
+{
+    for (at, mark) in marks.iter().enumerate() {
+        if has_number(mark, n) {
+            return Some(at);
+        }
+    }
+    None
 }
 
 /// Whether request `n` is awaited from a site.
