@@ -36,7 +36,7 @@ stands_stage c w past run ms stage h = record {
   voted_is = h.voted_is;
   wrote_is = h.wrote_is;
   sites = h.sites;
-  allowed = h.allowed
+  allowed = h.allowed;
 }
 
 -- the fast ballot of a version begins

@@ -37,16 +37,16 @@ named_top [] v x e = absurd (none-some x e)
 named_top (c ∷ cs) v x e =
     elim (cases_Bool (c.0 == v)) [
       | inl h ↦ (
-        let found : column_in (c ∷ cs) v ≡ Some c.1 = cond-true (c.0 == v) (Some c.1) (column_in cs v) h in
-        let same : c.0 ≡ v = eqb-true c.0 v h in
-        let shown : shows_value c.1 ≡ true = name_shows c.1 x (sym (ap column_name found) ∙ e) in
-        let here : c.0 ≤ top_in (c ∷ cs) = top_here (shows_value c.1) c.0 (top_in cs) shown in
-        omega arith)
+          let found : column_in (c ∷ cs) v ≡ Some c.1 = cond-true (c.0 == v) (Some c.1) (column_in cs v) h in
+          let same : c.0 ≡ v = eqb-true c.0 v h in
+          let shown : shows_value c.1 ≡ true = name_shows c.1 x (sym (ap column_name found) ∙ e) in
+          let here : c.0 ≤ top_in (c ∷ cs) = top_here (shows_value c.1) c.0 (top_in cs) shown in
+          omega arith)
       | inr h ↦ (
-        let found : column_in (c ∷ cs) v ≡ column_in cs v = cond-false (c.0 == v) (Some c.1) (column_in cs v) h in
-        let rest : v ≤ top_in cs = named_top cs v x (sym (ap column_name found) ∙ e) in
-        let here : top_in cs ≤ top_in (c ∷ cs) = top_step (shows_value c.1) c.0 (top_in cs) in
-        omega arith)
+          let found : column_in (c ∷ cs) v ≡ column_in cs v = cond-false (c.0 == v) (Some c.1) (column_in cs v) h in
+          let rest : v ≤ top_in cs = named_top cs v x (sym (ap column_name found) ∙ e) in
+          let here : top_in cs ≤ top_in (c ∷ cs) = top_step (shows_value c.1) c.0 (top_in cs) in
+          omega arith)
     ]
 
 low_step : (shown : Bool) (v rest : ℕ) → v < 2 ^ 62 → rest < 2 ^ 62 → cond shown (max v rest) rest < 2 ^ 62
@@ -90,11 +90,11 @@ columns_put (c ∷ cs) v x h e =
     let parts : (nat_lt c.0 (2 ^ 62) ≡ true) × (column_stands c.1 ≡ true) = and_parts (nat_lt c.0 (2 ^ 62)) (column_stands c.1) both.0 in
     elim (cases_Bool (c.0 == v)) [
       | inl k ↦ (
-        let found : column_in (c ∷ cs) v ≡ Some c.1 = cond-true (c.0 == v) (Some c.1) (column_in cs v) k in
-        subst (λ o. IsSomePut (column_value o)) (sym found) (column_put c.1 x parts.1 (sym (ap column_name found) ∙ e)))
+          let found : column_in (c ∷ cs) v ≡ Some c.1 = cond-true (c.0 == v) (Some c.1) (column_in cs v) k in
+          subst (λ o. IsSomePut (column_value o)) (sym found) (column_put c.1 x parts.1 (sym (ap column_name found) ∙ e)))
       | inr k ↦ (
-        let found : column_in (c ∷ cs) v ≡ column_in cs v = cond-false (c.0 == v) (Some c.1) (column_in cs v) k in
-        subst (λ o. IsSomePut (column_value o)) (sym found) (columns_put cs v x both.1 (sym (ap column_name found) ∙ e)))
+          let found : column_in (c ∷ cs) v ≡ column_in cs v = cond-false (c.0 == v) (Some c.1) (column_in cs v) k in
+          subst (λ o. IsSomePut (column_value o)) (sym found) (columns_put cs v x both.1 (sym (ap column_name found) ∙ e)))
     ]
 
 -- the value that such a row names is a put's

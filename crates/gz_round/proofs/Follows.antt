@@ -77,7 +77,7 @@ other_means c w past run ms v s h m e other =
       clear = λ (u : ℕ) (n : u ≢ v + 1) (k : voted_at w.name ms u ≡ true). elim (cases_eq u v) [
         | inl same ↦ (e.name, differs, subst (λ (z : ℕ). IsShown c ms z e.name) (sym same) shown)
         | inr apart ↦ m.clear u apart k
-      ]
+      ];
     }
 
 -- a call that may vote may pass on
@@ -129,9 +129,9 @@ decides_top x v (Some row) h = let k = named_some x (row_decision row v) h in (r
 
 need_some : (c : Config) (b : BallotAt) → IsConfig c → 1 ≤ need c.qc c.qf b
 need_some c b h = let q = h.quorums in elim (cases_Bool (same_ballot b fast)) [
-    | inl e ↦ (let k : need c.qc c.qf b ≡ c.qf = cond-true (same_ballot b fast) c.qf c.qc e in omega (arith, k, q.majority, q.classic, h.some))
-    | inr e ↦ (let k : need c.qc c.qf b ≡ c.qc = cond-false (same_ballot b fast) c.qf c.qc e in omega (arith, k, q.majority, h.some))
-  ]
+  | inl e ↦ (let k : need c.qc c.qf b ≡ c.qf = cond-true (same_ballot b fast) c.qf c.qc e in omega (arith, k, q.majority, q.classic, h.some))
+  | inr e ↦ (let k : need c.qc c.qf b ≡ c.qc = cond-false (same_ballot b fast) c.qf c.qc e in omega (arith, k, q.majority, h.some))
+]
 
 -- no value is evident above what the known rows show
 pub none_above : (c : Config) (ms : List Moment) (v : ℕ) → IsConfig c → ((s : ℕ) (row : RowAt) → s < c.n → rows_known ms s ≡ Some row → row_top row < v) → NoEvidence c ms v
@@ -187,16 +187,16 @@ first_means c w past run ms h f some =
 pub first_from : (c : Config) (w : Caller) (past : List Tale) (run : Run) (ms : List Moment) → IsConfig c → Stands c w past run ms → voted w.name ms ≡ false → list_all is_blank_known run.rows ≡ true → list_all is_topless run.rows ≡ true → c.qc ≤ known_count c ms → IsFirst c w ms
 first_from c w past run ms config h unvoted blank topless enough =
     let counted : known_count c ms ≤ heard_at c is_blank ms = counted_heard c is_blank (λ s. is_some (rows_known ms s)) ms (λ (s : ℕ) (l : s < c.n) (k : is_some (rows_known ms s) ≡ true).
-        let w = some_row (rows_known ms s) k in
-        let listed : slice_get run.rows s ≡ Some (Some w.0) = h.knows.rows s l ∙ ap (λ o. Some o) w.1 in
-        (w.0, known_heard ms s w.0 w.1, all_at is_blank_known run.rows s (Some w.0) blank listed)) in
+    let w = some_row (rows_known ms s) k in
+    let listed : slice_get run.rows s ≡ Some (Some w.0) = h.knows.rows s l ∙ ap (λ o. Some o) w.1 in
+    (w.0, known_heard ms s w.0 w.1, all_at is_blank_known run.rows s (Some w.0) blank listed)) in
     record {
       blank = omega arith;
       unvoted = unvoted;
       none = none_above c ms 1 config (λ (s : ℕ) (row : RowAt) (l : s < c.n) (e : rows_known ms s ≡ Some row).
-        let listed : slice_get run.rows s ≡ Some (Some row) = h.knows.rows s l ∙ ap (λ o. Some o) e in
-        let top : row_top row ≡ 0 = eqb-true (row_top row) 0 (all_at is_topless run.rows s (Some row) topless listed) in
-        omega arith)
+          let listed : slice_get run.rows s ≡ Some (Some row) = h.knows.rows s l ∙ ap (λ o. Some o) e in
+          let top : row_top row ≡ 0 = eqb-true (row_top row) 0 (all_at is_topless run.rows s (Some row) topless listed) in
+          omega arith);
     }
 
 -- the highest version that the known rows of a classic quorum show
@@ -204,7 +204,7 @@ pub latest_from : (c : Config) (w : Caller) (past : List Tale) (run : Run) (ms :
 latest_from c w past run ms h unvoted shown enough = record {
   above = highest_positive run.rows shown;
   current = known_current c run ms h.knows (highest_of run.rows) enough (λ (s : ℕ) (row : RowAt) (e : slice_get run.rows s ≡ Some (Some row)). top_highest run.rows s row e);
-  unvoted = unvoted
+  unvoted = unvoted;
 }
 
 -- a put goes on from the latest version
@@ -221,5 +221,5 @@ found_means c w past run ms v s h l e none = record {
   inside = e.inside;
   row = e.row;
   known = e.known;
-  named = e.named
+  named = e.named;
 }

@@ -70,7 +70,7 @@ fast_kept c w ms a v value is h = record {
   above = h.above;
   current = h.current;
   next = h.next;
-  clear = clear_vote c w.name ms a v (λ (u : ℕ) (k : passes_sent (λ z. z == u) (of_step (vote_by w.name) a.op) ≡ true). only_vote w.name a.op v value u is k) h.clear
+  clear = clear_vote c w.name ms a v (λ (u : ℕ) (k : passes_sent (λ z. z == u) (of_step (vote_by w.name) a.op) ≡ true). only_vote w.name a.op v value u is k) h.clear;
 }
 
 promise_sent : (op : Op) (v : ℕ) (b : BallotAt) → IsOf op (Some (Promise v b)) → (of_step promise_by op ≡ None) ⊎ (of_step promise_by op ≡ Some (v, b))
@@ -102,9 +102,9 @@ promise_kept c w past ms a v b is h =
       own = own_promise ms a v b sent h.own;
       grounded = h.grounded;
       passed = λ (d : BallotAt) (n : d ≢ b) (k : has_promised_at (Sent a ∷ ms) v d ≡ true).
-        let other : is_promise v d (of_step promise_by a.op) ≡ false = other_promise (of_step promise_by a.op) v b d sent n in
-        let old : has_promised_at ms v d ≡ true = promised_before (of_step promise_by a.op) v b d (has_promised_at ms v d) sent n k in
-        cond-false (is_promise v d (of_step promise_by a.op)) false (passed_since v d ms) other ∙ h.passed d n old
+          let other : is_promise v d (of_step promise_by a.op) ≡ false = other_promise (of_step promise_by a.op) v b d sent n in
+          let old : has_promised_at ms v d ≡ true = promised_before (of_step promise_by a.op) v b d (has_promised_at ms v d) sent n k in
+          cond-false (is_promise v d (of_step promise_by a.op)) false (passed_since v d ms) other ∙ h.passed d n old;
     }
 
 cast_sent : (op : Op) (v : ℕ) (b : BallotAt) (value : Value) → IsOf op (Some (ClassicVote v b value)) → (of_step cast_by op ≡ None) ⊎ (of_step cast_by op ≡ cast_by (ClassicVote v b value))
@@ -141,7 +141,7 @@ classic_kept c w ms a v b value is h = record {
   enough = h.enough;
   rows = promises_more (Sent a) ms v b h.heard h.rows;
   choice = left_kept c w ms a v b h.heard value is h.choice;
-  one = λ (y : Name) (k : has_cast (Sent a ∷ ms) v b y ≡ true). one_cast (of_step cast_by a.op) v b value y (has_cast ms v b y) (cast_sent a.op v b value is) (h.one y) k
+  one = λ (y : Name) (k : has_cast (Sent a ∷ ms) v b y ≡ true). one_cast (of_step cast_by a.op) v b value y (has_cast ms v b y) (cast_sent a.op v b value is) (h.one y) k;
 }
 
 -- a guard that holds goes on to hold

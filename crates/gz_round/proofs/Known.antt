@@ -58,8 +58,8 @@ last_heard [] s last e = absurd (none-some last e)
 last_heard (m ∷ ms) s last e =
     elim (cases_Bool (concerns m s)) [
       | inl k ↦ (
-        let here : (after m (site_now ms s)).row ≡ Some last = sym (ap (λ n. n.row) (now_here m ms s k)) ∙ e in
-        last_here m ms s last k (last_heard ms s last) (last_after m (site_now ms s) last here))
+          let here : (after m (site_now ms s)).row ≡ Some last = sym (ap (λ n. n.row) (now_here m ms s k)) ∙ e in
+          last_here m ms s last k (last_heard ms s last) (last_after m (site_now ms s) last here))
       | inr k ↦ inr (last_heard ms s last (sym (ap (λ n. n.row) (now_other m ms s k)) ∙ e))
     ]
 
@@ -67,9 +67,9 @@ under_stands : (etag : Option ℕ) (row : RowAt) (seen : Seen) → seen_under et
 under_stands etag row seen e =
     elim (cases_Bool (can_stand row)) [
       | inl h ↦ (
-        let made : Seen = record { etag = etag; row = row } in
-        let same : made ≡ seen = same_Some made seen (sym (cond-true (can_stand row) (Some made) None h) ∙ e) in
-        subst (λ (z : Seen). can_stand z.row ≡ true) same h)
+          let made : Seen = record { etag = etag; row = row } in
+          let same : made ≡ seen = same_Some made seen (sym (cond-true (can_stand row) (Some made) None h) ∙ e) in
+          subst (λ (z : Seen). can_stand z.row ≡ true) same h)
       | inr h ↦ absurd (none-some seen (sym (cond-false (can_stand row) (Some (let made : Seen = record { etag = etag; row = row } in made)) None h) ∙ e))
     ]
 
@@ -172,17 +172,17 @@ slice_inside xs s n x len e = omega (arith, slice_get_within xs s x e)
 pub known_current : (c : Config) (run : Run) (ms : List Moment) → Knows c run ms → (v : ℕ) → c.qc ≤ known_count c ms → ((s : ℕ) (row : RowAt) → slice_get run.rows s ≡ Some (Some row) → row_top row ≤ v) → IsCurrent c ms v
 known_current c run ms k v enough low =
     let counted : known_count c ms ≤ heard_at c (λ r. leb (row_top r) v) ms = counted_heard c (λ r. leb (row_top r) v) (λ s. is_some (rows_known ms s)) ms (λ (s : ℕ) (l : s < c.n) (h : is_some (rows_known ms s) ≡ true).
-        let w = some_shown (rows_known ms s) h in
-        let listed : slice_get run.rows s ≡ Some (Some w.0) = k.rows s l ∙ ap (λ o. Some o) w.1 in
-        (w.0, known_heard ms s w.0 w.1, le-leb (row_top w.0) v (low s w.0 listed))) in
+    let w = some_shown (rows_known ms s) h in
+    let listed : slice_get run.rows s ≡ Some (Some w.0) = k.rows s l ∙ ap (λ o. Some o) w.1 in
+    (w.0, known_heard ms s w.0 w.1, le-leb (row_top w.0) v (low s w.0 listed))) in
     omega arith
 
 -- no known row shows a version beyond those that a run reaches
 pub known_low : (c : Config) (run : Run) (ms : List Moment) → Knows c run ms → highest_of run.rows < 2 ^ 62
 known_low c run ms k =
     highest_below run.rows (2 ^ 62) (omega arith) (λ (s : ℕ) (row : RowAt) (e : slice_get run.rows s ≡ Some (Some row)).
-        let inside : s < c.n = slice_inside run.rows s c.n (Some row) k.rows_len e in
-        stands_low row (heard_stands ms s row (known_heard ms s row (listed_known c run ms k s row inside e))))
+    let inside : s < c.n = slice_inside run.rows s c.n (Some row) k.rows_len e in
+    stands_low row (heard_stands ms s row (known_heard ms s row (listed_known c run ms k s row inside e))))
 
 -- the counts that the lists have
 pub known_counted : (c : Config) (run : Run) (ms : List Moment) → Knows c run ms → count_by (λ row. is_some row) run.rows ≡ known_count c ms

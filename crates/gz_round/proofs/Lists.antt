@@ -28,10 +28,10 @@ pub told_after_set : {A : Type 0} (n : ℕ) (xs : List A) (f g : ℕ → A) (at 
 told_after_set n xs f g at y len told here others s l =
     elim (cases_eq s at) [
       | inl e ↦ (
-        let here_s : y ≡ g s = here ∙ ap g (sym e) in
-        let within : at < length xs = omega arith in
-        let got : slice_get (set xs at y) at ≡ Some y = slice_get-set_same xs at y within in
-        subst (λ (k : ℕ). slice_get (set xs at y) k ≡ Some (g s)) (sym e) (got ∙ ap (λ z. Some z) here_s))
+          let here_s : y ≡ g s = here ∙ ap g (sym e) in
+          let within : at < length xs = omega arith in
+          let got : slice_get (set xs at y) at ≡ Some y = slice_get-set_same xs at y within in
+          subst (λ (k : ℕ). slice_get (set xs at y) k ≡ Some (g s)) (sym e) (got ∙ ap (λ z. Some z) here_s))
       | inr n ↦ slice_get-set_other xs at s y n ∙ (told s l ∙ ap (λ z. Some z) (others s n))
     ]
 

@@ -16,12 +16,12 @@ awaits_sent : (ms : List Moment) (a b : Asked) (s : ℕ) → (site_now (Sent a �
 awaits_sent ms a b s e =
     elim (cases_Bool (is_to a s)) [
       | inl k ↦ (
-        let here : (after_sent a (site_now ms s)).awaits ≡ Some b = sym (ap (λ n. n.awaits) (now_here (Sent a) ms s k)) ∙ e in
-        let same : a.site ≡ s = eqb-true a.site s (and_parts (is_row_request a.op) (a.site == s) k).1 in
-        elim (cases_Bool a.awaited) [
-          | inl t ↦ inl (same_Some a b (sym (ap (λ n. n.awaits) (cond-true a.awaited _ (site_now ms s) t)) ∙ here), same)
-          | inr t ↦ inr (sym (ap (λ n. n.awaits) (cond-false a.awaited _ (site_now ms s) t)) ∙ here)
-        ])
+          let here : (after_sent a (site_now ms s)).awaits ≡ Some b = sym (ap (λ n. n.awaits) (now_here (Sent a) ms s k)) ∙ e in
+          let same : a.site ≡ s = eqb-true a.site s (and_parts (is_row_request a.op) (a.site == s) k).1 in
+          elim (cases_Bool a.awaited) [
+            | inl t ↦ inl (same_Some a b (sym (ap (λ n. n.awaits) (cond-true a.awaited _ (site_now ms s) t)) ∙ here), same)
+            | inr t ↦ inr (sym (ap (λ n. n.awaits) (cond-false a.awaited _ (site_now ms s) t)) ∙ here)
+          ])
       | inr k ↦ inr (sym (ap (λ n. n.awaits) (now_other (Sent a) ms s k)) ∙ e)
     ]
 
@@ -32,16 +32,16 @@ one_sent c ms a next l h = record {
     | inr k ↦ omega (arith, h.below s b i k)
   ];
   apart = λ (s u : ℕ) (b d : Asked) (i : s < c.n) (j : u < c.n) (e : (site_now (Sent a ∷ ms) s).awaits ≡ Some b) (f : (site_now (Sent a ∷ ms) u).awaits ≡ Some d) (same : b.number ≡ d.number).
-    elim (awaits_sent ms a b s e) [
-      | inl k ↦ elim (awaits_sent ms a d u f) [
-        | inl m ↦ sym k.1 ∙ m.1
-        | inr m ↦ (let n : a.number ≡ b.number = ap (λ (z : Asked). z.number) k.0 in absurd (omega (arith, h.below u d j m)))
-      ]
-      | inr k ↦ elim (awaits_sent ms a d u f) [
-        | inl m ↦ (let n : a.number ≡ d.number = ap (λ (z : Asked). z.number) m.0 in absurd (omega (arith, h.below s b i k)))
-        | inr m ↦ h.apart s u b d i j k m same
-      ]
-    ]
+      elim (awaits_sent ms a b s e) [
+        | inl k ↦ elim (awaits_sent ms a d u f) [
+          | inl m ↦ sym k.1 ∙ m.1
+          | inr m ↦ (let n : a.number ≡ b.number = ap (λ (z : Asked). z.number) k.0 in absurd (omega (arith, h.below u d j m)))
+        ]
+        | inr k ↦ elim (awaits_sent ms a d u f) [
+          | inl m ↦ (let n : a.number ≡ d.number = ap (λ (z : Asked). z.number) m.0 in absurd (omega (arith, h.below s b i k)))
+          | inr m ↦ h.apart s u b d i j k m same
+        ]
+      ];
 }
 
 numbered_later : (c : Config) (ms : List Moment) (next later : ℕ) → next ≤ later → AreNumbered c ms next → AreNumbered c ms later
@@ -71,7 +71,7 @@ numbered_ended : (c : Config) (ms : List Moment) (m : Moment) (next : ℕ) → (
 numbered_ended c ms m next idle h = record {
   below = λ (s : ℕ) (a : Asked) (i : s < c.n) (e : (site_now (m ∷ ms) s).awaits ≡ Some a). h.below s a i (ended_awaits ms m a s idle e);
   apart = λ (s u : ℕ) (a b : Asked) (i : s < c.n) (j : u < c.n) (e : (site_now (m ∷ ms) s).awaits ≡ Some a) (f : (site_now (m ∷ ms) u).awaits ≡ Some b) (same : a.number ≡ b.number).
-    h.apart s u a b i j (ended_awaits ms m a s idle e) (ended_awaits ms m b u idle f) same
+      h.apart s u a b i j (ended_awaits ms m a s idle e) (ended_awaits ms m b u idle f) same;
 }
 
 pub numbered_handed : (c : Config) (ms : List Moment) (a : Asked) (reply : Reply) (next later : ℕ) → next ≤ later → AreNumbered c ms next → AreNumbered c (Handed a reply ∷ ms) later
@@ -84,5 +84,5 @@ numbered_gave_up c ms a next later l h = numbered_ended c ms (GaveUp a) later (�
 pub numbered_none : (c : Config) (next : ℕ) → AreNumbered c [] next
 numbered_none c next = record {
   below = λ (s : ℕ) (a : Asked) (i : s < c.n) (e : None ≡ Some a). absurd (none-some a e);
-  apart = λ (s u : ℕ) (a b : Asked) (i : s < c.n) (j : u < c.n) (e : None ≡ Some a) (f : None ≡ Some b) (same : a.number ≡ b.number). absurd (none-some a e)
+  apart = λ (s u : ℕ) (a b : Asked) (i : s < c.n) (j : u < c.n) (e : None ≡ Some a) (f : None ≡ Some b) (same : a.number ≡ b.number). absurd (none-some a e);
 }

@@ -28,7 +28,7 @@ left_trans a b d step h k = record {
   own = k.own ∙ h.own;
   name = k.name ∙ h.name;
   voted = λ e. k.voted e ∙ h.voted e;
-  wrote = λ e. k.wrote e ∙ h.wrote e
+  wrote = λ e. k.wrote e ∙ h.wrote e;
 }
 
 place_of : {A : Type 0} (xs : List A) (i : ℕ) → i < length xs → (x : A) × (slice_get xs i ≡ Some x)
@@ -38,9 +38,9 @@ place_of (y ∷ ys) (suc i) l = place_of ys i (omega arith)
 
 marks_left : (run : Run) (at number : ℕ) (mark : Mark) (out : Out) → length (cond out.awaited (set run.marks at (marked_as mark number out)) run.marks) ≡ length run.marks
 marks_left run at number mark out = elim (cases_Bool out.awaited) [
-    | inl e ↦ ap length (cond-true out.awaited (set run.marks at (marked_as mark number out)) run.marks e) ∙ length-set run.marks at (marked_as mark number out)
-    | inr e ↦ ap length (cond-false out.awaited (set run.marks at (marked_as mark number out)) run.marks e)
-  ]
+  | inl e ↦ ap length (cond-true out.awaited (set run.marks at (marked_as mark number out)) run.marks e) ∙ length-set run.marks at (marked_as mark number out)
+  | inr e ↦ ap length (cond-false out.awaited (set run.marks at (marked_as mark number out)) run.marks e)
+]
 
 read_voted : (run : Run) (at number : ℕ) (mark : Mark) (step : Option RowStep) (row : Option RowAt) (out : Out) → Kind run at mark step row out → step ≡ None → (sent_run run at number mark out).voted ≡ run.voted
 read_voted run at number mark step row out (reads e why) none = ap (λ (o : Out). passes_sent (λ u. true) (of_step (vote_by run.name) o.op) || run.voted) e
@@ -76,7 +76,7 @@ pub going_none : (c : Config) (run : Run) (step : Option RowStep) (first : ℕ) 
 going_none c run step first outs = record {
   few = omega arith;
   left = left_refl run step;
-  asked = λ w past ms h. record { asks = h; served = λ (s : ℕ) (l : s < 0). absurd (omega arith) }
+  asked = λ w past ms h. record { asks = h; served = λ (s : ℕ) (l : s < 0). absurd (omega arith) };
 }
 
 pub inside_rows : (c : Config) (start run : Run) (step : Option RowStep) (first : ℕ) (outs sent : List Out) (at : ℕ) → CanAsk c start first outs step → Going c start run step first outs sent at → length run.rows ≡ c.n
@@ -92,7 +92,7 @@ going_more c start run new step first outs sent more at k l few asked g =
     record {
       few = omega arith;
       left = left_trans start run new step g.left (left_asked run new at first sent more step (omega (arith, inside_marks c start run step first outs sent at k g)) (omega (arith, inside_rows c start run step first outs sent at k g)) asked);
-      asked = λ w past ms h. passed_more c w past run new ms first sent more step at l asked (g.asked w past ms h)
+      asked = λ w past ms h. passed_more c w past run new ms first sent more step at l asked (g.asked w past ms h);
     }
 
 pub going_all : (c : Config) (start run : Run) (step : Option RowStep) (first : ℕ) (outs sent : List Out) → Going c start run step first outs sent c.n → (w : Caller) (past : List Tale) (ms : List Moment) → Asks c w past start (sent_from first outs ms) step →

@@ -43,33 +43,33 @@ ended_rows : (c : Config) (run : Run) (ms : List Moment) (m : Moment) (at : ℕ)
     (s : ℕ) → s < c.n → slice_get (noted_by run at (mark_of (site_now ms at)) seen changed).rows s ≡ Some (known (site_now (m ∷ ms) s))
 ended_rows c run ms m at (Some seen) changed e kept k l =
     told_after_set c.n run.rows (λ s. known (site_now ms s)) (λ s. known (site_now (m ∷ ms) s)) at (Some seen.row) k.rows_len k.rows
-      (sym (ap known (now_here m ms at e.here ∙ e.after_is (site_now ms at)) ∙ cond-false (site_now ms at).out None (Some seen.row) kept))
-      (λ (s : ℕ) (n : s ≢ at). ap known (sym (now_other m ms s (e.others s n))))
+    (sym (ap known (now_here m ms at e.here ∙ e.after_is (site_now ms at)) ∙ cond-false (site_now ms at).out None (Some seen.row) kept))
+    (λ (s : ℕ) (n : s ≢ at). ap known (sym (now_other m ms s (e.others s n))))
 ended_rows c run ms m at None true e kept k l =
     told_same c.n run.rows (λ s. known (site_now ms s)) (λ s. known (site_now (m ∷ ms) s)) k.rows
-      (λ (s : ℕ). elim (cases_eq s at) [
-        | inl same ↦ subst (λ (z : ℕ). known (site_now ms z) ≡ known (site_now (m ∷ ms) z)) (sym same) (sym (ap known (now_here m ms at e.here ∙ e.after_is (site_now ms at))))
-        | inr n ↦ ap known (sym (now_other m ms s (e.others s n)))
-      ])
+    (λ (s : ℕ). elim (cases_eq s at) [
+      | inl same ↦ subst (λ (z : ℕ). known (site_now ms z) ≡ known (site_now (m ∷ ms) z)) (sym same) (sym (ap known (now_here m ms at e.here ∙ e.after_is (site_now ms at))))
+      | inr n ↦ ap known (sym (now_other m ms s (e.others s n)))
+    ])
 ended_rows c run ms m at None false e kept k l =
     told_after_set c.n run.rows (λ s. known (site_now ms s)) (λ s. known (site_now (m ∷ ms) s)) at None k.rows_len k.rows
-      (sym (ap known (now_here m ms at e.here ∙ e.after_is (site_now ms at))))
-      (λ (s : ℕ) (n : s ≢ at). ap known (sym (now_other m ms s (e.others s n))))
+    (sym (ap known (now_here m ms at e.here ∙ e.after_is (site_now ms at))))
+    (λ (s : ℕ) (n : s ≢ at). ap known (sym (now_other m ms s (e.others s n))))
 
 ended_marks : (c : Config) (run : Run) (ms : List Moment) (m : Moment) (at : ℕ) (seen : Option Seen) (changed : Bool) → Ends m at seen changed → (site_now ms at).out ≡ false → Knows c run ms → at < c.n →
     (s : ℕ) → s < c.n → slice_get (noted_by run at (mark_of (site_now ms at)) seen changed).marks s ≡ Some (mark_of (site_now (m ∷ ms) s))
 ended_marks c run ms m at (Some seen) changed e kept k l =
     told_after_set c.n run.marks (λ s. mark_of (site_now ms s)) (λ s. mark_of (site_now (m ∷ ms) s)) at (record { etag = seen.etag; changed = false; out = false; awaited = None }) k.marks_len k.marks
-      (ap (λ (b : Bool). let r : Mark = record { etag = seen.etag; changed = false; out = b; awaited = None } in r) (sym kept) ∙ sym (ap mark_of (now_here m ms at e.here ∙ e.after_is (site_now ms at))))
-      (λ (s : ℕ) (n : s ≢ at). ap mark_of (sym (now_other m ms s (e.others s n))))
+    (ap (λ (b : Bool). let r : Mark = record { etag = seen.etag; changed = false; out = b; awaited = None } in r) (sym kept) ∙ sym (ap mark_of (now_here m ms at e.here ∙ e.after_is (site_now ms at))))
+    (λ (s : ℕ) (n : s ≢ at). ap mark_of (sym (now_other m ms s (e.others s n))))
 ended_marks c run ms m at None true e kept k l =
     told_after_set c.n run.marks (λ s. mark_of (site_now ms s)) (λ s. mark_of (site_now (m ∷ ms) s)) at (mark_of (after_reply None true (site_now ms at))) k.marks_len k.marks
-      (sym (ap mark_of (now_here m ms at e.here ∙ e.after_is (site_now ms at))))
-      (λ (s : ℕ) (n : s ≢ at). ap mark_of (sym (now_other m ms s (e.others s n))))
+    (sym (ap mark_of (now_here m ms at e.here ∙ e.after_is (site_now ms at))))
+    (λ (s : ℕ) (n : s ≢ at). ap mark_of (sym (now_other m ms s (e.others s n))))
 ended_marks c run ms m at None false e kept k l =
     told_after_set c.n run.marks (λ s. mark_of (site_now ms s)) (λ s. mark_of (site_now (m ∷ ms) s)) at (mark_of (after_reply None false (site_now ms at))) k.marks_len k.marks
-      (sym (ap mark_of (now_here m ms at e.here ∙ e.after_is (site_now ms at))))
-      (λ (s : ℕ) (n : s ≢ at). ap mark_of (sym (now_other m ms s (e.others s n))))
+    (sym (ap mark_of (now_here m ms at e.here ∙ e.after_is (site_now ms at))))
+    (λ (s : ℕ) (n : s ≢ at). ap mark_of (sym (now_other m ms s (e.others s n))))
 
 ended_rows_len : (run : Run) (at : ℕ) (mark : Mark) (seen : Option Seen) (changed : Bool) → length (noted_by run at mark seen changed).rows ≡ length run.rows
 ended_rows_len run at mark (Some seen) changed = length-set run.rows at (Some seen.row)
@@ -118,7 +118,7 @@ stands_ended c w past run ms m at seen changed e l kept votes phase met_then may
         rows_len = ended_rows_len run at (mark_of (site_now ms at)) seen changed ∙ h.knows.rows_len;
         marks_len = ended_marks_len run at (mark_of (site_now ms at)) seen changed ∙ h.knows.marks_len;
         rows = ended_rows c run ms m at seen changed e kept h.knows l;
-        marks = ended_marks c run ms m at seen changed e kept h.knows l
+        marks = ended_marks c run ms m at seen changed e kept h.knows l;
       };
       met_is = ended_met run at (mark_of (site_now ms at)) seen changed ∙ (ap (met_by seen changed) h.met_is ∙ sym met_then);
       voted_is = rest.voted ∙ (h.voted_is ∙ sym votes);
@@ -127,7 +127,7 @@ stands_ended c w past run ms m at seen changed e l kept votes phase met_then may
         | inl same ↦ subst (λ (z : ℕ). IsSound (site_now (m ∷ ms) z) z) (sym same) (subst (λ n. IsSound n at) (sym (now_here m ms at e.here ∙ e.after_is (site_now ms at))) (sound_ended seen changed (site_now ms at) at))
         | inr n ↦ subst (λ k. IsSound k s) (sym (now_other m ms s (e.others s n))) (h.sites s)
       ];
-      allowed = (may, h.allowed)
+      allowed = (may, h.allowed);
     }
 
 clear_more : (c : Config) (x : Name) (m : Moment) (ms : List Moment) (v : ℕ) → ((u : ℕ) → voted_at x (m ∷ ms) u ≡ voted_at x ms u) → IsClear c x ms v → IsClear c x (m ∷ ms) v
@@ -162,7 +162,7 @@ ready_handed c w past run new ms at a reply l awaits r noted =
     let ends : Ends (Handed a reply) at (seen_in (written_by a.op) reply) (is_changed reply) = record { here = is_to_same a at sound.1; others = λ (s : ℕ) (n : s ≢ at). is_to_other a s (λ (q : s ≡ a.site). n (q ∙ sound.1)); after_is = λ now. refl } in
     let may : IsAwaitedOf ms a = subst (λ (z : ℕ). (site_now ms z).awaits ≡ Some a) (sym sound.1) awaits in
     let stands : Stands c w past (noted_by run at (mark_of (site_now ms at)) (seen_in (written_by a.op) reply) (is_changed reply)) (Handed a reply ∷ ms) =
-      stands_ended c w past run ms (Handed a reply) at (seen_in (written_by a.op) reply) (is_changed reply) ends l sound.0 refl refl (met_handed a reply ms (seen_in (written_by a.op) reply) (is_changed reply) refl refl) may r.stands in
+    stands_ended c w past run ms (Handed a reply) at (seen_in (written_by a.op) reply) (is_changed reply) ends l sound.0 refl refl (met_handed a reply ms (seen_in (written_by a.op) reply) (is_changed reply) refl refl) may r.stands in
     let stage : StageStands c w run.stage (Handed a reply ∷ ms) = stage_more c w (Handed a reply) ms run.stage refl (λ u. refl) r.stage in
     subst (λ (n : Run). Ready c w past n (Handed a reply ∷ ms)) (sym new_is) (record { stands = stands; stage = subst (λ st. StageStands c w st (Handed a reply ∷ ms)) (sym (ended_else run at (mark_of (site_now ms at)) (seen_in (written_by a.op) reply) (is_changed reply)).stage) stage })
 

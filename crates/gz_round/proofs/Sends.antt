@@ -52,7 +52,7 @@ undone_means (Trimmed floor) made e h = cc
 pub data Kind (run : Run) (at : ℕ) (mark : Mark) (step : Option RowStep) (row : Option RowAt) (out : Out) : Type 0 where
   reads : out ≡ read_out run at → (row ≡ None) ⊎ (mark.changed ≡ true) → Kind run at mark step row out
   writes : (made : RowStep) (before new : RowAt) → step ≡ Some made → row ≡ Some before → mark.changed ≡ false → IsMade made before new →
-    out ≡ record { site = at; op = WriteRow run.key mark.etag made new; awaited = not (is_notice made) } → Kind run at mark step row out
+      out ≡ record { site = at; op = WriteRow run.key mark.etag made new; awaited = not (is_notice made) } → Kind run at mark step row out
 
 write_kind : (run : Run) (at : ℕ) (mark : Mark) (step : RowStep) (before : RowAt) (out : Out) (new : Option RowAt) → mark.changed ≡ false → made_of step before ≡ new → write_out run at mark.etag step new ≡ Some out → Kind run at mark (Some step) (Some before) out
 write_kind run at mark step before out None same e h = absurd (none-some out h)
@@ -78,8 +78,8 @@ asked_kind run at mark step row out h =
     elim (cases_Bool (mark.out || is_some mark.awaited)) [
       | inl e ↦ absurd (none-some out (sym (cond-true (mark.out || is_some mark.awaited) None (row_out run at mark step row) e) ∙ h))
       | inr e ↦ (
-        let both : (mark.out ≡ false) × (is_some mark.awaited ≡ false) = or_parts mark.out (is_some mark.awaited) e in
-        (both.0, both.1, row_kind run at mark step row out (sym (cond-false (mark.out || is_some mark.awaited) None (row_out run at mark step row) e) ∙ h)))
+          let both : (mark.out ≡ false) × (is_some mark.awaited ≡ false) = or_parts mark.out (is_some mark.awaited) e in
+          (both.0, both.1, row_kind run at mark step row out (sym (cond-false (mark.out || is_some mark.awaited) None (row_out run at mark step row) e) ∙ h)))
     ]
 
 none_awaits : (o : Option Asked) → is_some (option_map awaited_of o) ≡ false → o ≡ None
@@ -127,7 +127,7 @@ kind_may c w past run ms at number step out l key may h =
       site = subst (λ (s : ℕ). s < c.n) (sym here) l;
       kept = ap (λ n. n.out) now ∙ k.0;
       idle = ap (λ n. n.awaits) now ∙ none_awaits (site_now ms at).awaits k.1;
-      asks = subst (λ (n : SiteNow). MayAsk c w past ms n out.op) (sym now) (kind_asks c w past run ms at step out key may k.0 k.2)
+      asks = subst (λ (n : SiteNow). MayAsk c w past ms n out.op) (sym now) (kind_asks c w past run ms at step out key may k.0 k.2);
     }
 
 known_sent : (a : Asked) (now : SiteNow) → known (after_sent a now) ≡ known now
@@ -169,13 +169,13 @@ marks_sent : (c : Config) (run : Run) (ms : List Moment) (at number : ℕ) (out 
 marks_sent c run ms at number out k l here =
     elim (cases_Bool out.awaited) [
       | inl e ↦ (
-        let told = told_after_set c.n run.marks (λ s. mark_of (site_now ms s)) (λ s. mark_of (site_now (Sent (asked_of number out) ∷ ms) s)) at (marked_as (mark_of (site_now ms at)) number out) k.marks_len k.marks
-              (mark_sent number out (site_now ms at) e ∙ ap mark_of (sym (now_here (Sent (asked_of number out)) ms at (is_to_same (asked_of number out) at here))))
-              (λ (s : ℕ) (n : s ≢ at). ap mark_of (sym (now_other (Sent (asked_of number out)) ms s (is_to_other (asked_of number out) s (λ (q : s ≡ out.site). n (q ∙ here)))))) in
-        λ (s : ℕ) (i : s < c.n). ap (λ xs. slice_get xs s) (cond-true out.awaited (set run.marks at (marked_as (mark_of (site_now ms at)) number out)) run.marks e) ∙ told s i)
+          let told = told_after_set c.n run.marks (λ s. mark_of (site_now ms s)) (λ s. mark_of (site_now (Sent (asked_of number out) ∷ ms) s)) at (marked_as (mark_of (site_now ms at)) number out) k.marks_len k.marks
+          (mark_sent number out (site_now ms at) e ∙ ap mark_of (sym (now_here (Sent (asked_of number out)) ms at (is_to_same (asked_of number out) at here))))
+          (λ (s : ℕ) (n : s ≢ at). ap mark_of (sym (now_other (Sent (asked_of number out)) ms s (is_to_other (asked_of number out) s (λ (q : s ≡ out.site). n (q ∙ here)))))) in
+          λ (s : ℕ) (i : s < c.n). ap (λ xs. slice_get xs s) (cond-true out.awaited (set run.marks at (marked_as (mark_of (site_now ms at)) number out)) run.marks e) ∙ told s i)
       | inr e ↦ (
-        λ (s : ℕ) (i : s < c.n).
-        ap (λ xs. slice_get xs s) (cond-false out.awaited (set run.marks at (marked_as (mark_of (site_now ms at)) number out)) run.marks e) ∙ (k.marks s i ∙ ap (λ n. Some (mark_of n)) (each_site (λ n. site_now ms s ≡ n) (Sent (asked_of number out)) ms s (λ h. sym (cond-false out.awaited _ (site_now ms s) e)) (λ h. refl))))
+          λ (s : ℕ) (i : s < c.n).
+          ap (λ xs. slice_get xs s) (cond-false out.awaited (set run.marks at (marked_as (mark_of (site_now ms at)) number out)) run.marks e) ∙ (k.marks s i ∙ ap (λ n. Some (mark_of n)) (each_site (λ n. site_now ms s ≡ n) (Sent (asked_of number out)) ms s (λ h. sym (cond-false out.awaited _ (site_now ms s) e)) (λ h. refl))))
     ]
 
 -- what is kept once a request has gone out
@@ -192,16 +192,16 @@ stands_sent c w past run ms at number out l here h may = record {
       | inr e ↦ ap length (cond-false out.awaited (set run.marks at (marked_as (mark_of (site_now ms at)) number out)) run.marks e) ∙ h.knows.marks_len
     ];
     rows = told_same c.n run.rows (λ s. known (site_now ms s)) (λ s. known (site_now (Sent (asked_of number out) ∷ ms) s)) h.knows.rows (known_after_sent (asked_of number out) ms);
-    marks = marks_sent c run ms at number out h.knows l here
+    marks = marks_sent c run ms at number out h.knows l here;
   };
   met_is = h.met_is;
   voted_is = ap (λ (n : Name). passes_sent (λ u. true) (of_step (vote_by n) out.op) || run.voted) h.name_is ∙ ap (λ b. passes_sent (λ u. true) (of_step (vote_by w.name) out.op) || b) h.voted_is;
   wrote_is = ap (phase_after (of_step phase_by out.op)) h.wrote_is ∙ phase_sent (of_step phase_by out.op) ms;
   sites = λ (s : ℕ). each_site (λ n. IsSound n s) (Sent (asked_of number out)) ms s
-    (λ (k : is_to (asked_of number out) s ≡ true).
+      (λ (k : is_to (asked_of number out) s ≡ true).
       let same : out.site ≡ s = eqb-true out.site s (and_parts (is_row_request out.op) (out.site == s) k).1 in
       let kept : (site_now ms s).out ≡ false = subst (λ (z : ℕ). (site_now ms z).out ≡ false) same may.kept in
       sound_here (asked_of number out) s (site_now ms s) kept same (h.sites s))
-    (λ k. h.sites s);
-  allowed = (may, h.allowed)
+      (λ k. h.sites s);
+  allowed = (may, h.allowed);
 }

@@ -85,13 +85,16 @@ served_some w run ms at number step out key (writes made before new s r same mad
     elim (cases_Bool (is_notice made)) [
       | inr n ↦ served_awaits w ms (asked_of number out) at step (ap (λ o. o.site) e) (ap (λ o. o.awaited) e ∙ ap not n)
       | inl n ↦ (λ idle kept.
-        let here : out.site ≡ at = ap (λ o. o.site) e in
-        let stays : site_now (Sent (asked_of number out) ∷ ms) at ≡ site_now ms at = same_here ms (asked_of number out) at here (ap (λ o. o.awaited) e ∙ ap not n) in
-        let last = notice_last (site_now ms at) before r in
-        let op_is : out.op ≡ WriteRow (key_of w.call) last.0.etag made (made_by made last.0.row) =
-          ap (λ o. o.op) e ∙ write_same made run.key (key_of w.call) (etag_seen (site_now ms at).row) last.0.etag new (made_by made last.0.row) key (sym last.3) (made_is.1 ∙ ap (made_by made) (sym last.2)) in
-        (last.0, ap (λ n. n.row) stays ∙ last.1, ap (λ n. n.changed) stays ∙ same,
-          subst (IsSettledBy w (Sent (asked_of number out) ∷ ms) at last.0) (sym s) (λ (done : answer_of made last.0.row ≡ Done). (n, (number, inl (notice_sent number out at (key_of w.call) last.0.etag made (made_by made last.0.row) here op_is (ap (λ o. o.awaited) e ∙ ap not n)))))))
+          let here : out.site ≡ at = ap (λ o. o.site) e in
+          let stays : site_now (Sent (asked_of number out) ∷ ms) at ≡ site_now ms at = same_here ms (asked_of number out) at here (ap (λ o. o.awaited) e ∙ ap not n) in
+          let last = notice_last (site_now ms at) before r in
+          let op_is : out.op ≡ WriteRow (key_of w.call) last.0.etag made (made_by made last.0.row) =
+          ap (λ o. o.op) e ∙ write_same made run.key (key_of w.call) (etag_seen (site_now ms at).row) last.0.etag new (made_by made last.0.row) key (sym last.3) (made_is.1 ∙ ap (made_by made) (sym last.2)) in (
+            last.0,
+            ap (λ n. n.row) stays ∙ last.1,
+            ap (λ n. n.changed) stays ∙ same,
+            subst (IsSettledBy w (Sent (asked_of number out) ∷ ms) at last.0) (sym s) (λ (done : answer_of made last.0.row ≡ Done). (n, (number, inl (notice_sent number out at (key_of w.call) last.0.etag made (made_by made last.0.row) here op_is (ap (λ o. o.awaited) e ∙ ap not n))))),
+          ))
     ]
 
 settled_more : (w : Caller) (m : Moment) (ms : List Moment) (s : ℕ) (seen : Seen) (step : Option RowStep) → IsSettledBy w ms s seen step → IsSettledBy w (m ∷ ms) s seen step
@@ -117,7 +120,7 @@ asked_none : (c : Config) (w : Caller) (past : List Tale) (run : Run) (ms : List
     Passed c w past run ms step at → Passed c w past run ms step (at + 1)
 asked_none c w past run ms step at h p = record {
   asks = p.asks;
-  served = λ (s : ℕ) (l : s < at + 1). elim (cases_eq s at) [ inl e ↦ subst (IsServed w ms step) (sym e) (served_none w run ms at step h) | inr n ↦ p.served s (omega arith) ]
+  served = λ (s : ℕ) (l : s < at + 1). elim (cases_eq s at) [ inl e ↦ subst (IsServed w ms step) (sym e) (served_none w run ms at step h) | inr n ↦ p.served s (omega arith) ];
 }
 
 asked_some : (c : Config) (w : Caller) (past : List Tale) (run : Run) (ms : List Moment) (step : Option RowStep) (at number : ℕ) (out : Out) → at < c.n → asks_of run at (mark_of (site_now ms at)) step (known (site_now ms at)) ≡ Some out →
@@ -129,12 +132,12 @@ asked_some c w past run ms step at number out l h p =
     record {
       asks = record {
         stands = stands_sent c w past run ms at number out l here p.asks.stands may;
-        may = may_kept_of c w past ms (asked_of number out) step (kind_of run at (mark_of (site_now ms at)) step (known (site_now ms at)) out k.2) p.asks.may
+        may = may_kept_of c w past ms (asked_of number out) step (kind_of run at (mark_of (site_now ms at)) step (known (site_now ms at)) out k.2) p.asks.may;
       };
       served = λ (s : ℕ) (i : s < at + 1). elim (cases_eq s at) [
         | inl e ↦ subst (IsServed w (Sent (asked_of number out) ∷ ms) step) (sym e) (served_some w run ms at number step out p.asks.stands.key_is k.2)
         | inr n ↦ served_other w ms (asked_of number out) s step (λ (q : s ≡ out.site). n (q ∙ here)) (p.served s (omega arith))
-      ]
+      ];
     }
 
 asked_by : (c : Config) (w : Caller) (past : List Tale) (run new : Run) (base : List Moment) (first : ℕ) (outs sent : List Out) (step : Option RowStep) (at : ℕ) (o : Option Out) → at < c.n →
@@ -152,4 +155,4 @@ pub passed_more : (c : Config) (w : Caller) (past : List Tale) (run new : Run) (
     Passed c w past run (sent_from first outs base) step at → Passed c w past new (sent_from first sent base) step (at + 1)
 passed_more c w past run new base first outs sent step at l asked p =
     asked_by c w past run new base first outs sent step at (asks_of run at (mark_of (site_now (sent_from first outs base) at)) step (known (site_now (sent_from first outs base) at))) l refl
-      (asked (mark_of (site_now (sent_from first outs base) at)) (known (site_now (sent_from first outs base) at)) (p.asks.stands.knows.marks at l) (p.asks.stands.knows.rows at l)) p
+    (asked (mark_of (site_now (sent_from first outs base) at)) (known (site_now (sent_from first outs base) at)) (p.asks.stands.knows.marks at l) (p.asks.stands.knows.rows at l)) p

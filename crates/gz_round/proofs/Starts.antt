@@ -29,7 +29,7 @@ start_ready c w past name call key own rows marks name_is call_is key_is own_is 
     voted_is = refl;
     wrote_is = refl;
     sites = λ (s : ℕ). record { inside = λ (a : Asked) (e : None ≡ Some a). absurd (none-some a e); answered = refl };
-    allowed = tt
+    allowed = tt;
   };
-  stage = refl
+  stage = refl;
 }

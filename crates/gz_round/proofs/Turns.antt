@@ -219,9 +219,9 @@ highest_is c run ms k = record {
   reached = elim (highest_reached run.rows) [
     | inl e ↦ inl e
     | inr w ↦ (
-      let inside : w.0 < c.n = let len = k.rows_len in omega (arith, slice_get_within run.rows w.0 (Some w.1) w.2) in
-      inr (w.0, w.1, inside, listed_known c run ms k w.0 w.1 inside w.2, w.3))
-  ]
+        let inside : w.0 < c.n = let len = k.rows_len in omega (arith, slice_get_within run.rows w.0 (Some w.1) w.2) in
+        inr (w.0, w.1, inside, listed_known c run ms k w.0 w.1 inside w.2, w.3))
+  ];
 }
 
 unmet_none : (c : Config) (run : Run) (ms ns : List Moment) (stage : Stage) (first : ℕ) (sent : List Out) → c.qc ≤ known_count c (sent_from first sent ms) → IsUnmet c run stage ms → NoEvidence c (sent_from first sent ms) (version_in stage (highest_of run.rows))

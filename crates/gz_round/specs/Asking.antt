@@ -67,7 +67,7 @@ phase_after (Some later) phase = later
 abbrev pub noted : Run → Op → Run
 noted run op = record run {
   voted = passes_sent (λ u. true) (of_step (vote_by run.name) op) || run.voted;
-  wrote = phase_after (of_step phase_by op) run.wrote
+  wrote = phase_after (of_step phase_by op) run.wrote;
 }
 
 abbrev pub marked_run : Run → ℕ → ℕ → Mark → Out → Run

@@ -106,7 +106,7 @@ IsSettledBy w ms s seen (Some step) = answer_of step seen.row ≡ Done → (is_n
 -- all that may be asked of a site was asked: it is awaited, or out, or its last row stands and takes no step
 abbrev pub IsServed : Caller → List Moment → Option RowStep → ℕ → Type 0
 IsServed w ms step s = (site_now ms s).awaits ≡ None → (site_now ms s).out ≡ false →
-  (seen : Seen) × ((site_now ms s).row ≡ Some seen) × ((site_now ms s).changed ≡ false) × IsSettledBy w ms s seen step
+    (seen : Seen) × ((site_now ms s).row ≡ Some seen) × ((site_now ms s).changed ≡ false) × IsSettledBy w ms s seen step
 
 abbrev pub AreServed : Config → Caller → List Moment → Option RowStep → Type 0
 AreServed c w ms step = (s : ℕ) → s < c.n → IsServed w ms step s

@@ -12,21 +12,21 @@ use Rattle.gz_round.specs.Sites.{seen_in, is_changed}
 abbrev pub heard_run : Run → ℕ → Seen → Run
 heard_run run at seen = record run {
   rows = slice_set run.rows at (Some seen.row);
-  marks = slice_set run.marks at (record { etag = seen.etag; changed = false; out = false; awaited = None })
+  marks = slice_set run.marks at (record { etag = seen.etag; changed = false; out = false; awaited = None });
 }
 
 -- the site's last row was overtaken
 abbrev pub overtaken_run : Run → ℕ → Mark → Run
 overtaken_run run at mark = record run {
   marks = slice_set run.marks at (record { etag = mark.etag; changed = true; out = mark.out; awaited = None });
-  met = run.met + 1
+  met = run.met + 1;
 }
 
 -- the site is out
 abbrev pub left_run : Run → ℕ → Mark → Run
 left_run run at mark = record run {
   rows = slice_set run.rows at None;
-  marks = slice_set run.marks at (record { etag = mark.etag; changed = mark.changed; out = true; awaited = None })
+  marks = slice_set run.marks at (record { etag = mark.etag; changed = mark.changed; out = true; awaited = None });
 }
 
 -- what a site's request came to: a row, an overtaken write, or nothing

@@ -10,9 +10,11 @@ ghost use Rattle.gz_round.specs.Causes.{HasCause, row_value, column_value, vote_
 ghost use Rattle.gz_round.specs.Acting.{IsPlain, Acts, CanAct, CanFollow, outcome_of, contended_of, cut_off_of, CanFinish, Finishes, IsPut, IsPutAt, IsKnownPut, IsAnswerFor, IsAnswerOf, stage_step, vote_for, notice_for, working_version};
 ghost use Rattle.gz_round.specs.Following.{Ready, IsReady, Turned};
 
-use crate::run::{Run, Stage};
 use crate::following::Next;
-use gz_core::{Answer, Column, Config, Row, RowStep, SiteId, Turn, UnsureWhy, Value, Version, Vote};
+use crate::run::{Run, Stage};
+use gz_core::{
+    Answer, Column, Config, Row, RowStep, SiteId, Turn, UnsureWhy, Value, Version, Vote,
+};
 use gz_pick::highest;
 use std::alloc::{AllocError, Global};
 

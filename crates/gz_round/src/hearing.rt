@@ -29,9 +29,7 @@ const COLUMNS: usize = 1 << 22;
 pub fn can_stand(row: &Row) -> bool
     ensures { result ≡ can_stand row.now }
 {
-    row.floor().number() < VERSIONS
-        && row.columns().len() < COLUMNS
-        && columns_stand(row.columns())
+    row.floor().number() < VERSIONS && row.columns().len() < COLUMNS && columns_stand(row.columns())
 }
 
 fn columns_stand(columns: &[(Version, Column)]) -> bool

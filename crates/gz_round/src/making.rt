@@ -4,7 +4,10 @@ ghost use Rattle.gz_core.specs.Names.{IsClassic};
 ghost use Rattle.gz_round.specs.Asking.{made_of, is_notice};
 ghost use Rattle.gz_round.specs.Steps.{IsStep};
 
-use gz_accept::{Step, classic_step, classic_vote, decide, decide_step, fast_step, fast_vote, promise, promise_step, trim, trim_step};
+use gz_accept::{
+    Step, classic_step, classic_vote, decide, decide_step, fast_step, fast_vote, promise,
+    promise_step, trim, trim_step,
+};
 use gz_core::{Ballot, Row, RowStep, Value, Version};
 use std::alloc::AllocError;
 
@@ -71,7 +74,12 @@ fn promised(row: &Row, version: Version, ballot: Ballot) -> Result<Option<Row>, 
 }
 
 /// The row with a vote in a classic ballot.
-fn classic_voted(row: &Row, version: Version, ballot: Ballot, value: &Value) -> Result<Option<Row>, AllocError>
+fn classic_voted(
+    row: &Row,
+    version: Version,
+    ballot: Ballot,
+    value: &Value,
+) -> Result<Option<Row>, AllocError>
     requires version { 1 ≤ version }
     requires ballot { IsClassic ballot }
     ensures { IfOk result (λ made. made ≡ made_of (RowStep.ClassicVote version ballot value.now) row.now) }

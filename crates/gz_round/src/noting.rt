@@ -14,12 +14,7 @@ use std::alloc::{AllocError, Global};
 
 impl Run {
     /// Notes a reply of the request that is awaited from a site.
-    pub fn note_reply(
-        &mut self,
-        alloc: Global,
-        at: usize,
-        answer: &Reply,
-    ) -> Result<(), AllocError>
+    pub fn note_reply(&mut self, alloc: Global, at: usize, answer: &Reply) -> Result<(), AllocError>
         requires rows { at < length self.old.rows }
         requires marks { at < length self.old.marks }
         requires met { self.old.met + 1 < 2 ^ 32 }
@@ -43,12 +38,7 @@ impl Run {
     }
 
     /// The row that a reply of a site's request shows.
-    fn shown_at(
-        &self,
-        alloc: Global,
-        at: usize,
-        answer: &Reply,
-    ) -> Result<Option<Seen>, AllocError>
+    fn shown_at(&self, alloc: Global, at: usize, answer: &Reply) -> Result<Option<Seen>, AllocError>
         requires { at < length self.now.marks }
         ensures { IfOk result (λ seen. (mark : Mark) → slice_get self.now.marks at ≡ Some mark → seen ≡ seen_in (written_at mark) answer.now) }
     {

@@ -9,10 +9,10 @@ pub loop-at-preserved : goal.loop-at-preserved
 loop-at-preserved c = λ s l k.
     elim (cases_eq s c.loop-at.at) [
       | inl e ↦ (
-        let here : IsSiteOf c.args.marks.now c.args.n c.loop-at.at = subst (IsSiteOf c.args.marks.now c.args.n) e k in
-        let there = slice_get_read c.args.marks.now (length c.args.marks.now) c.loop-at.at c.index-marks-at.result refl (omega arith) c.index-marks-at.is in
-        let same : here.0 ≡ c.index-marks-at.result = same_Some here.0 c.index-marks-at.result (sym here.1 ∙ there) in
-        both_ways (has_number c.args.n c.index-marks-at.result) (sym c.has_number.ensures ∙ c.if-has_number.false) (subst (λ (m : Mark). has_number c.args.n m ≡ true) same here.2))
+          let here : IsSiteOf c.args.marks.now c.args.n c.loop-at.at = subst (IsSiteOf c.args.marks.now c.args.n) e k in
+          let there = slice_get_read c.args.marks.now (length c.args.marks.now) c.loop-at.at c.index-marks-at.result refl (omega arith) c.index-marks-at.is in
+          let same : here.0 ≡ c.index-marks-at.result = same_Some here.0 c.index-marks-at.result (sym here.1 ∙ there) in
+          both_ways (has_number c.args.n c.index-marks-at.result) (sym c.has_number.ensures ∙ c.if-has_number.false) (subst (λ (m : Mark). has_number c.args.n m ≡ true) same here.2))
       | inr n ↦ c.loop-at.invariant s (omega arith) k
     ]
 

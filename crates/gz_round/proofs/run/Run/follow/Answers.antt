@@ -27,5 +27,5 @@ told-requires-clause-known c =
 pub returns-in_ok-answer-in-Learnt : goal.returns-in_ok-answer-in-Learnt
 returns-in_ok-answer-in-Learnt c =
     IfOk-weaker c.close.result _ _ (λ turn p. λ w past ms r going.
-      let f = c.in-Learnt.ensures w past ms r in
-      p w past ms r.stands (learnt_cause c.args.config.now w past c.args.self.now ms c.in-Learnt.version c.in-Learnt.site c.in_ok-answer-in-Learnt.answer r.stands going f (c.in_ok-answer-in-Learnt.ensures f.row f.known))) c.close.ensures
+    let f = c.in-Learnt.ensures w past ms r in
+    p w past ms r.stands (learnt_cause c.args.config.now w past c.args.self.now ms c.in-Learnt.version c.in-Learnt.site c.in_ok-answer-in-Learnt.answer r.stands going f (c.in_ok-answer-in-Learnt.ensures f.row f.known))) c.close.ensures
