@@ -39,7 +39,7 @@ turned_holds c session w ts run ms (Some answer) calls next sizes count named to
   run_is = ((answer, refl), over);
 }
 
-idle_over : (c : Config) (next : ℕ) (run : Option Run) (ts : List Tale) → run ≡ None → HoldsRun c next run ts → AreOver ts
+pub idle_over : (c : Config) (next : ℕ) (run : Option Run) (ts : List Tale) → run ≡ None → HoldsRun c next run ts → AreOver ts
 idle_over c next run ts e h = subst (λ r. HoldsRun c next r ts) e h
 
 -- a call that begins

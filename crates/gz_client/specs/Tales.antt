@@ -13,7 +13,7 @@ use Rattle.gz_round.specs.Sites.{site_now}
 use Rattle.gz_round.specs.Sending.{AreAllowed}
 use Rattle.gz_round.specs.Counting.{IsGoing}
 use Rattle.gz_round.specs.Causes.{HasCause}
-use Rattle.gz_round.specs.Numbering.{AreNumbered}
+use Rattle.gz_round.specs.Numbering.{AreNumbered, IsLiveAt, live_where}
 use Rattle.gz_round.specs.Standing.{IsWaiting, Runs}
 use Rattle.gz_client.specs.declared.client.Client.{Client}
 
@@ -62,24 +62,24 @@ abbrev pub IsRunning : List Tale → Type 0
 IsRunning [] = ⊥
 IsRunning (t ∷ ts) = t.answer ≡ None
 
--- whether a site is awaited under a number that passes a test
-abbrev pub awaits_number : (ℕ → Bool) → Option Asked → Bool
-awaits_number p None = false
-awaits_number p (Some a) = p a.number
+-- a call that was answered awaits nothing
+abbrev pub live_while : Config → Tale → Option Answer → ℕ
+live_while c t None = live_where c (λ m. true) t.moments
+live_while c t (Some answer) = 0
 
--- how many of a call's awaited requests have a number that passes a test
-abbrev pub live_in : Config → (ℕ → Bool) → Tale → Option Answer → ℕ
-live_in c p t None = count_sites c.n (λ s. awaits_number p (site_now t.moments s).awaits)
-live_in c p t (Some answer) = 0
+abbrev pub IsLiveAtWhile : Config → Tale → ℕ → Option ℕ → Option Answer → Type 0
+IsLiveAtWhile c t i n None = IsLiveAt c t.moments i n
+IsLiveAtWhile c t i n (Some answer) = n ≡ None
 
-abbrev pub live : Config → (ℕ → Bool) → List Tale → ℕ
-live c p [] = 0
-live c p (t ∷ ts) = live_in c p t t.answer
+-- how many requests the running call awaits, if one runs
+abbrev pub live_count : Config → List Tale → ℕ
+live_count c [] = 0
+live_count c (t ∷ ts) = live_while c t t.answer
 
--- the running call awaits a request under this number
-abbrev pub IsLive : Config → List Tale → ℕ → Type 0
-IsLive c [] n = ⊥
-IsLive c (t ∷ ts) n = (a : Asked) × IsAwaited c t a n
+-- the i-th lowest number of the requests that are awaited, none where there are no more
+abbrev pub IsLiveAtIn : Config → List Tale → ℕ → Option ℕ → Type 0
+IsLiveAtIn c [] i n = n ≡ None
+IsLiveAtIn c (t ∷ ts) i n = IsLiveAtWhile c t i n t.answer
 
 -- the client may be told of this request, and the next ones go out from `first` on
 abbrev pub CanBeTold : Client → ℕ → ℕ → Type 0

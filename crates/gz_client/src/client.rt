@@ -3,7 +3,7 @@ ghost use Rattle.std.specs.Prelude.{◌≡◌, ℕ, ◌≤◌, ◌<◌, ◌+◌,
 ghost use Rattle.gz_core.specs.Configurations.{IsConfig};
 ghost use Rattle.gz_round.specs.History.{Tale, Handed, GaveUp, begun};
 ghost use Rattle.gz_round.specs.Starting.{IsWithin};
-ghost use Rattle.gz_client.specs.Tales.{Holds, CanBegin, CanBeTold, IsSameClient, IsRunning, Extends, going_on};
+ghost use Rattle.gz_client.specs.Tales.{Holds, CanBegin, CanBeTold, IsSameClient, IsRunning, Extends, going_on, live_count, IsLiveAtIn};
 
 use gz_core::{Call, Config, PutName, Reply, Session, Turn};
 use gz_round::Run;
@@ -115,6 +115,26 @@ impl Client {
     {
         self.run.is_some()
     }
+
+    /// How many requests are awaited. Takes no memory.
+    pub fn live_count(&self) -> u32
+        ensures { (next : ℕ) (ts : List Tale) → Holds self.now next ts → result ≡ live_count self.now.config ts }
+    {
+        match &self.run {
+            None => 0,
+            Some(run) => saturated(run.live_count()),
+        }
+    }
+
+    /// The `i`-th lowest number of the requests that are awaited, counted from 0. Takes no memory.
+    pub fn live_at(&self, i: u32) -> Option<u32>
+        ensures { (next : ℕ) (ts : List Tale) → Holds self.now next ts → IsLiveAtIn self.now.config ts i result }
+    {
+        match &self.run {
+            None => None,
+            Some(run) => run.live_at(i),
+        }
+    }
 }
 
 /// The call that goes on where it wasn't answered.
@@ -125,5 +145,16 @@ fn going_on(run: Run, turn: &Turn) -> Option<Run>
         None
     } else {
         Some(run)
+    }
+}
+
+/// A count as a number of 32 bits, of which a call's never needs more.
+fn saturated(count: usize) -> u32
+    ensures { count < 2 ^ 32 → result ≡ count }
+{
+    if count < 1 << 32 {
+        count as u32
+    } else {
+        u32::MAX
     }
 }

@@ -2,5 +2,7 @@
 #![tactic(auto)]
 
 pub mod client;
+mod law;
 
 pub use client::Client;
+pub use law::ends_exactly;

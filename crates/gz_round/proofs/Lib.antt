@@ -14,3 +14,4 @@ pub mod Arms
 pub mod Replies
 pub mod Starts
 pub mod Numbers
+pub mod Least
