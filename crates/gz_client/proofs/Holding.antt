@@ -1,0 +1,117 @@
+-- The client stands for its session's tales after an event.
+use Rattle.std.proofs.Common.{◌≡◌, ◌==◌, ℕ, ◌+◌, ◌<◌, ◌≤◌, Bool, true, false, List, [], ◌∷◌, length, Option, Some, None, option_map, refl, sym, ap, ◌∙◌, subst, inl, arith}
+use Rattle.std.specs.List.{slice_get}
+use Rattle.std.proofs.lemmas.Bool.{eqb-true, eq-eqb, false≢true}
+use Rattle.std.proofs.lemmas.Option.{same_Some, none-some, slice_get_within}
+use Rattle.gz_core.specs.Names.{Name}
+use Rattle.gz_core.specs.Configurations.{IsConfig}
+use Rattle.gz_core.specs.declared.calls.Answer.{Answer}
+use Rattle.gz_core.specs.declared.calls.Call.{Call}
+use Rattle.gz_core.specs.declared.configuration.Config.{Config}
+use Rattle.gz_core.specs.declared.requests.Reply.{Reply}
+use Rattle.gz_core.specs.declared.requests.Turn.{Turn}
+use Rattle.gz_round.specs.declared.run.Awaited.{Awaited}
+use Rattle.gz_round.specs.declared.run.Mark.{Mark}
+use Rattle.gz_round.specs.declared.run.Run.{Run}
+use Rattle.gz_round.specs.History.{Asked, Moment, Handed, GaveUp, Caller, Tale, IsClosing, begun, turned, sent_from}
+use Rattle.gz_round.specs.Sites.{site_now}
+use Rattle.gz_round.specs.Standing.{Knows, Runs, mark_of, awaited_of}
+use Rattle.gz_round.specs.Numbering.{AreNumbered}
+use Rattle.gz_round.specs.Awaiting.{IsSiteOf, has_number, is_numbered}
+use Rattle.gz_round.specs.Following.{Ready, Turned}
+use Rattle.gz_round.proofs.Numbers.{numbered_sent, numbered_handed, numbered_gave_up, numbered_none}
+use Rattle.gz_client.specs.declared.client.Client.{Client}
+use Rattle.gz_client.specs.Tales.{Holds, HoldsRun, AreTold, AreOver, IsTold, IsAwaited, CanBeTold, Extends, going_on}
+
+-- after an event of the newest call
+pub turned_holds : (c : Config) (session : ℕ) (w : Caller) (ts : List Tale) (run : Run) (ms : List Moment) (answer : Option Answer) (calls next : ℕ) → IsConfig c → calls ≡ length ts + 1 → w.name ≡ record { session = session; seq = length ts + 1 } → AreTold c session ts → AreOver ts →
+    AreNumbered c ms next → Turned c w ts run ms answer → Holds (record { config = c; session = session; calls = calls; run = going_on run answer }) next (record { caller = w; moments = ms; answer = answer } ∷ ts)
+turned_holds c session w ts run ms None calls next sizes count named told over numbered runs = record {
+  sizes = sizes;
+  calls_are = count ∙ omega arith;
+  told = (record { allowed = runs.stands.allowed; answered = (runs.going, runs.waits) }, named, told);
+  run_is = (refl, runs, numbered, over);
+}
+turned_holds c session w ts run ms (Some answer) calls next sizes count named told over numbered ended = record {
+  sizes = sizes;
+  calls_are = count ∙ omega arith;
+  told = (record { allowed = ended.0; answered = ended.1 }, named, told);
+  run_is = ((answer, refl), over);
+}
+
+pub idle_over : (c : Config) (next : ℕ) (run : Option Run) (ts : List Tale) → run ≡ None → HoldsRun c next run ts → AreOver ts
+idle_over c next run ts e h = subst (λ r. HoldsRun c next r ts) e h
+
+-- a call that begins
+pub begun_holds : (client : Client) (call : Call) (first : ℕ) (turn : Turn) (next : ℕ) (ts : List Tale) (run : Run) (kept : Option Run) → Holds client next ts → client.run ≡ None → kept ≡ going_on run turn.answer →
+    Turned client.config (begun client.session call first turn ts).caller ts run (sent_from first turn.send []) turn.answer →
+    Holds (record { config = client.config; session = client.session; calls = client.calls + 1; run = kept }) (first + length turn.send) (begun client.session call first turn ts ∷ ts)
+begun_holds client call first turn next ts run kept h idle kept_is ended =
+    let over : AreOver ts = idle_over client.config next client.run ts idle h.run_is in
+    let numbered : AreNumbered client.config (sent_from first turn.send []) (first + length turn.send) = numbered_sent client.config first turn.send [] (numbered_none client.config first) in
+    subst (λ (r : Option Run). Holds (record { config = client.config; session = client.session; calls = client.calls + 1; run = r }) (first + length turn.send) (begun client.session call first turn ts ∷ ts)) (sym kept_is)
+    (turned_holds client.config client.session (begun client.session call first turn ts).caller ts run (sent_from first turn.send []) turn.answer (client.calls + 1) (first + length turn.send) h.sizes (ap (λ n. n + 1) h.calls_are) refl h.told over numbered ended)
+
+-- what is held of the running call
+pub record HasRun (client : Client) (next : ℕ) (t : Tale) (ts : List Tale) (run : Run) : Type 0 where
+  pub waits : t.answer ≡ None
+  pub runs : Runs client.config t.caller ts run t.moments
+  pub numbered : AreNumbered client.config t.moments next
+  pub over : AreOver ts
+
+pub run_held : (client : Client) (next : ℕ) (t : Tale) (ts : List Tale) (run : Run) → client.run ≡ Some run → Holds client next (t ∷ ts) → HasRun client next t ts run
+run_held client next t ts run e h =
+    let k : HoldsRun client.config next (Some run) (t ∷ ts) = subst (λ r. HoldsRun client.config next r (t ∷ ts)) e h.run_is in
+    record { waits = k.0; runs = k.1; numbered = k.2; over = k.3 }
+
+number_from : (o : Option Asked) (n : ℕ) → is_numbered (λ m. m == n) (option_map awaited_of o) ≡ true → (a : Asked) × (o ≡ Some a) × (a.number ≡ n)
+number_from None n h = absurd (false≢true h)
+number_from (Some a) n h = (a, refl, eqb-true a.number n h)
+
+-- the site of an awaited number is the one that its request was sent to
+pub site_awaits : (c : Config) (run : Run) (t : Tale) (a : Asked) (n next at : ℕ) → Knows c run t.moments → AreNumbered c t.moments next → IsAwaited c t a n → IsSiteOf run.marks n at → (at < c.n) × ((site_now t.moments at).awaits ≡ Some a)
+site_awaits c run t a n next at k numbered awaited site =
+    let len = k.marks_len in
+    let inside : at < c.n = omega (arith, slice_get_within run.marks at site.0 site.1) in
+    let same : site.0 ≡ mark_of (site_now t.moments at) = same_Some site.0 (mark_of (site_now t.moments at)) (sym site.1 ∙ k.marks at inside) in
+    let found = number_from (site_now t.moments at).awaits n (subst (λ (m : Mark). has_number n m ≡ true) same site.2) in
+    let here : at ≡ a.site = numbered.apart at a.site found.0 a inside awaited.inside found.1 awaited.awaits (found.2 ∙ sym awaited.number_is) in
+    (inside, subst (λ (s : ℕ). (site_now t.moments s).awaits ≡ Some a) (sym here) awaited.awaits)
+
+-- a number that is awaited has a site
+pub awaited_site : (c : Config) (run : Run) (t : Tale) (a : Asked) (n : ℕ) → Knows c run t.moments → IsAwaited c t a n → IsSiteOf run.marks n a.site
+awaited_site c run t a n k awaited = (
+  mark_of (site_now t.moments a.site),
+  k.marks a.site awaited.inside,
+  subst (λ (o : Option Asked). is_numbered (λ m. m == n) (option_map awaited_of o) ≡ true) (sym awaited.awaits) (eq-eqb a.number n awaited.number_is),
+)
+
+ready_of : (c : Config) (w : Caller) (past : List Tale) (run : Run) (ms : List Moment) → Runs c w past run ms → Ready c w past run ms
+ready_of c w past run ms r = record { stands = r.stands; stage = r.stage }
+
+-- what the client may be told, with the site that it is about
+pub record IsAbout (client : Client) (run : Run) (n first at : ℕ) (t : Tale) (ts : List Tale) (a : Asked) : Type 0 where
+  pub inside : at < client.config.n
+  pub awaits : (site_now t.moments at).awaits ≡ Some a
+  pub ready : Ready client.config t.caller ts run t.moments
+
+pub about : (client : Client) (run : Run) (n first at next : ℕ) (t : Tale) (ts : List Tale) (a : Asked) → client.run ≡ Some run → IsSiteOf run.marks n at → Holds client next (t ∷ ts) → IsAwaited client.config t a n → IsAbout client run n first at t ts a
+about client run n first at next t ts a e site h awaited =
+    let k = run_held client next t ts run e h in
+    let s = site_awaits client.config run t a n next at k.runs.stands.knows k.numbered awaited site in
+    record { inside = s.0; awaits = s.1; ready = ready_of client.config t.caller ts run t.moments k.runs }
+
+-- one more moment of the running call
+pub turned_extends : (client : Client) (run new : Run) (first : ℕ) (turn : Turn) (moment : Moment) (next : ℕ) (t : Tale) (ts : List Tale) (kept : Option Run) → client.run ≡ Some run → kept ≡ going_on new turn.answer → Holds client next (t ∷ ts) →
+    AreNumbered client.config (moment ∷ t.moments) first → Turned client.config t.caller ts new (sent_from first turn.send (moment ∷ t.moments)) turn.answer →
+    (closing : List Moment) × IsClosing closing × Holds (record { config = client.config; session = client.session; calls = client.calls; run = kept }) (first + length turn.send) (turned first turn moment closing t ∷ ts)
+turned_extends client run new first turn moment next t ts kept e kept_is h numbered ended =
+    let k = run_held client next t ts run e h in
+    let told = h.told in
+    let calls = h.calls_are in
+    let after : AreNumbered client.config (sent_from first turn.send (moment ∷ t.moments)) (first + length turn.send) = numbered_sent client.config first turn.send (moment ∷ t.moments) numbered in (
+      [],
+      inl refl,
+      subst (λ (r : Option Run). Holds (record { config = client.config; session = client.session; calls = client.calls; run = r }) (first + length turn.send) (turned first turn moment [] t ∷ ts)) (sym kept_is)
+          (turned_holds client.config client.session t.caller ts new (sent_from first turn.send (moment ∷ t.moments)) turn.answer client.calls (first + length turn.send) h.sizes (omega arith) told.1 told.2 k.over after ended),
+    )

@@ -1,0 +1,30 @@
+-- A call ends for want of sites, or as contended, exactly where its counts say so.
+use Rattle.std.specs.Prelude.{ℕ, ◌≡◌, ◌≤◌, ◌<◌, ◌+◌, ◌↔◌, Bool, true, false, List, Option, Some, None}
+use Rattle.gz_core.specs.declared.calls.Answer.{Answer}
+use Rattle.gz_core.specs.declared.calls.Answer.TheVariants.{Ok, Bytes, Absent, NoQuorum, Contended, Unsure, Unsettled}
+use Rattle.gz_core.specs.declared.calls.UnsureWhy.{UnsureWhy}
+use Rattle.gz_core.specs.declared.calls.UnsureWhy.TheVariants.{NoQuorum as UnsureNoQuorum, Contended as UnsureContended}
+use Rattle.gz_core.specs.declared.configuration.Config.{Config}
+use Rattle.gz_round.specs.History.{Moment, Tale}
+use Rattle.gz_round.specs.Sent.{met, voted, phase_of}
+use Rattle.gz_round.specs.Counting.{outs, known_count}
+use Rattle.gz_client.specs.Tales.{IsTold}
+
+-- too few sites are left, and the call was overtaken less often than it tries
+abbrev pub LacksSites : Config → List Moment → Type 0
+LacksSites c ms = (met ms < c.tries) × (c.n < outs c ms + c.qc)
+
+-- the answer for want of sites, by whether the call voted
+abbrev pub lacking : Config → List Moment → Bool → Answer
+lacking c ms true = Unsure (UnsureNoQuorum (phase_of ms) (known_count c ms))
+lacking c ms false = NoQuorum (phase_of ms) (known_count c ms)
+
+-- the answer of a call that was overtaken too often, by whether it voted
+abbrev pub contending : List Moment → Bool → Answer
+contending ms true = Unsure (UnsureContended (met ms))
+contending ms false = Contended (met ms)
+
+abbrev pub EndsExactly : Type 0
+EndsExactly = (c : Config) (past : List Tale) (t : Tale) → IsTold c past t →
+    ((t.answer ≡ Some (lacking c t.moments (voted t.caller.name t.moments))) ↔ LacksSites c t.moments)
+    × ((t.answer ≡ Some (contending t.moments (voted t.caller.name t.moments))) ↔ (c.tries ≤ met t.moments))

@@ -1,0 +1,108 @@
+-- A client stands for the tales of its session: what it may be told, and what it has done.
+use Rattle.std.specs.Prelude.{ℕ, Bool, true, false, ◌≡◌, ◌≤◌, ◌<◌, ◌+◌, ◌^◌, List, [], ◌∷◌, length, Option, Some, None}
+use Rattle.gz_core.specs.Configurations.{IsConfig}
+use Rattle.gz_core.specs.Counts.{count_sites}
+use Rattle.gz_core.specs.declared.calls.Call.{Call}
+use Rattle.gz_core.specs.declared.calls.Call.TheVariants.{Put, Get}
+use Rattle.gz_core.specs.declared.requests.Turn.{Turn}
+use Rattle.gz_core.specs.declared.calls.Answer.{Answer}
+use Rattle.gz_core.specs.declared.configuration.Config.{Config}
+use Rattle.gz_round.specs.declared.run.Run.{Run}
+use Rattle.gz_round.specs.History.{Asked, Moment, Caller, Tale, IsClosing, turned}
+use Rattle.gz_round.specs.Sites.{site_now}
+use Rattle.gz_round.specs.Sending.{AreAllowed}
+use Rattle.gz_round.specs.Counting.{IsGoing}
+use Rattle.gz_round.specs.Causes.{HasCause}
+use Rattle.gz_round.specs.Numbering.{AreNumbered, IsLiveAt, live_where}
+use Rattle.gz_round.specs.Standing.{IsWaiting, Runs}
+use Rattle.gz_client.specs.declared.client.Client.{Client}
+
+-- the call runs, and awaits this request, which is the n-th
+pub record IsAwaited (c : Config) (t : Tale) (a : Asked) (n : ℕ) : Type 0 where
+  pub running : t.answer ≡ None
+  pub inside : a.site < c.n
+  pub awaits : (site_now t.moments a.site).awaits ≡ Some a
+  pub number_is : a.number ≡ n
+
+-- a call that runs could go on and awaits a request; an answer came by its cause
+abbrev pub IsAnswered : Config → Tale → Option Answer → Type 0
+IsAnswered c t None = IsGoing c t.moments × IsWaiting c t.moments
+IsAnswered c t (Some answer) = HasCause c t.caller t.moments answer
+
+-- each moment of a call was allowed when it came, and its answer has its cause
+pub record IsTold (c : Config) (past : List Tale) (t : Tale) : Type 0 where
+  pub allowed : AreAllowed c t.caller past t.moments
+  pub answered : IsAnswered c t t.answer
+
+-- the tales of a session, newest first: each is told by the rules, and the names count up
+abbrev pub AreTold : Config → ℕ → List Tale → Type 0
+AreTold c session [] = Unit {0}
+AreTold c session (t ∷ ts) = IsTold c ts t × (t.caller.name ≡ record { session = session; seq = length ts + 1 }) × AreTold c session ts
+
+-- every call has its answer
+abbrev pub AreOver : List Tale → Type 0
+AreOver [] = Unit {0}
+AreOver (t ∷ ts) = ((answer : Answer) × (t.answer ≡ Some answer)) × AreOver ts
+
+-- the running call, if there is one, is the newest
+abbrev pub HoldsRun : Config → ℕ → Option Run → List Tale → Type 0
+HoldsRun c next None ts = AreOver ts
+HoldsRun c next (Some run) [] = ⊥
+HoldsRun c next (Some run) (t ∷ ts) = (t.answer ≡ None) × Runs c t.caller ts run t.moments × AreNumbered c t.moments next × AreOver ts
+
+-- the client stands for these tales of its session
+pub record Holds (client : Client) (next : ℕ) (ts : List Tale) : Type 0 where
+  pub sizes : IsConfig client.config
+  pub calls_are : client.calls ≡ length ts
+  pub told : AreTold client.config client.session ts
+  pub run_is : HoldsRun client.config next client.run ts
+
+-- a call runs
+abbrev pub IsRunning : List Tale → Type 0
+IsRunning [] = ⊥
+IsRunning (t ∷ ts) = t.answer ≡ None
+
+-- a call that was answered awaits nothing
+abbrev pub live_while : Config → Tale → Option Answer → ℕ
+live_while c t None = live_where c (λ m. true) t.moments
+live_while c t (Some answer) = 0
+
+abbrev pub IsLiveAtWhile : Config → Tale → ℕ → Option ℕ → Option Answer → Type 0
+IsLiveAtWhile c t i n None = IsLiveAt c t.moments i n
+IsLiveAtWhile c t i n (Some answer) = n ≡ None
+
+-- how many requests the running call awaits, if one runs
+abbrev pub live_count : Config → List Tale → ℕ
+live_count c [] = 0
+live_count c (t ∷ ts) = live_while c t t.answer
+
+-- the i-th lowest number of the requests that are awaited, none where there are no more
+abbrev pub IsLiveAtIn : Config → List Tale → ℕ → Option ℕ → Type 0
+IsLiveAtIn c [] i n = n ≡ None
+IsLiveAtIn c (t ∷ ts) i n = IsLiveAtWhile c t i n t.answer
+
+-- the client may be told of this request, and the next ones go out from `first` on
+abbrev pub CanBeTold : Client → ℕ → ℕ → Type 0
+CanBeTold client n first = (next : ℕ) × (t : Tale) × (ts : List Tale) × (a : Asked) × Holds client next (t ∷ ts) × IsAwaited client.config t a n × (next ≤ first)
+
+-- no call runs, and so few came before that the next one has a name
+pub record CanBegin (client : Client) : Type 0 where
+  pub idle : client.run ≡ None
+  pub few : client.calls < 2 ^ 29
+  pub sizes : IsConfig client.config
+
+-- the client of the same session, under the same configuration
+pub record IsSameClient (old new : Client) : Type 0 where
+  pub config_is : new.config ≡ old.config
+  pub session_is : new.session ≡ old.session
+
+-- the client stands for the same tales, with one more moment of the running call
+abbrev pub Extends : Client → Client → ℕ → ℕ → (Asked → Moment) → Turn → Type 0
+Extends old new n first moment turn =
+    (next : ℕ) (t : Tale) (ts : List Tale) (a : Asked) → Holds old next (t ∷ ts) → IsAwaited old.config t a n → next ≤ first →
+    (closing : List Moment) × IsClosing closing × Holds new (first + length turn.send) (turned first turn (moment a) closing t ∷ ts)
+
+-- a call goes on where it wasn't answered
+abbrev pub going_on : Run → Option Answer → Option Run
+going_on run None = Some run
+going_on run (Some answer) = None

@@ -1,0 +1,160 @@
+//! A session's client.
+ghost use Rattle.std.specs.Prelude.{◌≡◌, ℕ, ◌≤◌, ◌<◌, ◌+◌, ◌^◌, ◌↔◌, List, [], ◌∷◌, length, IsTrue, Some, IsSome, IfOk, OnErr};
+ghost use Rattle.gz_core.specs.Configurations.{IsConfig};
+ghost use Rattle.gz_round.specs.History.{Tale, Handed, GaveUp, begun};
+ghost use Rattle.gz_round.specs.Starting.{IsWithin};
+ghost use Rattle.gz_client.specs.Tales.{Holds, CanBegin, CanBeTold, IsSameClient, IsRunning, Extends, going_on, live_count, IsLiveAtIn};
+
+use gz_core::{Call, Config, PutName, Reply, Session, Turn};
+use gz_round::Run;
+use std::alloc::{AllocError, Global};
+
+/// The client of one session: at most one call of it runs.
+#[derive(Debug, Drop)]
+pub struct Client {
+    config: Config,
+    session: Session,
+    calls: u32,
+    run: Option<Run>,
+}
+
+impl Client {
+    /// The client of a session that has called nothing.
+    pub fn new(config: Config, session: Session) -> Client
+        requires { IsConfig config }
+        ensures holds { (next : ℕ) → Holds result next [] }
+        ensures config { result.config ≡ config }
+        ensures session { result.session ≡ session }
+    {
+        Client {
+            config,
+            session,
+            calls: 0,
+            run: None,
+        }
+    }
+
+    /// Begins a call. Its requests go out under the numbers from `first` on, in their order.
+    pub fn begin(&mut self, alloc: Global, call: Call, first: u32) -> Result<Turn, AllocError>
+        requires begin { CanBegin self.old }
+        requires within { IsWithin call }
+        requires first { first < 2 ^ 31 }
+
+        ensures ok { IfOk result (λ turn. (next : ℕ) (ts : List Tale) → Holds self.old next ts
+            → Holds self.new (first + length turn.send) (begun self.old.session call first turn ts ∷ ts)) }
+        ensures same { IsSameClient self.old self.new }
+        ensures err { OnErr result (self.new ≡ self.old) }
+    {
+        let name = PutName {
+            session: self.session,
+            seq: self.calls + 1,
+        };
+        let mut run = Run::start(alloc, &self.config, name, call)?;
+        let turn = run.act(alloc, &self.config, first)?;
+        self.calls += 1;
+        self.run = going_on(run, &turn);
+        Ok(turn)
+    }
+
+    /// Hands the client a reply of request `n`, which it awaits. What it sends at this goes out under the
+    /// numbers from `first` on, in their order.
+    pub fn reply(
+        &mut self,
+        alloc: Global,
+        n: u32,
+        answer: &Reply,
+        first: u32,
+    ) -> Result<Turn, AllocError>
+        requires told { CanBeTold self.old n first }
+        requires first { first < 2 ^ 31 }
+
+        ensures ok { IfOk result (λ turn. Extends self.old self.new n first (λ a. Handed a answer.now) turn) }
+        ensures same { IsSameClient self.old self.new }
+        ensures err { OnErr result (self.new ≡ self.old) }
+    {
+        let mut run = self.copy_run()?;
+        let at = run.site_of(n);
+        run.note_reply(alloc, at, answer)?;
+        let turn = run.act(alloc, &self.config, first)?;
+        self.run = going_on(run, &turn);
+        Ok(turn)
+    }
+
+    /// Tells the client that request `n`, which it awaits, won't be answered. What it sends at this goes out
+    /// under the numbers from `first` on, in their order.
+    pub fn give_up(&mut self, alloc: Global, n: u32, first: u32) -> Result<Turn, AllocError>
+        requires told { CanBeTold self.old n first }
+        requires first { first < 2 ^ 31 }
+
+        ensures ok { IfOk result (λ turn. Extends self.old self.new n first (λ a. GaveUp a) turn) }
+        ensures same { IsSameClient self.old self.new }
+        ensures err { OnErr result (self.new ≡ self.old) }
+    {
+        let mut run = self.copy_run()?;
+        let at = run.site_of(n);
+        run.note_give_up(at);
+        let turn = run.act(alloc, &self.config, first)?;
+        self.run = going_on(run, &turn);
+        Ok(turn)
+    }
+
+    /// A copy of the running call.
+    fn copy_run(&self) -> Result<Run, AllocError>
+        requires { IsSome self.now.run }
+        ensures { IfOk result (λ run. self.now.run ≡ Some run) }
+    {
+        match &self.run {
+            None => unreachable!(),
+            Some(run) => run.copy(),
+        }
+    }
+
+    /// Whether a call runs. Takes no memory.
+    pub fn runs(&self) -> bool
+        ensures { (next : ℕ) (ts : List Tale) → Holds self.now next ts → (IsTrue result ↔ IsRunning ts) }
+    {
+        self.run.is_some()
+    }
+
+    /// How many requests are awaited. Takes no memory.
+    pub fn live_count(&self) -> u32
+        ensures { (next : ℕ) (ts : List Tale) → Holds self.now next ts → result ≡ live_count self.now.config ts }
+    {
+        match &self.run {
+            None => 0,
+            Some(run) => saturated(run.live_count()),
+        }
+    }
+
+    /// The `i`-th lowest number of the requests that are awaited, counted from 0. Takes no memory.
+    pub fn live_at(&self, i: u32) -> Option<u32>
+        ensures { (next : ℕ) (ts : List Tale) → Holds self.now next ts → IsLiveAtIn self.now.config ts i result }
+    {
+        match &self.run {
+            None => None,
+            Some(run) => run.live_at(i),
+        }
+    }
+}
+
+/// The call that goes on where it wasn't answered.
+fn going_on(run: Run, turn: &Turn) -> Option<Run>
+    ensures { result ≡ going_on run turn.now.answer }
+{
+    if turn.answer.is_some() {
+        None
+    } else {
+        Some(run)
+    }
+}
+
+/// A count as a number of 32 bits, of which a call's never needs more.
+fn saturated(count: usize) -> u32
+    ensures { count < 2 ^ 32 → result ≡ count }
+{
+    if count < 1 << 32 {
+        count as u32
+    } else {
+        u32::MAX
+    }
+}

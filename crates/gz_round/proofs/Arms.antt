@@ -1,0 +1,59 @@
+-- What each thing that the known rows come to leaves the call to do.
+use Rattle.std.proofs.Common.{◌≡◌, ℕ, ◌<◌, ◌≤◌, List, Option, Some, None, refl, sym, ap, ◌∙◌, subst}
+use Rattle.std.specs.List.{slice_get}
+use Rattle.gz_core.specs.Names.{Name}
+use Rattle.gz_core.specs.Puts.{PutData}
+use Rattle.gz_core.specs.Values.{name_of}
+use Rattle.gz_core.specs.Rows.{RowAt}
+use Rattle.gz_core.specs.declared.values.Value.{Value}
+use Rattle.gz_core.specs.declared.values.Value.TheVariants.{Tomb, Put}
+use Rattle.gz_core.specs.declared.calls.Answer.{Answer}
+use Rattle.gz_core.specs.declared.calls.Answer.TheVariants.{Bytes, Absent}
+use Rattle.gz_core.specs.declared.configuration.Config.{Config}
+use Rattle.gz_round.specs.declared.run.Run.{Run}
+use Rattle.gz_round.specs.declared.run.Stage.{Stage}
+use Rattle.gz_round.specs.declared.run.Stage.TheVariants.{Look, Fast}
+use Rattle.gz_round.specs.declared.following.Next.TheVariants.{Wait, Vote, Chosen, Learnt}
+use Rattle.gz_round.specs.History.{Moment, Caller, Tale}
+use Rattle.gz_round.specs.Sites.{WasHeard}
+use Rattle.gz_round.specs.Shown.{IsShown}
+use Rattle.gz_round.specs.Counting.{IsGoing}
+use Rattle.gz_round.specs.Causes.{HasCause, row_value}
+use Rattle.gz_round.specs.Standing.{Stands}
+use Rattle.gz_round.specs.Following.{Ready, NextMeans, IsFound}
+use Rattle.gz_round.specs.Acting.{IsPlain, Acts, Finishes, IsKnownPut, IsAnswerFor, IsAnswerOf}
+use Rattle.gz_round.proofs.Known.{listed_known, known_heard, heard_stands}
+use Rattle.gz_round.proofs.Columns.{named_put, value_named}
+
+-- another phase leaves what has happened
+pub stands_stage : (c : Config) (w : Caller) (past : List Tale) (run : Run) (ms : List Moment) (stage : Stage) → Stands c w past run ms → Stands c w past (record run { stage = stage }) ms
+stands_stage c w past run ms stage h = record {
+  name_is = h.name_is;
+  key_is = h.key_is;
+  own_is = h.own_is;
+  knows = record { rows_len = h.knows.rows_len; marks_len = h.knows.marks_len; rows = h.knows.rows; marks = h.knows.marks };
+  met_is = h.met_is;
+  voted_is = h.voted_is;
+  wrote_is = h.wrote_is;
+  sites = h.sites;
+  allowed = h.allowed;
+}
+
+-- the fast ballot of a version begins
+pub votes_acts : (c : Config) (w : Caller) (past : List Tale) (run : Run) (ms : List Moment) (v : ℕ) → Ready c w past run ms → IsGoing c ms → NextMeans c w run ms (Vote v) → Acts c w past (record run { stage = Fast v }) ms
+votes_acts c w past run ms v r going n = record { ready = record { stands = stands_stage c w past run ms (Fast v) r.stands; stage = (n.0, n.2) }; going = going; unmet = n.1 }
+
+-- the row of the value that was learnt has a put's value
+pub learnt_put : (c : Config) (w : Caller) (past : List Tale) (run : Run) (ms : List Moment) (v s : ℕ) → Stands c w past run ms → IsFound c w run ms v s → IsKnownPut run s v
+learnt_put c w past run ms v s h f = (f.row, f.known, named_put f.row v f.name (heard_stands ms s f.row (known_heard ms s f.row (listed_known c run ms h.knows s f.row f.inside f.known))) f.named)
+
+answer_cause : (c : Config) (w : Caller) (past : List Tale) (run : Run) (ms : List Moment) (v s : ℕ) (x : Value) (answer : Answer) → Stands c w past run ms → IsGoing c ms → (f : IsFound c w run ms v s) → row_value f.row v ≡ Some x → IsAnswerFor x v answer → HasCause c w ms answer × IsPlain answer
+answer_cause c w past run ms v s (Tomb name) answer h going f e told = absurd told
+answer_cause c w past run ms v s (Put put) answer h going f e told =
+    let named : put.name ≡ f.name = value_named f.row v f.name (Put put) f.named e in
+    let was : WasHeard ms s f.row = known_heard ms s f.row (listed_known c run ms h.knows s f.row f.inside f.known) in
+    subst (λ a. HasCause c w ms a × IsPlain a) (sym told) ((going, record { reads = f.reads; shown = subst (λ (n : Name). IsShown c ms v n) (sym named) f.shown; current = f.current; heard = (s, f.row, was, e) }), tt)
+
+-- and the answer that tells it has its cause
+pub learnt_cause : (c : Config) (w : Caller) (past : List Tale) (run : Run) (ms : List Moment) (v s : ℕ) (answer : Answer) → Stands c w past run ms → IsGoing c ms → (f : IsFound c w run ms v s) → IsAnswerOf f.row v answer → HasCause c w ms answer × IsPlain answer
+learnt_cause c w past run ms v s answer h going f told = answer_cause c w past run ms v s told.0 answer h going f told.1 told.2

@@ -1,0 +1,152 @@
+-- What a row shows, against its columns: the greatest version, names, and what a run can hold.
+use Rattle.std.proofs.Common.{◌≡◌, ◌≢◌, ℕ, zero, suc, ◌+◌, ◌<◌, ◌≤◌, ◌^◌, max, Bool, true, false, cond, ◌&&◌, ◌||◌, ◌==◌, nat_lt, List, [], ◌∷◌, length, Option, Some, None, refl, sym, ap, ◌∙◌, subst, inl, inr, ◌⊎◌, arith}
+use Rattle.std.specs.List.{slice_get, list_all}
+use Rattle.std.proofs.lemmas.Bool.{cases_Bool, cond-true, cond-false, and_parts, ltb-true, eqb-true, cases_lt}
+use Rattle.std.proofs.lemmas.Bool.Decides.{nat_tests}
+use Rattle.std.proofs.lemmas.Option.{same_Some, none-some}
+use Rattle.gz_core.specs.Names.{Name, BallotAt}
+use Rattle.gz_core.specs.Values.{name_of}
+use Rattle.gz_core.specs.Rows.{RowAt, empty_row, column_in}
+use Rattle.gz_core.specs.declared.values.Value.{Value}
+use Rattle.gz_core.specs.declared.values.Value.TheVariants.{Tomb, Put}
+use Rattle.gz_core.specs.declared.rows.Vote.{Vote}
+use Rattle.gz_core.specs.declared.rows.Column.{Column}
+use Rattle.gz_core.specs.declared.rows.Column.TheVariants.{Open, Decided}
+use Rattle.gz_pick.specs.Looks.{row_top, top_in, row_name, column_name, shows_value, highest_of}
+use Rattle.gz_round.specs.Sites.{can_stand, entry_stands, column_stands, vote_stands, value_stands}
+use Rattle.gz_round.specs.Causes.{row_value, column_value, vote_value}
+use Rattle.gz_round.specs.Acting.{IsPut, IsSomePut, IsPutAt}
+
+-- a column that names a value shows one
+name_shows : (column : Column) (x : Name) → column_name (Some column) ≡ Some x → shows_value column ≡ true
+name_shows (Open promise None) x e = absurd (none-some x e)
+name_shows (Open promise (Some vote)) x e = refl
+name_shows (Decided value) x e = refl
+
+top_step : (shown : Bool) (v rest : ℕ) → rest ≤ cond shown (max v rest) rest
+top_step true v rest = omega arith
+top_step false v rest = omega arith
+
+top_here : (shown : Bool) (v rest : ℕ) → shown ≡ true → v ≤ cond shown (max v rest) rest
+top_here true v rest e = omega arith
+top_here false v rest e = absurd (cc)
+
+-- a version at which the columns name a value is at most the greatest one that shows a value
+pub named_top : (columns : List (ℕ × Column)) (v : ℕ) (x : Name) → column_name (column_in columns v) ≡ Some x → v ≤ top_in columns
+named_top [] v x e = absurd (none-some x e)
+named_top (c ∷ cs) v x e =
+    elim (cases_Bool (c.0 == v)) [
+      | inl h ↦ (
+          let found : column_in (c ∷ cs) v ≡ Some c.1 = cond-true (c.0 == v) (Some c.1) (column_in cs v) h in
+          let same : c.0 ≡ v = eqb-true c.0 v h in
+          let shown : shows_value c.1 ≡ true = name_shows c.1 x (sym (ap column_name found) ∙ e) in
+          let here : c.0 ≤ top_in (c ∷ cs) = top_here (shows_value c.1) c.0 (top_in cs) shown in
+          omega arith)
+      | inr h ↦ (
+          let found : column_in (c ∷ cs) v ≡ column_in cs v = cond-false (c.0 == v) (Some c.1) (column_in cs v) h in
+          let rest : v ≤ top_in cs = named_top cs v x (sym (ap column_name found) ∙ e) in
+          let here : top_in cs ≤ top_in (c ∷ cs) = top_step (shows_value c.1) c.0 (top_in cs) in
+          omega arith)
+    ]
+
+low_step : (shown : Bool) (v rest : ℕ) → v < 2 ^ 62 → rest < 2 ^ 62 → cond shown (max v rest) rest < 2 ^ 62
+low_step true v rest h k = omega arith
+low_step false v rest h k = omega arith
+
+low_columns : (columns : List (ℕ × Column)) → list_all entry_stands columns ≡ true → top_in columns < 2 ^ 62
+low_columns [] h = omega arith
+low_columns (c ∷ cs) h =
+    let both : (entry_stands c ≡ true) × (list_all entry_stands cs ≡ true) = and_parts (entry_stands c) (list_all entry_stands cs) h in
+    let parts : (nat_lt c.0 (2 ^ 62) ≡ true) × (column_stands c.1 ≡ true) = and_parts (nat_lt c.0 (2 ^ 62)) (column_stands c.1) both.0 in
+    let low : c.0 < 2 ^ 62 = ltb-true c.0 (2 ^ 62) parts.0 in
+    low_step (shows_value c.1) c.0 (top_in cs) low (low_columns cs both.1)
+
+-- the columns of a row that a run can hold
+stand_columns : (row : RowAt) → can_stand row ≡ true → list_all entry_stands row.columns ≡ true
+stand_columns row h =
+    let outer : (nat_lt row.floor (2 ^ 62) ≡ true) × ((nat_lt (length row.columns) (2 ^ 22) && list_all entry_stands row.columns) ≡ true) = and_parts (nat_lt row.floor (2 ^ 62)) (nat_lt (length row.columns) (2 ^ 22) && list_all entry_stands row.columns) h in
+    (and_parts (nat_lt (length row.columns) (2 ^ 22)) (list_all entry_stands row.columns) outer.1).1
+
+-- a row that a run can hold shows no version beyond those that a run reaches
+pub stands_low : (row : RowAt) → can_stand row ≡ true → row_top row < 2 ^ 62
+stands_low row h = low_columns row.columns (stand_columns row h)
+
+pub empty_stands : can_stand empty_row ≡ true
+empty_stands = refl
+
+value_put : (value : Value) → value_stands value ≡ true → IsPut value
+value_put (Tomb name) h = absurd (cc)
+value_put (Put put) h = tt
+
+column_put : (column : Column) (x : Name) → column_stands column ≡ true → column_name (Some column) ≡ Some x → IsSomePut (column_value (Some column))
+column_put (Open promise None) x h e = absurd (none-some x e)
+column_put (Open promise (Some vote)) x h e = value_put vote.value (and_parts (nat_lt promise.round (2 ^ 31)) (vote_stands (Some vote)) h).1
+column_put (Decided value) x h e = value_put value h
+
+columns_put : (columns : List (ℕ × Column)) (v : ℕ) (x : Name) → list_all entry_stands columns ≡ true → column_name (column_in columns v) ≡ Some x → IsSomePut (column_value (column_in columns v))
+columns_put [] v x h e = absurd (none-some x e)
+columns_put (c ∷ cs) v x h e =
+    let both : (entry_stands c ≡ true) × (list_all entry_stands cs ≡ true) = and_parts (entry_stands c) (list_all entry_stands cs) h in
+    let parts : (nat_lt c.0 (2 ^ 62) ≡ true) × (column_stands c.1 ≡ true) = and_parts (nat_lt c.0 (2 ^ 62)) (column_stands c.1) both.0 in
+    elim (cases_Bool (c.0 == v)) [
+      | inl k ↦ (
+          let found : column_in (c ∷ cs) v ≡ Some c.1 = cond-true (c.0 == v) (Some c.1) (column_in cs v) k in
+          subst (λ o. IsSomePut (column_value o)) (sym found) (column_put c.1 x parts.1 (sym (ap column_name found) ∙ e)))
+      | inr k ↦ (
+          let found : column_in (c ∷ cs) v ≡ column_in cs v = cond-false (c.0 == v) (Some c.1) (column_in cs v) k in
+          subst (λ o. IsSomePut (column_value o)) (sym found) (columns_put cs v x both.1 (sym (ap column_name found) ∙ e)))
+    ]
+
+-- the value that such a row names is a put's
+pub named_put : (row : RowAt) (v : ℕ) (x : Name) → can_stand row ≡ true → row_name row v ≡ Some x → IsPutAt row v
+named_put row v x h e = columns_put row.columns v x (stand_columns row h) e
+
+-- the value that a put's answer tells has the name that the row shows
+put_named : (column : Column) (x : Name) (value : Value) → column_name (Some column) ≡ Some x → column_value (Some column) ≡ Some value → name_of value ≡ x
+put_named (Open promise None) x value e k = absurd (none-some x e)
+put_named (Open promise (Some vote)) x value e k = ap name_of (sym (same_Some vote.value value k)) ∙ same_Some (name_of vote.value) x e
+put_named (Decided own) x value e k = ap name_of (sym (same_Some own value k)) ∙ same_Some (name_of own) x e
+
+columns_named : (column : Option Column) (x : Name) (value : Value) → column_name column ≡ Some x → column_value column ≡ Some value → name_of value ≡ x
+columns_named None x value e k = absurd (none-some x e)
+columns_named (Some column) x value e k = put_named column x value e k
+
+-- a row names the value that it has
+pub value_named : (row : RowAt) (v : ℕ) (x : Name) (value : Value) → row_name row v ≡ Some x → row_value row v ≡ Some value → name_of value ≡ x
+value_named row v x value e k = columns_named (column_in row.columns v) x value e k
+
+-- the highest version of some rows is above each of them
+pub top_highest : (rows : List (Option RowAt)) (s : ℕ) (row : RowAt) → slice_get rows s ≡ Some (Some row) → row_top row ≤ highest_of rows
+top_highest [] s row e = absurd (cc)
+top_highest (None ∷ rows) zero row e = absurd (cc)
+top_highest (None ∷ rows) (suc s) row e = top_highest rows s row e
+top_highest (Some other ∷ rows) zero row e =
+    let same : other ≡ row = same_Some other row (same_Some (Some other) (Some row) e) in
+    let tops : row_top other ≡ row_top row = ap row_top same in
+    omega arith
+top_highest (Some other ∷ rows) (suc s) row e = omega (arith, top_highest rows s row e)
+
+-- and it is reached, or nothing is shown
+pub highest_reached : (rows : List (Option RowAt)) → (highest_of rows ≡ 0) ⊎ ((s : ℕ) × (row : RowAt) × (slice_get rows s ≡ Some (Some row)) × (row_top row ≡ highest_of rows))
+highest_reached [] = inl refl
+highest_reached (None ∷ rows) =
+    elim (highest_reached rows) [
+      | inl e ↦ inl e
+      | inr w ↦ inr (suc w.0, w.1, w.2, w.3)
+    ]
+highest_reached (Some row ∷ rows) =
+    elim (cases_lt (row_top row) (highest_of rows)) [
+      | inl l ↦ elim (highest_reached rows) [
+        | inl e ↦ absurd (omega arith)
+        | inr w ↦ inr (suc w.0, w.1, w.2, omega (arith, w.3))
+      ]
+      | inr l ↦ inr (zero, row, refl, omega arith)
+    ]
+
+-- a bound of each row is a bound of them all
+pub highest_below : (rows : List (Option RowAt)) (bound : ℕ) → 0 < bound → ((s : ℕ) (row : RowAt) → slice_get rows s ≡ Some (Some row) → row_top row < bound) → highest_of rows < bound
+highest_below rows bound pos h =
+    elim (highest_reached rows) [
+      | inl e ↦ omega arith
+      | inr w ↦ omega (arith, h w.0 w.1 w.2, w.3)
+    ]

@@ -1,0 +1,157 @@
+-- A guard that holds goes on to hold while the step is made at one site after another.
+use Rattle.std.proofs.Common.{◌≡◌, ◌≢◌, ℕ, ◌+◌, ◌<◌, ◌≤◌, Bool, true, false, cond, ◌&&◌, ◌||◌, ◌==◌, List, [], ◌∷◌, length, Option, Some, None, refl, sym, ap, ◌∙◌, subst, inl, inr, ◌⊎◌, arith}
+use Rattle.std.proofs.lemmas.Bool.{cases_Bool, cond-true, cond-false, or_cases, or_right, and_parts, eqb-true, true≢false, false≢true, both_ways, and_right, false_from_ne_true}
+use Rattle.std.proofs.lemmas.Option.{none-some, same_Some}
+use Rattle.std.specs.List.{All}
+use Rattle.gz_core.specs.Names.{Name, BallotAt, same_name, same_ballot}
+use Rattle.gz_core.specs.Values.{name_of}
+use Rattle.gz_core.specs.Calls.{own_value}
+use Rattle.gz_core.specs.Slots.{slots, OpenAt, IsVoteOf}
+use Rattle.gz_core.specs.declared.values.Value.{Value}
+use Rattle.gz_core.specs.declared.configuration.Config.{Config}
+use Rattle.gz_core.specs.declared.requests.RowStep.{RowStep}
+use Rattle.gz_core.specs.declared.requests.RowStep.TheVariants.{FastVote, Promise, ClassicVote, Decide, Trim}
+use Rattle.gz_core.specs.declared.requests.Op.{Op}
+use Rattle.gz_core.specs.declared.requests.Op.TheVariants.{ReadRow, WriteRow}
+use Rattle.gz_core.proofs.Ballots.{same_means, name_means}
+use Rattle.gz_round.specs.History.{Asked, Moment, Sent, Handed, GaveUp, Caller, Tale}
+use Rattle.gz_round.specs.Sent.{vote_by, promise_by, of_step, of_sent, or_earlier, passes_sent, some_sent, voted, voted_at, has_promised, has_promised_at, last_promise}
+use Rattle.gz_round.specs.Shown.{IsShown, IsCurrent, IsNext, IsClear, IsGrounded}
+use Rattle.gz_round.specs.Rounds.{MayPromise, MayClassicVote, MayPropose, IsLeft, IsPromiseHeard, passed_since, Cast, cast_by, has_cast, is_promise}
+use Rattle.gz_pick.specs.declared.heard.Heard.{Heard}
+use Rattle.gz_round.specs.Sending.{MayFastVote, MayMake}
+use Rattle.gz_round.specs.Following.{MayMakeOf}
+
+-- what a request that is sent in a pass does: it reads, or makes the step
+pub record IsOf (op : Op) (step : Option RowStep) : Type 0 where
+  pub writes : (made : RowStep) → of_step (λ s. Some s) op ≡ Some made → step ≡ Some made
+
+abbrev of_some : {T : Type 0} → (RowStep → Option T) → Option RowStep → Option T
+of_some f None = None
+of_some f (Some step) = f step
+
+promised_before : (o : Option (ℕ × BallotAt)) (v : ℕ) (b d : BallotAt) (old : Bool) → (o ≡ None) ⊎ (o ≡ Some (v, b)) → d ≢ b → (passes_sent (λ p. (p.0 == v) && same_ballot p.1 d) o || old) ≡ true → old ≡ true
+promised_before o v b d old (inl e) n h = sym (ap (λ z. passes_sent (λ p. (p.0 == v) && same_ballot p.1 d) z || old) e) ∙ h
+promised_before o v b d old (inr e) n h =
+    elim (or_cases ((v == v) && same_ballot b d) old (sym (ap (λ z. passes_sent (λ p. (p.0 == v) && same_ballot p.1 d) z || old) e) ∙ h)) [
+      | inl t ↦ absurd (n (sym (same_means b d (and_parts (v == v) (same_ballot b d) t).1)))
+      | inr t ↦ t
+    ]
+
+vote_version : (x : Name) (v u : ℕ) (value : Value) → passes_sent (λ k. k == u) (vote_by x (FastVote v value)) ≡ true → v ≡ u
+vote_version x v u value h =
+    elim (cases_Bool (same_name (name_of value) x)) [
+      | inl e ↦ eqb-true v u (sym (ap (passes_sent (λ k. k == u)) (cond-true (same_name (name_of value) x) (Some v) None e)) ∙ h)
+      | inr e ↦ absurd (false≢true (sym (ap (passes_sent (λ k. k == u)) (cond-false (same_name (name_of value) x) (Some v) None e)) ∙ h))
+    ]
+
+classic_version : (x : Name) (v u : ℕ) (b : BallotAt) (value : Value) → passes_sent (λ k. k == u) (vote_by x (ClassicVote v b value)) ≡ true → v ≡ u
+classic_version x v u b value h = vote_version x v u value h
+
+-- a call votes at no other version while it votes at one
+clear_vote : (c : Config) (x : Name) (ms : List Moment) (a : Asked) (v : ℕ) → ((u : ℕ) → passes_sent (λ k. k == u) (of_step (vote_by x) a.op) ≡ true → v ≡ u) → IsClear c x ms v → IsClear c x (Sent a ∷ ms) v
+clear_vote c x ms a v only clear u n h =
+    elim (or_cases (passes_sent (λ k. k == u) (of_step (vote_by x) a.op)) (voted_at x ms u) h) [
+      | inl e ↦ absurd (n (sym (only u e)))
+      | inr e ↦ clear u n e
+    ]
+
+-- the version that a request votes at, where the step votes at one
+only_vote : (x : Name) (op : Op) (v : ℕ) (value : Value) (u : ℕ) → IsOf op (Some (FastVote v value)) → passes_sent (λ k. k == u) (of_step (vote_by x) op) ≡ true → v ≡ u
+only_vote x (ReadRow key) v value u is h = absurd (false≢true h)
+only_vote x (WriteRow key expect step row) v value u is h = vote_version x v u value (subst (λ s. passes_sent (λ k. k == u) (vote_by x s) ≡ true) (sym (same_Some (FastVote v value) step (is.writes step refl))) h)
+
+only_classic : (x : Name) (op : Op) (v : ℕ) (b : BallotAt) (value : Value) (u : ℕ) → IsOf op (Some (ClassicVote v b value)) → passes_sent (λ k. k == u) (of_step (vote_by x) op) ≡ true → v ≡ u
+only_classic x (ReadRow key) v b value u is h = absurd (false≢true h)
+only_classic x (WriteRow key expect step row) v b value u is h = classic_version x v u b value (subst (λ s. passes_sent (λ k. k == u) (vote_by x s) ≡ true) (sym (same_Some (ClassicVote v b value) step (is.writes step refl))) h)
+
+pub fast_kept : (c : Config) (w : Caller) (ms : List Moment) (a : Asked) (v : ℕ) (value : Value) → IsOf a.op (Some (FastVote v value)) → MayFastVote c w ms v → MayFastVote c w (Sent a ∷ ms) v
+fast_kept c w ms a v value is h = record {
+  above = h.above;
+  current = h.current;
+  next = h.next;
+  clear = clear_vote c w.name ms a v (λ (u : ℕ) (k : passes_sent (λ z. z == u) (of_step (vote_by w.name) a.op) ≡ true). only_vote w.name a.op v value u is k) h.clear;
+}
+
+promise_sent : (op : Op) (v : ℕ) (b : BallotAt) → IsOf op (Some (Promise v b)) → (of_step promise_by op ≡ None) ⊎ (of_step promise_by op ≡ Some (v, b))
+promise_sent (ReadRow key) v b is = inl refl
+promise_sent (WriteRow key expect step row) v b is = inr (sym (ap (λ o. of_some promise_by o) (is.writes step refl)))
+
+other_promise : (o : Option (ℕ × BallotAt)) (v : ℕ) (b d : BallotAt) → (o ≡ None) ⊎ (o ≡ Some (v, b)) → d ≢ b → is_promise v d o ≡ false
+other_promise o v b d (inl e) n = ap (is_promise v d) e
+other_promise o v b d (inr e) n = ap (is_promise v d) e ∙ and_right (v == v) (same_ballot b d) (false_from_ne_true (same_ballot b d) (λ (h : same_ballot b d ≡ true). n (sym (same_means b d h))))
+
+last_promised : (o last : Option (ℕ × BallotAt)) (v : ℕ) (b : BallotAt) → (o ≡ None) ⊎ (o ≡ Some (v, b)) → last ≡ Some (v, b) → or_earlier o last ≡ Some (v, b)
+last_promised o last v b (inl e) h = ap (λ z. or_earlier z last) e ∙ h
+last_promised o last v b (inr e) h = ap (λ z. or_earlier z last) e
+
+own_promise : (ms : List Moment) (a : Asked) (v : ℕ) (b : BallotAt) → (of_step promise_by a.op ≡ None) ⊎ (of_step promise_by a.op ≡ Some (v, b)) → (has_promised ms b ≡ false) ⊎ (last_promise ms ≡ Some (v, b)) →
+    (has_promised (Sent a ∷ ms) b ≡ false) ⊎ (last_promise (Sent a ∷ ms) ≡ Some (v, b))
+own_promise ms a v b (inl e) (inl h) = inl (ap (λ o. passes_sent (λ p. same_ballot p.1 b) o || has_promised ms b) e ∙ h)
+own_promise ms a v b (inr e) (inl h) = inr (ap (λ o. or_earlier o (last_promise ms)) e)
+own_promise ms a v b k (inr h) = inr (last_promised (of_step promise_by a.op) (last_promise ms) v b k h)
+
+pub promise_kept : (c : Config) (w : Caller) (past : List Tale) (ms : List Moment) (a : Asked) (v : ℕ) (b : BallotAt) → IsOf a.op (Some (Promise v b)) → MayPromise c w past ms v b → MayPromise c w past (Sent a ∷ ms) v b
+promise_kept c w past ms a v b is h =
+    let sent : (of_step promise_by a.op ≡ None) ⊎ (of_step promise_by a.op ≡ Some (v, b)) = promise_sent a.op v b is in
+    record {
+      above = h.above;
+      classic = h.classic;
+      session = h.session;
+      unused = h.unused;
+      own = own_promise ms a v b sent h.own;
+      grounded = h.grounded;
+      passed = λ (d : BallotAt) (n : d ≢ b) (k : has_promised_at (Sent a ∷ ms) v d ≡ true).
+          let other : is_promise v d (of_step promise_by a.op) ≡ false = other_promise (of_step promise_by a.op) v b d sent n in
+          let old : has_promised_at ms v d ≡ true = promised_before (of_step promise_by a.op) v b d (has_promised_at ms v d) sent n k in
+          cond-false (is_promise v d (of_step promise_by a.op)) false (passed_since v d ms) other ∙ h.passed d n old;
+    }
+
+cast_sent : (op : Op) (v : ℕ) (b : BallotAt) (value : Value) → IsOf op (Some (ClassicVote v b value)) → (of_step cast_by op ≡ None) ⊎ (of_step cast_by op ≡ cast_by (ClassicVote v b value))
+cast_sent (ReadRow key) v b value is = inl refl
+cast_sent (WriteRow key expect step row) v b value is = inr (sym (ap (λ o. of_some cast_by o) (is.writes step refl)))
+
+one_cast : (o : Option Cast) (v : ℕ) (b : BallotAt) (value : Value) (y : Name) (old : Bool) → (o ≡ None) ⊎ (o ≡ cast_by (ClassicVote v b value)) → (old ≡ true → y ≡ name_of value) →
+    (passes_sent (λ k. (k.version == v) && same_ballot k.ballot b && same_name k.name y) o || old) ≡ true → y ≡ name_of value
+one_cast o v b value y old (inl e) h k = h (sym (ap (λ z. passes_sent (λ m. (m.version == v) && same_ballot m.ballot b && same_name m.name y) z || old) e) ∙ k)
+one_cast o v b value y old (inr e) h k =
+    elim (or_cases (((v == v) && same_ballot b b) && same_name (name_of value) y) old (sym (ap (λ z. passes_sent (λ m. (m.version == v) && same_ballot m.ballot b && same_name m.name y) z || old) e) ∙ k)) [
+      | inl t ↦ sym (name_means (name_of value) y (and_parts ((v == v) && same_ballot b b) (same_name (name_of value) y) t).1)
+      | inr t ↦ h t
+    ]
+
+-- rows that were heard stay heard
+pub promises_more : (m : Moment) (ms : List Moment) (v : ℕ) (b : BallotAt) (heard : List Heard) → All (IsPromiseHeard ms v b) heard → All (IsPromiseHeard (m ∷ ms) v b) heard
+promises_more m ms v b heard h = λ (k : ℕ) (d : Heard) (l : k < length heard). let one = h k d l in (one.0, inr one.1, one.2, one.3)
+
+propose_kept : (c : Config) (w : Caller) (ms : List Moment) (a : Asked) (v : ℕ) (b : BallotAt) (value : Value) → IsOf a.op (Some (ClassicVote v b value)) → MayPropose c w ms v value → MayPropose c w (Sent a ∷ ms) v value
+propose_kept c w ms a v b value is (inl h) = inl (h.0, h.1, clear_vote c w.name ms a v (λ (u : ℕ) (k : passes_sent (λ z. z == u) (of_step (vote_by w.name) a.op) ≡ true). only_classic w.name a.op v b value u is k) h.2)
+propose_kept c w ms a v b value is (inr h) = inr (h.0, h.1, h.2, h.3, inr h.4, h.5)
+
+left_kept : (c : Config) (w : Caller) (ms : List Moment) (a : Asked) (v : ℕ) (b : BallotAt) (heard : List Heard) (value : Value) → IsOf a.op (Some (ClassicVote v b value)) → IsLeft c w ms v heard value → IsLeft c w (Sent a ∷ ms) v heard value
+left_kept c w ms a v b heard value is (inl h) = inl h
+left_kept c w ms a v b heard value is (inr h) = inr (h.0, propose_kept c w ms a v b value is h.1)
+
+pub classic_kept : (c : Config) (w : Caller) (ms : List Moment) (a : Asked) (v : ℕ) (b : BallotAt) (value : Value) → IsOf a.op (Some (ClassicVote v b value)) → MayClassicVote c w ms v b value → MayClassicVote c w (Sent a ∷ ms) v b value
+classic_kept c w ms a v b value is h = record {
+  above = h.above;
+  promised = or_right (passes_sent (λ p. (p.0 == v) && same_ballot p.1 b) (of_step promise_by a.op)) (has_promised_at ms v b) h.promised;
+  heard = h.heard;
+  sites = h.sites;
+  enough = h.enough;
+  rows = promises_more (Sent a) ms v b h.heard h.rows;
+  choice = left_kept c w ms a v b h.heard value is h.choice;
+  one = λ (y : Name) (k : has_cast (Sent a ∷ ms) v b y ≡ true). one_cast (of_step cast_by a.op) v b value y (has_cast ms v b y) (cast_sent a.op v b value is) (h.one y) k;
+}
+
+-- a guard that holds goes on to hold
+pub may_kept : (c : Config) (w : Caller) (past : List Tale) (ms : List Moment) (a : Asked) (step : RowStep) → IsOf a.op (Some step) → MayMake c w past ms step → MayMake c w past (Sent a ∷ ms) step
+may_kept c w past ms a (FastVote v value) is h = (h.0, fast_kept c w ms a v value is h.1)
+may_kept c w past ms a (Promise v b) is h = promise_kept c w past ms a v b is h
+may_kept c w past ms a (ClassicVote v b value) is h = classic_kept c w ms a v b value is h
+may_kept c w past ms a (Decide v value) is h = h
+may_kept c w past ms a (Trim to value) is h = h
+
+pub may_kept_of : (c : Config) (w : Caller) (past : List Tale) (ms : List Moment) (a : Asked) (step : Option RowStep) → IsOf a.op step → MayMakeOf c w past ms step → MayMakeOf c w past (Sent a ∷ ms) step
+may_kept_of c w past ms a None is h = tt
+may_kept_of c w past ms a (Some step) is h = may_kept c w past ms a step is h

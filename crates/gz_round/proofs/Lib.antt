@@ -1,0 +1,17 @@
+pub mod Lists
+pub mod Moments
+pub mod Heard
+pub mod Columns
+pub mod Known
+pub mod Guards
+pub mod Sends
+pub mod Serves
+pub mod Follows
+pub mod Endings
+pub mod Passes
+pub mod Turns
+pub mod Arms
+pub mod Replies
+pub mod Starts
+pub mod Numbers
+pub mod Least

@@ -1,0 +1,101 @@
+-- Lists with a place for each site: what a write changes, and counts over them.
+use Rattle.std.proofs.Common.{◌≡◌, ◌≢◌, ℕ, zero, suc, ◌+◌, ◌<◌, ◌≤◌, Bool, true, false, cond, List, [], ◌∷◌, ◌++◌, length, Option, Some, None, refl, sym, ap, ◌∙◌, subst, inl, inr, ◌⊎◌, arith}
+use Rattle.std.proofs.Math.ListN.{set, length-set}
+use Rattle.std.specs.List.{slice_get, count_by, list_any, list_all}
+use Rattle.std.proofs.lemmas.Bool.{cases_eq, cases_Bool, cond-true, cond-false, or_cases, or_left, or_right, and_parts, true≢false}
+use Rattle.std.proofs.lemmas.Option.{same_Some, slice_get_within}
+use Rattle.std.proofs.lemmas.List.Sums.{sum_by-cons}
+use Rattle.gz_core.specs.Counts.{count_sites}
+use Rattle.gz_core.proofs.Counting.{count_within}
+
+-- the element that was written
+pub slice_get-set_same : {A : Type 0} (xs : List A) (i : ℕ) (x : A) → i < length xs → slice_get (set xs i x) i ≡ Some x
+slice_get-set_same [] i x l = absurd (omega arith)
+slice_get-set_same (y ∷ ys) zero x l = refl
+slice_get-set_same (y ∷ ys) (suc i) x l = slice_get-set_same ys i x (omega arith)
+
+-- the others stay
+pub slice_get-set_other : {A : Type 0} (xs : List A) (i k : ℕ) (x : A) → k ≢ i → slice_get (set xs i x) k ≡ slice_get xs k
+slice_get-set_other [] i k x n = refl
+slice_get-set_other (y ∷ ys) zero zero x n = absurd (n refl)
+slice_get-set_other (y ∷ ys) zero (suc k) x n = refl
+slice_get-set_other (y ∷ ys) (suc i) zero x n = refl
+slice_get-set_other (y ∷ ys) (suc i) (suc k) x n = slice_get-set_other ys i k x (λ (e : k ≡ i). n (ap suc e))
+
+-- a list that tells a function of the site goes on to, where one place changes as the function does
+pub told_after_set : {A : Type 0} (n : ℕ) (xs : List A) (f g : ℕ → A) (at : ℕ) (y : A) → length xs ≡ n → ((s : ℕ) → s < n → slice_get xs s ≡ Some (f s)) →
+    y ≡ g at → ((s : ℕ) → s ≢ at → f s ≡ g s) → (s : ℕ) → s < n → slice_get (set xs at y) s ≡ Some (g s)
+told_after_set n xs f g at y len told here others s l =
+    elim (cases_eq s at) [
+      | inl e ↦ (
+          let here_s : y ≡ g s = here ∙ ap g (sym e) in
+          let within : at < length xs = omega arith in
+          let got : slice_get (set xs at y) at ≡ Some y = slice_get-set_same xs at y within in
+          subst (λ (k : ℕ). slice_get (set xs at y) k ≡ Some (g s)) (sym e) (got ∙ ap (λ z. Some z) here_s))
+      | inr n ↦ slice_get-set_other xs at s y n ∙ (told s l ∙ ap (λ z. Some z) (others s n))
+    ]
+
+-- the same function, the same list
+pub told_same : {A : Type 0} (n : ℕ) (xs : List A) (f g : ℕ → A) → ((s : ℕ) → s < n → slice_get xs s ≡ Some (f s)) → ((s : ℕ) → f s ≡ g s) → (s : ℕ) → s < n → slice_get xs s ≡ Some (g s)
+told_same n xs f g told same s l = told s l ∙ ap (λ z. Some z) (same s)
+
+-- tests that agree on the sites count the same
+pub count_same : (n : ℕ) (p q : ℕ → Bool) → ((s : ℕ) → s < n → p s ≡ q s) → count_sites n p ≡ count_sites n q
+count_same zero p q h = refl
+count_same (suc n) p q h =
+    ap (λ b. cond b (suc (count_sites n p)) (count_sites n p)) (h n (omega arith)) ∙ ap (λ k. cond (q n) (suc k) k) (count_same n p q (λ (s : ℕ) (l : s < n). h s (omega arith)))
+
+one_site : (a : Bool) → cond a (suc zero) zero ≡ cond a 1 0 + 0
+one_site true = omega arith
+one_site false = omega arith
+
+last_or_first : (a b : Bool) (x y : ℕ) → cond a (suc (cond b 1 0 + x)) (cond b 1 0 + x) ≡ cond b 1 0 + cond a (suc x) x
+last_or_first true true x y = omega arith
+last_or_first true false x y = omega arith
+last_or_first false true x y = omega arith
+last_or_first false false x y = omega arith
+
+-- a count from the first site on
+pub count_first : (n : ℕ) (p : ℕ → Bool) → count_sites (suc n) p ≡ cond (p 0) 1 0 + count_sites n (λ s. p (suc s))
+count_first zero p = one_site (p 0)
+count_first (suc n) p = rw (count_first n p) (last_or_first (p (suc n)) (p 0) (count_sites n (λ s. p (suc s))) 0)
+
+-- a count over a list that tells a function of the site is the count of the sites
+pub count_told : {A : Type 0} (p : A → Bool) (n : ℕ) (xs : List A) (f : ℕ → A) → length xs ≡ n → ((s : ℕ) → s < n → slice_get xs s ≡ Some (f s)) → count_by p xs ≡ count_sites n (λ s. p (f s))
+count_told p zero [] f len told = refl
+count_told p zero (x ∷ xs) f len told = absurd (omega arith)
+count_told p (suc n) [] f len told = absurd (omega arith)
+count_told {A = A} p (suc n) (x ∷ xs) f len told =
+    let here : x ≡ f 0 = same_Some x (f 0) (told 0 (omega arith)) in
+    let rest : count_by p xs ≡ count_sites n (λ s. p (f (suc s))) = count_told p n xs (λ s. f (suc s)) (omega arith) (λ (s : ℕ) (l : s < n). told (suc s) (omega arith)) in
+    let weight : A → ℕ = λ y. cond (p y) 1 0 in
+    let first : weight x ≡ weight (f 0) = ap weight here in
+    omega (arith, count_first n (λ s. p (f s)), rest, first, sum_by-cons weight x xs)
+
+-- some element passes where a site does
+pub any_told : {A : Type 0} (p : A → Bool) (xs : List A) (s : ℕ) (x : A) → slice_get xs s ≡ Some x → p x ≡ true → list_any p xs ≡ true
+any_told p [] s x e h = absurd (cc)
+any_told p (y ∷ ys) zero x e h = or_left (p y) (list_any p ys) (subst (λ z. p z ≡ true) (sym (same_Some y x e)) h)
+any_told p (y ∷ ys) (suc s) x e h = or_right (p y) (list_any p ys) (any_told p ys s x e h)
+
+-- where some element passes, here is its place
+pub any_found : {A : Type 0} (p : A → Bool) (xs : List A) → list_any p xs ≡ true → (s : ℕ) × (x : A) × (slice_get xs s ≡ Some x) × (p x ≡ true)
+any_found p [] h = absurd (cc)
+any_found {A = A} p (y ∷ ys) h =
+    elim (or_cases (p y) (list_any p ys) h) [
+      | inl e ↦ (zero, y, refl, e)
+      | inr e ↦ (let w : (s : ℕ) × (x : A) × (slice_get ys s ≡ Some x) × (p x ≡ true) = any_found p ys e in (suc w.0, w.1, w.2, w.3))
+    ]
+
+-- each element passes where all do
+pub all_at : {A : Type 0} (p : A → Bool) (xs : List A) (s : ℕ) (x : A) → list_all p xs ≡ true → slice_get xs s ≡ Some x → p x ≡ true
+all_at p [] s x h e = absurd (cc)
+all_at p (y ∷ ys) zero x h e = subst (λ z. p z ≡ true) (same_Some y x e) (and_parts (p y) (list_all p ys) h).0
+all_at p (y ∷ ys) (suc s) x h e = all_at p ys s x (and_parts (p y) (list_all p ys) h).1 e
+
+-- one more of the same
+pub each_pushed : {A : Type 0} (xs : List A) (x : A) (n : ℕ) → length xs ≡ n → ((s : ℕ) → s < n → slice_get xs s ≡ Some x) → (s : ℕ) → s < n + 1 → slice_get (xs ++ (x ∷ [])) s ≡ Some x
+each_pushed [] x n len h zero l = refl
+each_pushed [] x n len h (suc s) l = absurd (omega arith)
+each_pushed (y ∷ ys) x n len h zero l = h zero (omega arith)
+each_pushed (y ∷ ys) x n len h (suc s) l = each_pushed ys x (length ys) refl (λ (k : ℕ) (m : k < length ys). h (suc k) (omega arith)) s (omega arith)

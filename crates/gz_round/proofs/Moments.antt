@@ -1,0 +1,43 @@
+-- What one more moment makes of the sites.
+use Rattle.std.proofs.Common.{◌≡◌, ◌≢◌, ℕ, ◌+◌, ◌<◌, ◌≤◌, Bool, true, false, cond, ◌&&◌, ◌||◌, ◌==◌, List, [], ◌∷◌, ◌++◌, length, Option, Some, None, refl, sym, ap, ◌∙◌, subst, inl, inr, ◌⊎◌, arith, zero-add}
+use Rattle.std.proofs.lemmas.Bool.{cases_Bool, cases_eq, cond-true, cond-false, ne_eqb, eq-eqb}
+use Rattle.gz_core.specs.declared.requests.Op.{Op}
+use Rattle.gz_core.specs.declared.requests.Op.TheVariants.{ReadRow, WriteRow}
+use Rattle.gz_core.specs.declared.requests.Out.{Out}
+use Rattle.gz_core.specs.declared.requests.Reply.{Reply}
+use Rattle.gz_round.specs.History.{Asked, Moment, Sent, Handed, GaveUp, is_row_request, asked_of, sent_from}
+use Rattle.gz_round.specs.Sites.{SiteNow, site_now, after, after_sent, concerns, is_to}
+
+-- every request so far is about a row
+pub row_request : (op : Op) → is_row_request op ≡ true
+row_request (ReadRow key) = refl
+row_request (WriteRow key expect step row) = refl
+
+-- a request is to the site that it names
+pub is_to_same : (a : Asked) (s : ℕ) → a.site ≡ s → is_to a s ≡ true
+is_to_same a s e = rw (row_request a.op) (eq-eqb a.site s e)
+
+pub is_to_other : (a : Asked) (s : ℕ) → s ≢ a.site → is_to a s ≡ false
+is_to_other a s n = rw (row_request a.op) (ne_eqb a.site s (λ (e : a.site ≡ s). n (sym e)))
+
+-- the site that a moment concerns
+pub now_here : (m : Moment) (ms : List Moment) (s : ℕ) → concerns m s ≡ true → site_now (m ∷ ms) s ≡ after m (site_now ms s)
+now_here m ms s h = cond-true (concerns m s) (after m (site_now ms s)) (site_now ms s) h
+
+-- the others stay
+pub now_other : (m : Moment) (ms : List Moment) (s : ℕ) → concerns m s ≡ false → site_now (m ∷ ms) s ≡ site_now ms s
+now_other m ms s h = cond-false (concerns m s) (after m (site_now ms s)) (site_now ms s) h
+
+-- one more request of an event comes last
+pub sent_append : (first : ℕ) (outs : List Out) (out : Out) (ms : List Moment) → sent_from first (outs ++ (out ∷ [])) ms ≡ Sent (asked_of (first + length outs) out) ∷ sent_from first outs ms
+sent_append first [] out ms = ap (λ k. Sent (asked_of k out) ∷ ms) (omega arith)
+sent_append first (o ∷ os) out ms =
+    sent_append (first + 1) os out (Sent (asked_of first o) ∷ ms) ∙ ap (λ k. Sent (asked_of k out) ∷ sent_from (first + 1) os (Sent (asked_of first o) ∷ ms)) (omega arith)
+
+-- a fact of a site after a moment, from the two cases
+pub each_site : (P : SiteNow → Type 0) (m : Moment) (ms : List Moment) (s : ℕ) → (concerns m s ≡ true → P (after m (site_now ms s))) → (concerns m s ≡ false → P (site_now ms s)) → P (site_now (m ∷ ms) s)
+each_site P m ms s here other =
+    elim (cases_Bool (concerns m s)) [
+      | inl e ↦ subst P (sym (now_here m ms s e)) (here e)
+      | inr e ↦ subst P (sym (now_other m ms s e)) (other e)
+    ]

@@ -1,0 +1,100 @@
+-- A pass over the sites, one after another.
+use Rattle.std.proofs.Common.{◌≡◌, ◌≢◌, ℕ, zero, suc, ◌+◌, ◌<◌, ◌≤◌, Bool, true, false, cond, ◌||◌, List, [], ◌∷◌, ◌++◌, length, Option, Some, None, is_some, refl, sym, ap, ◌∙◌, subst, inl, inr, ◌⊎◌, arith, set, get_or}
+use Rattle.std.proofs.Math.ListN.{length-set, length-append}
+use Rattle.std.specs.List.{slice_get}
+use Rattle.std.proofs.lemmas.Bool.{cases_Bool, cond-true, cond-false}
+use Rattle.std.proofs.lemmas.Option.{same_Some, none-some}
+use Rattle.gz_core.specs.Rows.{RowAt}
+use Rattle.gz_core.specs.declared.configuration.Config.{Config}
+use Rattle.gz_core.specs.declared.requests.RowStep.{RowStep}
+use Rattle.gz_core.specs.declared.requests.Out.{Out}
+use Rattle.gz_round.specs.declared.run.Mark.{Mark}
+use Rattle.gz_round.specs.declared.run.Run.{Run}
+use Rattle.gz_round.specs.History.{Moment, Caller, Tale, sent_from}
+use Rattle.gz_round.specs.Sent.{of_step, vote_by, phase_by, passes_sent}
+use Rattle.gz_round.specs.Asking.{asks_of, sent_run, noted, marked_run, marked_as, phase_after, AskedBy, IsAskedAt, IsLeftBy}
+use Rattle.gz_round.specs.Following.{Asks, AreServed, CanAsk}
+use Rattle.gz_round.proofs.Sends.{Kind, reads, writes, asked_kind}
+use Rattle.gz_round.proofs.Serves.{Passed, passed_more}
+
+pub left_refl : (run : Run) (step : Option RowStep) → IsLeftBy run run step
+left_refl run step = record { rows = refl; marks_len = refl; stage = refl; own = refl; name = refl; voted = λ e. refl; wrote = λ e. refl }
+
+pub left_trans : (a b d : Run) (step : Option RowStep) → IsLeftBy a b step → IsLeftBy b d step → IsLeftBy a d step
+left_trans a b d step h k = record {
+  rows = k.rows ∙ h.rows;
+  marks_len = k.marks_len ∙ h.marks_len;
+  stage = k.stage ∙ h.stage;
+  own = k.own ∙ h.own;
+  name = k.name ∙ h.name;
+  voted = λ e. k.voted e ∙ h.voted e;
+  wrote = λ e. k.wrote e ∙ h.wrote e;
+}
+
+place_of : {A : Type 0} (xs : List A) (i : ℕ) → i < length xs → (x : A) × (slice_get xs i ≡ Some x)
+place_of [] i l = absurd (omega arith)
+place_of (y ∷ ys) zero l = (y, refl)
+place_of (y ∷ ys) (suc i) l = place_of ys i (omega arith)
+
+marks_left : (run : Run) (at number : ℕ) (mark : Mark) (out : Out) → length (cond out.awaited (set run.marks at (marked_as mark number out)) run.marks) ≡ length run.marks
+marks_left run at number mark out = elim (cases_Bool out.awaited) [
+  | inl e ↦ ap length (cond-true out.awaited (set run.marks at (marked_as mark number out)) run.marks e) ∙ length-set run.marks at (marked_as mark number out)
+  | inr e ↦ ap length (cond-false out.awaited (set run.marks at (marked_as mark number out)) run.marks e)
+]
+
+read_voted : (run : Run) (at number : ℕ) (mark : Mark) (step : Option RowStep) (row : Option RowAt) (out : Out) → Kind run at mark step row out → step ≡ None → (sent_run run at number mark out).voted ≡ run.voted
+read_voted run at number mark step row out (reads e why) none = ap (λ (o : Out). passes_sent (λ u. true) (of_step (vote_by run.name) o.op) || run.voted) e
+read_voted run at number mark step row out (writes made before new s r same made_is e) none = absurd (none-some made (sym none ∙ s))
+
+read_wrote : (run : Run) (at number : ℕ) (mark : Mark) (step : Option RowStep) (row : Option RowAt) (out : Out) → Kind run at mark step row out → step ≡ None → (sent_run run at number mark out).wrote ≡ run.wrote
+read_wrote run at number mark step row out (reads e why) none = ap (λ (o : Out). phase_after (of_step phase_by o.op) run.wrote) e
+read_wrote run at number mark step row out (writes made before new s r same made_is e) none = absurd (none-some made (sym none ∙ s))
+
+left_sent : (run : Run) (at number : ℕ) (mark : Mark) (step : Option RowStep) (row : Option RowAt) (out : Out) → asks_of run at mark step row ≡ Some out → IsLeftBy run (sent_run run at number mark out) step
+left_sent run at number mark step row out h =
+    let k = asked_kind run at mark step row out h in
+    record { rows = refl; marks_len = marks_left run at number mark out; stage = refl; own = refl; name = refl; voted = read_voted run at number mark step row out k.2; wrote = read_wrote run at number mark step row out k.2 }
+
+left_by : (run new : Run) (at first : ℕ) (outs sent : List Out) (mark : Mark) (step : Option RowStep) (row : Option RowAt) (o : Option Out) → asks_of run at mark step row ≡ o → AskedBy run at first outs mark o new sent → IsLeftBy run new step
+left_by run new at first outs sent mark step row None e h = subst (λ (r : Run). IsLeftBy run r step) (sym h.0) (left_refl run step)
+left_by run new at first outs sent mark step row (Some out) e h = subst (λ (r : Run). IsLeftBy run r step) (sym h.0) (left_sent run at (first + length outs) mark step row out e)
+
+-- what asking one site leaves as it was
+pub left_asked : (run new : Run) (at first : ℕ) (outs sent : List Out) (step : Option RowStep) → at < length run.marks → at < length run.rows → IsAskedAt run at step first outs new sent → IsLeftBy run new step
+left_asked run new at first outs sent step l k h =
+    let mark = place_of run.marks at l in
+    let row = place_of run.rows at k in
+    left_by run new at first outs sent mark.0 step row.0 (asks_of run at mark.0 step row.0) refl (h mark.0 row.0 mark.1 row.1)
+
+-- so far the sites below one were asked
+pub record Going (c : Config) (start run : Run) (step : Option RowStep) (first : ℕ) (outs sent : List Out) (at : ℕ) : Type 0 where
+  pub few : length sent ≤ length outs + at
+  pub left : IsLeftBy start run step
+  pub asked : (w : Caller) (past : List Tale) (ms : List Moment) → Asks c w past start (sent_from first outs ms) step → Passed c w past run (sent_from first sent ms) step at
+
+pub going_none : (c : Config) (run : Run) (step : Option RowStep) (first : ℕ) (outs : List Out) → Going c run run step first outs outs 0
+going_none c run step first outs = record {
+  few = omega arith;
+  left = left_refl run step;
+  asked = λ w past ms h. record { asks = h; served = λ (s : ℕ) (l : s < 0). absurd (omega arith) };
+}
+
+pub inside_rows : (c : Config) (start run : Run) (step : Option RowStep) (first : ℕ) (outs sent : List Out) (at : ℕ) → CanAsk c start first outs step → Going c start run step first outs sent at → length run.rows ≡ c.n
+inside_rows c start run step first outs sent at k g = ap length g.left.rows ∙ k.3.stands.knows.rows_len
+
+pub inside_marks : (c : Config) (start run : Run) (step : Option RowStep) (first : ℕ) (outs sent : List Out) (at : ℕ) → CanAsk c start first outs step → Going c start run step first outs sent at → length run.marks ≡ c.n
+inside_marks c start run step first outs sent at k g = g.left.marks_len ∙ k.3.stands.knows.marks_len
+
+pub going_more : (c : Config) (start run new : Run) (step : Option RowStep) (first : ℕ) (outs sent more : List Out) (at : ℕ) → CanAsk c start first outs step → at < c.n → length more ≤ length sent + 1 → IsAskedAt run at step first sent new more →
+    Going c start run step first outs sent at → Going c start new step first outs more (at + 1)
+going_more c start run new step first outs sent more at k l few asked g =
+    let few_then = g.few in
+    record {
+      few = omega arith;
+      left = left_trans start run new step g.left (left_asked run new at first sent more step (omega (arith, inside_marks c start run step first outs sent at k g)) (omega (arith, inside_rows c start run step first outs sent at k g)) asked);
+      asked = λ w past ms h. passed_more c w past run new ms first sent more step at l asked (g.asked w past ms h);
+    }
+
+pub going_all : (c : Config) (start run : Run) (step : Option RowStep) (first : ℕ) (outs sent : List Out) → Going c start run step first outs sent c.n → (w : Caller) (past : List Tale) (ms : List Moment) → Asks c w past start (sent_from first outs ms) step →
+    Asks c w past run (sent_from first sent ms) step × AreServed c w (sent_from first sent ms) step
+going_all c start run step first outs sent g w past ms h = let p = g.asked w past ms h in (p.asks, p.served)

@@ -1,0 +1,268 @@
+-- What an event comes to: the call runs on, or its answer has its cause.
+use Rattle.std.proofs.Common.{◌≡◌, ◌≢◌, ℕ, zero, suc, ◌+◌, ◌<◌, ◌≤◌, Bool, true, false, cond, ◌&&◌, ◌||◌, ◌==◌, List, [], ◌∷◌, ◌++◌, length, Option, Some, None, is_some, option_map, refl, sym, ap, ◌∙◌, subst, inl, inr, ◌⊎◌, arith, leb}
+use Rattle.std.specs.List.{slice_get, list_any}
+use Rattle.std.proofs.lemmas.Bool.{cases_Bool, cases_eq, cond-true, cond-false, true≢false, false≢true, both_ways}
+use Rattle.std.proofs.lemmas.Option.{same_Some, none-some, slice_get_within}
+use Rattle.gz_core.specs.Names.{Name}
+use Rattle.gz_core.specs.Values.{name_of}
+use Rattle.gz_core.specs.Rows.{RowAt}
+use Rattle.gz_core.specs.Calls.{key_of, own_value}
+use Rattle.gz_core.specs.Counts.{count_sites}
+use Rattle.gz_core.specs.Configurations.{IsConfig}
+use Rattle.gz_core.specs.declared.calls.Call.{Call}
+use Rattle.gz_core.specs.declared.calls.Call.TheVariants.{Put, Get}
+use Rattle.gz_core.specs.declared.calls.Answer.{Answer}
+use Rattle.gz_core.specs.declared.calls.Answer.TheVariants.{Ok, Bytes, Absent, NoQuorum, Contended, Unsure, Unsettled}
+use Rattle.gz_core.specs.declared.calls.UnsureWhy.{UnsureWhy}
+use Rattle.gz_core.specs.declared.calls.UnsureWhy.TheVariants.{NoQuorum as UnsureNoQuorum, Contended as UnsureContended}
+use Rattle.gz_core.specs.declared.calls.Phase.{Phase}
+use Rattle.gz_core.specs.declared.values.Value.{Value}
+use Rattle.gz_core.specs.declared.configuration.Config.{Config}
+use Rattle.gz_core.specs.declared.requests.RowStep.{RowStep}
+use Rattle.gz_core.specs.declared.requests.RowStep.TheVariants.{FastVote, Decide}
+use Rattle.gz_core.specs.declared.requests.Op.{Op}
+use Rattle.gz_core.specs.declared.requests.Op.TheVariants.{ReadRow, WriteRow}
+use Rattle.gz_core.specs.declared.requests.Out.{Out}
+use Rattle.gz_accept.specs.declared.answers.Step.TheVariants.{Done}
+use Rattle.gz_accept.specs.Steps.{fast_answer, decide_answer, decided}
+use Rattle.gz_pick.specs.Looks.{row_top, highest_of}
+use Rattle.gz_pick.specs.Evidences.{IsEvident}
+use Rattle.gz_round.specs.declared.hearing.Seen.{Seen}
+use Rattle.gz_round.specs.declared.run.Mark.{Mark}
+use Rattle.gz_round.specs.declared.run.Run.{Run}
+use Rattle.gz_round.specs.declared.run.Stage.{Stage}
+use Rattle.gz_round.specs.declared.run.Stage.TheVariants.{Look, Fast}
+use Rattle.gz_round.specs.History.{Asked, Moment, Sent, Caller, Tale, asked_of, sent_from}
+use Rattle.gz_round.specs.Sites.{SiteNow, site_now, known, WasHeard}
+use Rattle.gz_round.specs.Sent.{met, voted, phase_of}
+use Rattle.gz_round.specs.Shown.{heard_at, IsShown, IsCurrent}
+use Rattle.gz_round.specs.Sending.{AreAllowed, MayFastVote, MayMake, MayRead}
+use Rattle.gz_round.specs.Counting.{outs, known_count, IsGoing, IsNoticed, HasNotice}
+use Rattle.gz_round.specs.Causes.{HasCause, IsCutOff, IsOvertaken, UnsureCause, IsAbsent, IsLearnt, IsValueHeard, IsChosenOwn, IsUnsettled, IsHighest, rows_known, is_blank}
+use Rattle.gz_round.specs.Asking.{IsLeftBy, is_notice}
+use Rattle.gz_round.specs.Standing.{Knows, Stands, StageStands, AreAskedAgain, IsWaiting, Runs, mark_of, awaited_of}
+use Rattle.gz_round.specs.Following.{Asks, MayMakeOf, AreServed, IsServed, IsSettledBy, NoEvidence, IsUnmet, Ready, Turned}
+use Rattle.gz_round.specs.Acting.{IsPlain, Acts, Finishes, vote_for, notice_for, stage_step, step_in, working_version, version_in, outcome_of}
+use Rattle.gz_round.proofs.Lists.{count_same, any_found, any_told}
+use Rattle.gz_round.proofs.Known.{evident_same, last_known, known_last, listed_known}
+use Rattle.gz_round.proofs.Columns.{top_highest, highest_reached}
+use Rattle.gz_round.proofs.Sends.{known_after_sent, out_after_sent}
+
+-- what one request more leaves holds after all requests of an event
+over_sent : (P : List Moment → Type 0) → ((a : Asked) (ms : List Moment) → P ms → P (Sent a ∷ ms)) → (first : ℕ) (outs : List Out) (ms : List Moment) → P ms → P (sent_from first outs ms)
+over_sent P step first [] ms h = h
+over_sent P step first (o ∷ os) ms h = over_sent P step (first + 1) os (Sent (asked_of first o) ∷ ms) (step (asked_of first o) ms h)
+
+-- a number that requests leave
+same_sent : (f : List Moment → ℕ) → ((a : Asked) (ms : List Moment) → f ms ≡ f (Sent a ∷ ms)) → (first : ℕ) (sent : List Out) (ms : List Moment) → f ms ≡ f (sent_from first sent ms)
+same_sent f step first sent ms = over_sent (λ ns. f ms ≡ f ns) (λ (a : Asked) (ns : List Moment) (e : f ms ≡ f ns). e ∙ step a ns) first sent ms refl
+
+pub met_sent : (first : ℕ) (sent : List Out) (ms : List Moment) → met ms ≡ met (sent_from first sent ms)
+met_sent first sent ms = same_sent met (λ a ns. refl) first sent ms
+
+pub outs_sent : (c : Config) (first : ℕ) (sent : List Out) (ms : List Moment) → outs c ms ≡ outs c (sent_from first sent ms)
+outs_sent c first sent ms = same_sent (outs c) (λ (a : Asked) (ns : List Moment). count_same c.n (λ s. (site_now ns s).out) (λ s. (site_now (Sent a ∷ ns) s).out) (λ (s : ℕ) (l : s < c.n). out_after_sent a ns s)) first sent ms
+
+pub known_sent : (c : Config) (first : ℕ) (sent : List Out) (ms : List Moment) → known_count c ms ≡ known_count c (sent_from first sent ms)
+known_sent c first sent ms = same_sent (known_count c) (λ (a : Asked) (ns : List Moment). count_same c.n (λ s. is_some (known (site_now ns s))) (λ s. is_some (known (site_now (Sent a ∷ ns) s))) (λ (s : ℕ) (l : s < c.n). ap (λ o. is_some o) (known_after_sent a ns s))) first sent ms
+
+pub heard_sent : (c : Config) (p : RowAt → Bool) (first : ℕ) (sent : List Out) (ms : List Moment) → heard_at c p ms ≡ heard_at c p (sent_from first sent ms)
+heard_sent c p first sent ms = same_sent (heard_at c p) (λ a ns. refl) first sent ms
+
+pub shown_sent : (c : Config) (v : ℕ) (x : Name) (first : ℕ) (sent : List Out) (ms : List Moment) → IsShown c ms v x → IsShown c (sent_from first sent ms) v x
+shown_sent c v x first sent ms h = over_sent (λ ns. IsShown c ns v x) (λ a ns k. k) first sent ms h
+
+pub current_sent : (c : Config) (v : ℕ) (first : ℕ) (sent : List Out) (ms : List Moment) → IsCurrent c ms v → IsCurrent c (sent_from first sent ms) v
+current_sent c v first sent ms h = over_sent (λ ns. IsCurrent c ns v) (λ a ns k. k) first sent ms h
+
+pub value_sent : (v : ℕ) (x : Value) (first : ℕ) (sent : List Out) (ms : List Moment) → IsValueHeard ms v x → IsValueHeard (sent_from first sent ms) v x
+value_sent v x first sent ms h = over_sent (λ ns. IsValueHeard ns v x) (λ a ns k. (k.0, k.1, inr k.2, k.3)) first sent ms h
+
+pub evidence_sent : (c : Config) (v : ℕ) (first : ℕ) (sent : List Out) (ms : List Moment) → NoEvidence c ms v → NoEvidence c (sent_from first sent ms) v
+evidence_sent c v first sent ms h = over_sent (λ ns. NoEvidence c ns v) (λ (a : Asked) (ns : List Moment) (k : NoEvidence c ns v). λ (x : Name) (e : IsEvident c.n c.qc c.qf (rows_known (Sent a ∷ ns)) v x). k x (evident_same c (rows_known (Sent a ∷ ns)) (rows_known ns) v x (λ (s : ℕ) (l : s < c.n). sym (known_after_sent a ns s)) e)) first sent ms h
+
+pub going_sent : (c : Config) (first : ℕ) (sent : List Out) (ms : List Moment) → IsGoing c ms → IsGoing c (sent_from first sent ms)
+going_sent c first sent ms h =
+    let same_met : met ms ≡ met (sent_from first sent ms) = met_sent first sent ms in
+    let same_outs : outs c ms ≡ outs c (sent_from first sent ms) = outs_sent c first sent ms in
+    let few : met ms < c.tries = h.few in
+    let enough : outs c ms + c.qc ≤ c.n = h.enough in
+    record { few = omega arith; enough = omega arith }
+
+cut_sent : (c : Config) (w : Caller) (past : List Tale) (run new : Run) (ms ns : List Moment) (phase : Phase) (heard : ℕ) → Stands c w past run ms → Stands c w past new ns → new.wrote ≡ run.wrote → met ms ≡ met ns → outs c ms ≡ outs c ns → known_count c ms ≡ known_count c ns → IsCutOff c ms phase heard → IsCutOff c ns phase heard
+cut_sent c w past run new ms ns phase heard h k wrote same_met same_outs same_known cut =
+    let few = cut.few in
+    let lost = cut.lost in
+    record { few = omega arith; lost = omega arith; phase_is = cut.phase_is ∙ (sym h.wrote_is ∙ (sym wrote ∙ k.wrote_is)); heard_is = cut.heard_is ∙ same_known }
+
+overtaken_sent : (c : Config) (ms ns : List Moment) (m : ℕ) → met ms ≡ met ns → IsOvertaken c ms m → IsOvertaken c ns m
+overtaken_sent c ms ns m same h = (omega (arith, h.0), h.1 ∙ same)
+
+unsure_sent : (c : Config) (w : Caller) (past : List Tale) (run new : Run) (ms ns : List Moment) (why : UnsureWhy) → Stands c w past run ms → Stands c w past new ns → new.wrote ≡ run.wrote → met ms ≡ met ns → outs c ms ≡ outs c ns → known_count c ms ≡ known_count c ns → UnsureCause c ms why → UnsureCause c ns why
+unsure_sent c w past run new ms ns (UnsureNoQuorum phase heard) h k wrote same_met same_outs same_known cause = cut_sent c w past run new ms ns phase heard h k wrote same_met same_outs same_known cause
+unsure_sent c w past run new ms ns (UnsureContended m) h k wrote same_met same_outs same_known cause = overtaken_sent c ms ns m same_met cause
+
+-- reads leave the cause of a plain answer
+plain_sent : (c : Config) (w : Caller) (past : List Tale) (run new : Run) (first : ℕ) (sent : List Out) (ms : List Moment) (answer : Answer) → Stands c w past run ms → Stands c w past new (sent_from first sent ms) → new.voted ≡ run.voted → new.wrote ≡ run.wrote →
+    HasCause c w ms answer → IsPlain answer → HasCause c w (sent_from first sent ms) answer
+plain_sent c w past run new first sent ms (Ok v) h k voted_same wrote_same cause plain = absurd plain
+plain_sent c w past run new first sent ms (Bytes v x bytes) h k voted_same wrote_same cause plain =
+    (going_sent c first sent ms cause.0, record { reads = cause.1.reads; shown = shown_sent c v x first sent ms cause.1.shown; current = current_sent c v first sent ms cause.1.current; heard = value_sent v _ first sent ms cause.1.heard })
+plain_sent c w past run new first sent ms Absent h k voted_same wrote_same cause plain =
+    (going_sent c first sent ms cause.0, (cause.1.0, omega (arith, cause.1.1, heard_sent c is_blank first sent ms)))
+plain_sent c w past run new first sent ms (NoQuorum phase heard) h k voted_same wrote_same cause plain =
+    (sym k.voted_is ∙ (voted_same ∙ (h.voted_is ∙ cause.0)), cut_sent c w past run new ms (sent_from first sent ms) phase heard h k wrote_same (met_sent first sent ms) (outs_sent c first sent ms) (known_sent c first sent ms) cause.1)
+plain_sent c w past run new first sent ms (Contended m) h k voted_same wrote_same cause plain =
+    (sym k.voted_is ∙ (voted_same ∙ (h.voted_is ∙ cause.0)), overtaken_sent c ms (sent_from first sent ms) m (met_sent first sent ms) cause.1)
+plain_sent c w past run new first sent ms (Unsure why) h k voted_same wrote_same cause plain =
+    (sym k.voted_is ∙ (voted_same ∙ (h.voted_is ∙ cause.0)), unsure_sent c w past run new ms (sent_from first sent ms) why h k wrote_same (met_sent first sent ms) (outs_sent c first sent ms) (known_sent c first sent ms) cause.1)
+plain_sent c w past run new first sent ms (Unsettled v) h k voted_same wrote_same cause plain = absurd plain
+
+-- a call that ends after its reads
+pub close_turned : (c : Config) (w : Caller) (past : List Tale) (run new : Run) (ms : List Moment) (first : ℕ) (sent : List Out) (answer : Answer) → Stands c w past run ms → HasCause c w ms answer × IsPlain answer →
+    Asks c w past new (sent_from first sent ms) None → IsLeftBy run new None → Turned c w past new (sent_from first sent ms) (Some answer)
+close_turned c w past run new ms first sent answer h cause asks left =
+    (asks.stands.allowed, plain_sent c w past run new first sent ms answer h asks.stands (left.voted refl) (left.wrote refl) cause.0 cause.1)
+
+-- a call's value is under its own name
+pub own_name : (name : Name) (call : Call) (x : Value) → own_value name call ≡ Some x → name_of x ≡ name
+own_name name (Put key bytes) x e = sym (ap name_of (same_Some _ x e))
+own_name name (Get key) x e = absurd (none-some x e)
+
+idle_from : (o : Option Asked) (b : Bool) → b ≡ is_some o → b ≡ false → o ≡ None
+idle_from None b e f = refl
+idle_from (Some a) b e f = absurd (true≢false (sym e ∙ f))
+
+noticed_from : (c : Config) (w : Caller) (past : List Tale) (run : Run) (ms : List Moment) (v : ℕ) (x : Value) → Stands c w past run ms → own_value w.name w.call ≡ Some x → AreServed c w ms (Some (Decide v x)) → IsNoticed c w ms v
+noticed_from c w past run ms v x h own served s l kept quiet seen last other is_own done =
+    let idle : (site_now ms s).awaits ≡ None = idle_from (site_now ms s).awaits (site_now ms s).unanswered (h.sites s).answered quiet in
+    let k = served s l idle kept in
+    let same : k.0 ≡ seen = same_Some k.0 seen (sym k.1 ∙ last) in
+    let value : x ≡ other = same_Some x other (sym own ∙ is_own) in
+    let settled : IsSettledBy w ms s seen (Some (Decide v x)) = subst (λ (z : Seen). IsSettledBy w ms s z (Some (Decide v x))) same k.3 in
+    subst (λ (z : Value). HasNotice ms s (WriteRow (key_of w.call) seen.etag (Decide v z) (decided seen.row v z))) value (settled done).1
+
+-- a put whose value is chosen, once the others were told
+pub finish_turned : (c : Config) (w : Caller) (past : List Tale) (run new : Run) (ms : List Moment) (first : ℕ) (sent : List Out) (v : ℕ) (step : Option RowStep) → Finishes c w past run ms v → step ≡ notice_for v run.own →
+    (Asks c w past run ms step → Asks c w past new (sent_from first sent ms) step × AreServed c w (sent_from first sent ms) step) → Turned c w past new (sent_from first sent ms) (Some (Ok v))
+finish_turned c w past run new ms first sent v step f is asked =
+    let x : Value = f.own.0 in
+    let own : own_value w.name w.call ≡ Some x = f.own.1 in
+    let step_is : step ≡ Some (Decide v x) = is ∙ ap (notice_for v) (f.stands.own_is ∙ own) in
+    let may : IsShown c ms v (name_of x) = subst (λ (n : Name). IsShown c ms v n) (sym (own_name w.name w.call x own)) f.shown in
+    let done = asked (record { stands = f.stands; may = subst (MayMakeOf c w past ms) (sym step_is) may }) in
+    let served : AreServed c w (sent_from first sent ms) (Some (Decide v x)) = subst (AreServed c w (sent_from first sent ms)) step_is done.1 in
+    (done.0.stands.allowed, (going_sent c first sent ms f.going, (x, own, shown_sent c v w.name first sent ms f.shown), noticed_from c w past new (sent_from first sent ms) v x done.0.stands own served))
+
+-- the step of a phase may be made
+pub stage_may : (c : Config) (w : Caller) (past : List Tale) (run : Run) (ms : List Moment) (stage : Stage) → Stands c w past run ms → StageStands c w stage ms → MayMakeOf c w past ms (step_in stage run.own)
+stage_may c w past run ms Look h s = tt
+stage_may c w past run ms (Fast v) h s = subst (λ o. MayMakeOf c w past ms (vote_for v o)) (sym (h.own_is ∙ s.1.1)) (s.1.1, s.0)
+
+-- and once it was made at the sites the phase goes on to stand
+pub stage_kept : (c : Config) (w : Caller) (past : List Tale) (run new : Run) (ms ns : List Moment) (stage : Stage) → Stands c w past run ms → Stands c w past new ns → IsLeftBy run new (step_in stage run.own) → StageStands c w stage ms → MayMakeOf c w past ns (step_in stage run.own) → StageStands c w stage ns
+stage_kept c w past run new ms ns Look h k left s may = sym k.voted_is ∙ (left.voted refl ∙ (h.voted_is ∙ s))
+stage_kept c w past run new ms ns (Fast v) h k left s may =
+    let made : MayMake c w past ns (FastVote v s.1.0) = subst (λ o. MayMakeOf c w past ns (vote_for v o)) (h.own_is ∙ s.1.1) may in
+    (made.1, s.1)
+
+-- each site that was served was asked again
+again_from : (c : Config) (w : Caller) (ms : List Moment) (step : Option RowStep) → AreServed c w ms step → AreAskedAgain c ms
+again_from c w ms step served s l may idle =
+    elim (cases_Bool (site_now ms s).out) [
+      | inl e ↦ e
+      | inr e ↦ (let k = served s l idle e in elim may [ inl none ↦ absurd (none-some k.0 (sym none ∙ k.1)) | inr changed ↦ absurd (both_ways (site_now ms s).changed k.2 changed) ])
+    ]
+
+awaits_some : (o : Option Asked) → is_some (option_map awaited_of o) ≡ true → (a : Asked) × (o ≡ Some a)
+awaits_some None h = absurd (false≢true h)
+awaits_some (Some a) h = (a, refl)
+
+waits_from : (c : Config) (run : Run) (ms : List Moment) → Knows c run ms → list_any (λ mark. is_some mark.awaited) run.marks ≡ true → IsWaiting c ms
+waits_from c run ms k h =
+    let w = any_found (λ mark. is_some mark.awaited) run.marks h in
+    let inside : w.0 < c.n = let len = k.marks_len in omega (arith, slice_get_within run.marks w.0 w.1 w.2) in
+    let same : w.1 ≡ mark_of (site_now ms w.0) = same_Some w.1 (mark_of (site_now ms w.0)) (sym w.2 ∙ k.marks w.0 inside) in
+    let some = awaits_some (site_now ms w.0).awaits (subst (λ (m : Mark). is_some m.awaited ≡ true) same w.3) in
+    (w.0, some.0, inside, some.1)
+
+idle_of : (c : Config) (run : Run) (ms : List Moment) (s : ℕ) (o : Option Asked) → Knows c run ms → list_any (λ mark. is_some mark.awaited) run.marks ≡ false → s < c.n → (site_now ms s).awaits ≡ o → o ≡ None
+idle_of c run ms s None k h l e = refl
+idle_of c run ms s (Some a) k h l e =
+    absurd (both_ways (list_any (λ mark. is_some mark.awaited) run.marks) h (any_told (λ mark. is_some mark.awaited) run.marks s (mark_of (site_now ms s)) (k.marks s l) (ap (λ (p : Option Asked). is_some (option_map awaited_of p)) e)))
+
+cover_step : (a b : Bool) (n x y : ℕ) → (a ≡ true) ⊎ (b ≡ true) → n ≤ x + y → suc n ≤ cond a (suc x) x + cond b (suc y) y
+cover_step true true n x y h l = omega arith
+cover_step true false n x y h l = omega arith
+cover_step false true n x y h l = omega arith
+cover_step false false n x y (inl e) l = absurd (false≢true e)
+cover_step false false n x y (inr e) l = absurd (false≢true e)
+
+-- two tests that cover the sites
+count_cover : (n : ℕ) (p q : ℕ → Bool) → ((s : ℕ) → s < n → (p s ≡ true) ⊎ (q s ≡ true)) → n ≤ count_sites n p + count_sites n q
+count_cover zero p q h = omega arith
+count_cover (suc n) p q h = cover_step (p n) (q n) n (count_sites n p) (count_sites n q) (h n (omega arith)) (count_cover n p q (λ (s : ℕ) (l : s < n). h s (omega arith)))
+
+-- where nothing is awaited after a pass, each site that isn't out is known
+heard_from : (c : Config) (w : Caller) (ms : List Moment) (step : Option RowStep) → AreServed c w ms step → ((s : ℕ) → s < c.n → (site_now ms s).awaits ≡ None) → (s : ℕ) → s < c.n → (site_now ms s).out ≡ false → (row : RowAt) × (rows_known ms s ≡ Some row)
+heard_from c w ms step served idle s l kept = let k = served s l (idle s l) kept in (k.0.row, last_known (site_now ms s) k.0 k.1 kept)
+
+-- and so a classic quorum of sites is known
+quorum_known : (c : Config) (ms : List Moment) → ((s : ℕ) → s < c.n → (site_now ms s).out ≡ false → (row : RowAt) × (rows_known ms s ≡ Some row)) → outs c ms + c.qc ≤ c.n → c.qc ≤ known_count c ms
+quorum_known c ms heard enough =
+    let cover : c.n ≤ outs c ms + known_count c ms = count_cover c.n (λ s. (site_now ms s).out) (λ s. is_some (known (site_now ms s))) (λ (s : ℕ) (l : s < c.n). elim (cases_Bool (site_now ms s).out) [ inl e ↦ inl e | inr e ↦ inr (ap (λ o. is_some o) (heard s l e).1) ]) in
+    omega arith
+
+highest_is : (c : Config) (run : Run) (ms : List Moment) → Knows c run ms → IsHighest c ms (highest_of run.rows)
+highest_is c run ms k = record {
+  none_above = λ (s : ℕ) (row : RowAt) (l : s < c.n) (e : rows_known ms s ≡ Some row). top_highest run.rows s row (k.rows s l ∙ ap (λ o. Some o) e);
+  reached = elim (highest_reached run.rows) [
+    | inl e ↦ inl e
+    | inr w ↦ (
+        let inside : w.0 < c.n = let len = k.rows_len in omega (arith, slice_get_within run.rows w.0 (Some w.1) w.2) in
+        inr (w.0, w.1, inside, listed_known c run ms k w.0 w.1 inside w.2, w.3))
+  ];
+}
+
+unmet_none : (c : Config) (run : Run) (ms ns : List Moment) (stage : Stage) (first : ℕ) (sent : List Out) → c.qc ≤ known_count c (sent_from first sent ms) → IsUnmet c run stage ms → NoEvidence c (sent_from first sent ms) (version_in stage (highest_of run.rows))
+unmet_none c run ms ns Look first sent enough (inl few) = let same = known_sent c first sent ms in absurd (omega arith)
+unmet_none c run ms ns Look first sent enough (inr none) = evidence_sent c (highest_of run.rows) first sent ms none
+unmet_none c run ms ns (Fast v) first sent enough none = evidence_sent c v first sent ms none
+
+stuck_from : (c : Config) (w : Caller) (past : List Tale) (run : Run) (ms : List Moment) (stage : Stage) (own : Option Value) → Stands c w past run ms → StageStands c w stage ms → own ≡ own_value w.name w.call → AreServed c w ms (step_in stage own) → ((s : ℕ) → s < c.n → (site_now ms s).awaits ≡ None) →
+    ((voted w.name ms ≡ false) × IsHighest c ms (version_in stage (highest_of run.rows))) ⊎ ((s : ℕ) (row : RowAt) → s < c.n → rows_known ms s ≡ Some row → fast_answer row (version_in stage (highest_of run.rows)) ≢ Done)
+stuck_from c w past run ms Look own h s is served idle = inl (s, highest_is c run ms h.knows)
+stuck_from c w past run ms (Fast v) own h s is served idle = inr (λ (site : ℕ) (row : RowAt) (l : site < c.n) (e : rows_known ms site ≡ Some row) (done : fast_answer row v ≡ Done).
+    let last = known_last (site_now ms site) row e in
+    let k = served site l (idle site l) last.3 in
+    let same : k.0.row ≡ row = ap (λ (z : Seen). z.row) (same_Some k.0 last.0 (sym k.1 ∙ last.1)) ∙ last.2 in
+    let settled : IsSettledBy w ms site k.0 (Some (FastVote v s.1.0)) = subst (λ o. IsSettledBy w ms site k.0 (vote_for v o)) (is ∙ s.1.1) k.3 in
+    absurd (false≢true (settled (ap (λ r. fast_answer r v) same ∙ done)).0))
+
+unsettled_from : (c : Config) (w : Caller) (past : List Tale) (run new : Run) (ms : List Moment) (first : ℕ) (sent : List Out) (step : Option RowStep) → Acts c w past run ms → step ≡ stage_step run → IsLeftBy run new step →
+    Stands c w past new (sent_from first sent ms) → StageStands c w run.stage (sent_from first sent ms) → AreServed c w (sent_from first sent ms) step → IsGoing c (sent_from first sent ms) → ((s : ℕ) → s < c.n → (site_now (sent_from first sent ms) s).awaits ≡ None) →
+    IsUnsettled c w (sent_from first sent ms) (working_version new)
+unsettled_from c w past run new ms first sent step a is left k stage served going idle =
+    let heard = heard_from c w (sent_from first sent ms) step served idle in
+    let enough : c.qc ≤ known_count c (sent_from first sent ms) = quorum_known c (sent_from first sent ms) heard going.enough in
+    let version : version_in run.stage (highest_of run.rows) ≡ working_version new = ap (version_in run.stage) (ap highest_of (sym left.rows)) ∙ ap (λ st. version_in st (highest_of new.rows)) (sym left.stage) in
+    let none : NoEvidence c (sent_from first sent ms) (working_version new) = subst (NoEvidence c (sent_from first sent ms)) version (unmet_none c run ms ms run.stage first sent enough a.unmet) in
+    let served_stage : AreServed c w (sent_from first sent ms) (step_in run.stage new.own) = subst (AreServed c w (sent_from first sent ms)) (is ∙ ap (step_in run.stage) (sym left.own)) served in
+    let stuck = stuck_from c w past new (sent_from first sent ms) run.stage new.own k stage k.own_is served_stage idle in
+    record { idle = idle; heard = heard; undecided = none; stuck = subst (λ st. ((voted w.name (sent_from first sent ms) ≡ false) × IsHighest c (sent_from first sent ms) (version_in st (highest_of new.rows))) ⊎ ((s : ℕ) (row : RowAt) → s < c.n → rows_known (sent_from first sent ms) s ≡ Some row → fast_answer row (version_in st (highest_of new.rows)) ≢ Done)) (sym left.stage) stuck }
+
+-- the phase goes on, or has ended without its goal
+pub go_on_turned : (c : Config) (w : Caller) (past : List Tale) (run new : Run) (ms : List Moment) (first : ℕ) (sent : List Out) (step : Option RowStep) → Acts c w past run ms → step ≡ stage_step run →
+    (Asks c w past run ms step → Asks c w past new (sent_from first sent ms) step × AreServed c w (sent_from first sent ms) step) → IsLeftBy run new step → Turned c w past new (sent_from first sent ms) (outcome_of new)
+go_on_turned c w past run new ms first sent step a is asked left =
+    let h : Stands c w past run ms = a.ready.stands in
+    let done = asked (record { stands = h; may = subst (MayMakeOf c w past ms) (sym is) (stage_may c w past run ms run.stage h a.ready.stage) }) in
+    let k : Stands c w past new (sent_from first sent ms) = done.0.stands in
+    let going : IsGoing c (sent_from first sent ms) = going_sent c first sent ms a.going in
+    let stage : StageStands c w run.stage (sent_from first sent ms) = stage_kept c w past run new ms (sent_from first sent ms) run.stage h k (subst (IsLeftBy run new) is left) a.ready.stage (subst (MayMakeOf c w past (sent_from first sent ms)) is done.0.may) in
+    elim (cases_Bool (list_any (λ mark. is_some mark.awaited) new.marks)) [
+      | inl e ↦ subst (Turned c w past new (sent_from first sent ms)) (sym (cond-true (list_any (λ mark. is_some mark.awaited) new.marks) None (Some (Unsettled (working_version new))) e))
+          (record { stands = k; stage = subst (λ st. StageStands c w st (sent_from first sent ms)) (sym left.stage) stage; again = again_from c w (sent_from first sent ms) step done.1; going = going; waits = waits_from c new (sent_from first sent ms) k.knows e })
+      | inr e ↦ subst (Turned c w past new (sent_from first sent ms)) (sym (cond-false (list_any (λ mark. is_some mark.awaited) new.marks) None (Some (Unsettled (working_version new))) e))
+          (k.allowed, (going, unsettled_from c w past run new ms first sent step a is left k stage done.1 going (λ (s : ℕ) (l : s < c.n). idle_of c new (sent_from first sent ms) s (site_now (sent_from first sent ms) s).awaits k.knows e l refl)))
+    ]

@@ -1,0 +1,12 @@
+use Rattle.std.proofs.Common.{◌≡◌, ◌+◌, None, length, ◌∙◌, ap, arith}
+use Rattle.std.specs.List.{slice_get}
+use Rattle.std.proofs.lemmas.List.{length_push}
+use Rattle.gz_round.specs.Starting.{fresh_mark}
+use Rattle.gz_round.proofs.Lists.{each_pushed}
+use Rattle.gz_round.proofs.starting.fresh_marks.Goals as goal
+
+pub loop-site-preserved : goal.loop-site-preserved
+loop-site-preserved c = (
+  ap length c.in_ok-push.ensures.ok ∙ (length_push c.loop-site.marks fresh_mark ∙ ap (λ n. n + 1) c.loop-site.invariant.0),
+  λ s l. ap (λ xs. slice_get xs s) c.in_ok-push.ensures.ok ∙ each_pushed c.loop-site.marks fresh_mark c.loop-site.site c.loop-site.invariant.0 c.loop-site.invariant.1 s l,
+)

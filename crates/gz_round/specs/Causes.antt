@@ -1,0 +1,106 @@
+-- When each answer of a call comes, by what the call has sent and heard.
+use Rattle.std.specs.Prelude.{ℕ, Bool, true, false, ◌≡◌, ◌≢◌, ◌≤◌, ◌<◌, ◌+◌, ◌⊎◌, ◌&&◌, ◌==◌, List, [], ◌∷◌, Option, Some, None}
+use Rattle.gz_core.specs.Names.{Name}
+use Rattle.gz_core.specs.Puts.{PutData}
+use Rattle.gz_core.specs.Calls.{own_value}
+use Rattle.gz_core.specs.Rows.{RowAt, column_in}
+use Rattle.gz_core.specs.declared.rows.Vote.{Vote}
+use Rattle.gz_core.specs.declared.rows.Column.{Column}
+use Rattle.gz_core.specs.declared.rows.Column.TheVariants.{Open, Decided}
+use Rattle.gz_core.specs.declared.values.Value.{Value}
+use Rattle.gz_core.specs.declared.values.Value.TheVariants.{Put}
+use Rattle.gz_core.specs.declared.calls.Answer.{Answer}
+use Rattle.gz_core.specs.declared.calls.Answer.TheVariants.{Ok, Bytes, Absent, NoQuorum, Contended, Unsure, Unsettled}
+use Rattle.gz_core.specs.declared.calls.UnsureWhy.{UnsureWhy}
+use Rattle.gz_core.specs.declared.calls.UnsureWhy.TheVariants.{NoQuorum as UnsureNoQuorum, Contended as UnsureContended}
+use Rattle.gz_core.specs.declared.calls.Phase.{Phase}
+use Rattle.gz_core.specs.declared.configuration.Config.{Config}
+use Rattle.gz_accept.specs.declared.answers.Step.TheVariants.{Done}
+use Rattle.gz_accept.specs.Steps.{fast_answer}
+use Rattle.gz_pick.specs.Looks.{row_top}
+use Rattle.gz_pick.specs.Evidences.{IsEvident}
+use Rattle.gz_round.specs.History.{Moment, Caller}
+use Rattle.gz_round.specs.Sites.{SiteNow, site_now, known, WasHeard}
+use Rattle.gz_round.specs.Sent.{met, voted, phase_of}
+use Rattle.gz_round.specs.Shown.{heard_at, IsShown, IsCurrent}
+use Rattle.gz_round.specs.Counting.{outs, known_count, IsGoing, IsNoticed}
+
+-- the call is a put, and its value is shown at the version
+abbrev pub IsChosenOwn : Config → Caller → List Moment → ℕ → Type 0
+IsChosenOwn c w ms v = (x : Value) × (own_value w.name w.call ≡ Some x) × IsShown c ms v w.name
+
+-- the value that a vote has
+abbrev pub vote_value : Option Vote → Option Value
+vote_value None = None
+vote_value (Some vote) = Some vote.value
+
+-- the value that a column has, as a vote or a decision
+abbrev pub column_value : Option Column → Option Value
+column_value None = None
+column_value (Some (Open promise vote)) = vote_value vote
+column_value (Some (Decided value)) = Some value
+
+abbrev pub row_value : RowAt → ℕ → Option Value
+row_value row v = column_value (column_in row.columns v)
+
+-- a heard row has the value at the version, as a vote or a decision
+abbrev pub IsValueHeard : List Moment → ℕ → Value → Type 0
+IsValueHeard ms v x = (s : ℕ) × (row : RowAt) × WasHeard ms s row × (row_value row v ≡ Some x)
+
+-- the call is no put; the value is shown at the version, no later one has begun, and the value itself was heard there
+pub record IsLearnt (c : Config) (w : Caller) (ms : List Moment) (v : ℕ) (x : Name) (bytes : List ℕ) : Type 0 where
+  pub reads : own_value w.name w.call ≡ None
+  pub shown : IsShown c ms v x
+  pub current : IsCurrent c ms v
+  pub heard : IsValueHeard ms v (Put (record { name = x; bytes = bytes }))
+
+-- a row without a vote, a decision or a floor
+abbrev pub is_blank : RowAt → Bool
+is_blank row = (row_top row == 0) && (row.floor == 0)
+
+-- the object was never written, as rows of a classic quorum show
+abbrev pub IsAbsent : Config → Caller → List Moment → Type 0
+IsAbsent c w ms = (own_value w.name w.call ≡ None) × (c.qc ≤ heard_at c is_blank ms)
+
+-- too few sites are left, and the call was overtaken less often than it tries
+pub record IsCutOff (c : Config) (ms : List Moment) (phase : Phase) (heard : ℕ) : Type 0 where
+  pub few : met ms < c.tries
+  pub lost : c.n < outs c ms + c.qc
+  pub phase_is : phase ≡ phase_of ms
+  pub heard_is : heard ≡ known_count c ms
+
+-- the call was overtaken as often as it tries
+abbrev pub IsOvertaken : Config → List Moment → ℕ → Type 0
+IsOvertaken c ms m = (c.tries ≤ met ms) × (m ≡ met ms)
+
+-- the last row of each site that isn't out
+abbrev pub rows_known : List Moment → ℕ → Option RowAt
+rows_known ms s = known (site_now ms s)
+
+-- the version is the highest at which one of the rows has a vote or a decision
+pub record IsHighest (c : Config) (ms : List Moment) (v : ℕ) : Type 0 where
+  pub none_above : (s : ℕ) (row : RowAt) → s < c.n → rows_known ms s ≡ Some row → row_top row ≤ v
+  pub reached : (v ≡ 0) ⊎ ((s : ℕ) × (row : RowAt) × (s < c.n) × (rows_known ms s ≡ Some row) × (row_top row ≡ v))
+
+-- nothing is awaited, every site was heard or is out, no value is evident at the version, and either the call has
+-- not voted and this is the highest version that was begun, or no row takes a vote of the fast ballot there
+pub record IsUnsettled (c : Config) (w : Caller) (ms : List Moment) (v : ℕ) : Type 0 where
+  pub idle : (s : ℕ) → s < c.n → (site_now ms s).awaits ≡ None
+  pub heard : (s : ℕ) → s < c.n → (site_now ms s).out ≡ false → (row : RowAt) × (rows_known ms s ≡ Some row)
+  pub undecided : (x : Name) → IsEvident c.n c.qc c.qf (rows_known ms) v x → ⊥
+  pub stuck : ((voted w.name ms ≡ false) × IsHighest c ms v) ⊎ ((s : ℕ) (row : RowAt) → s < c.n → rows_known ms s ≡ Some row → fast_answer row v ≢ Done)
+
+-- why a put ended without knowing
+abbrev pub UnsureCause : Config → List Moment → UnsureWhy → Type 0
+UnsureCause c ms (UnsureNoQuorum phase heard) = IsCutOff c ms phase heard
+UnsureCause c ms (UnsureContended m) = IsOvertaken c ms m
+
+-- when each answer comes. An answer other than the last three comes only while the call could go on.
+abbrev pub HasCause : Config → Caller → List Moment → Answer → Type 0
+HasCause c w ms (Ok v) = IsGoing c ms × IsChosenOwn c w ms v × IsNoticed c w ms v
+HasCause c w ms (Bytes v x bytes) = IsGoing c ms × IsLearnt c w ms v x bytes
+HasCause c w ms Absent = IsGoing c ms × IsAbsent c w ms
+HasCause c w ms (Unsettled v) = IsGoing c ms × IsUnsettled c w ms v
+HasCause c w ms (NoQuorum phase heard) = (voted w.name ms ≡ false) × IsCutOff c ms phase heard
+HasCause c w ms (Contended m) = (voted w.name ms ≡ false) × IsOvertaken c ms m
+HasCause c w ms (Unsure why) = (voted w.name ms ≡ true) × UnsureCause c ms why

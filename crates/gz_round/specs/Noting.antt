@@ -1,0 +1,48 @@
+-- What a running call keeps once a site has told something.
+use Rattle.std.specs.Prelude.{ℕ, ◌≡◌, ◌+◌, Bool, true, false, slice_get, slice_set, Option, Some, None}
+use Rattle.gz_core.specs.Rows.{RowAt}
+use Rattle.gz_core.specs.declared.requests.Reply.{Reply}
+use Rattle.gz_round.specs.declared.run.Awaited.{Awaited}
+use Rattle.gz_round.specs.declared.hearing.Seen.{Seen}
+use Rattle.gz_round.specs.declared.run.Mark.{Mark}
+use Rattle.gz_round.specs.declared.run.Run.{Run}
+use Rattle.gz_round.specs.Sites.{seen_in, is_changed}
+
+-- a row is the site's last one from now on
+abbrev pub heard_run : Run → ℕ → Seen → Run
+heard_run run at seen = record run {
+  rows = slice_set run.rows at (Some seen.row);
+  marks = slice_set run.marks at (record { etag = seen.etag; changed = false; out = false; awaited = None });
+}
+
+-- the site's last row was overtaken
+abbrev pub overtaken_run : Run → ℕ → Mark → Run
+overtaken_run run at mark = record run {
+  marks = slice_set run.marks at (record { etag = mark.etag; changed = true; out = mark.out; awaited = None });
+  met = run.met + 1;
+}
+
+-- the site is out
+abbrev pub left_run : Run → ℕ → Mark → Run
+left_run run at mark = record run {
+  rows = slice_set run.rows at None;
+  marks = slice_set run.marks at (record { etag = mark.etag; changed = mark.changed; out = true; awaited = None });
+}
+
+-- what a site's request came to: a row, an overtaken write, or nothing
+abbrev pub noted_by : Run → ℕ → Mark → Option Seen → Bool → Run
+noted_by run at mark (Some seen) changed = heard_run run at seen
+noted_by run at mark None true = overtaken_run run at mark
+noted_by run at mark None false = left_run run at mark
+
+abbrev pub written_of : Option Awaited → Option RowAt
+written_of None = None
+written_of (Some awaited) = awaited.written
+
+-- the row that the awaited request of a site writes
+abbrev pub written_at : Mark → Option RowAt
+written_at mark = written_of mark.awaited
+
+-- a reply was noted
+abbrev pub IsReplyNoted : Run → ℕ → Reply → Run → Type 0
+IsReplyNoted old at reply new = (mark : Mark) → slice_get old.marks at ≡ Some mark → new ≡ noted_by old at mark (seen_in (written_at mark) reply) (is_changed reply)

@@ -1,0 +1,104 @@
+-- When a call may send a promise of a classic ballot, and a vote in it. (Lamport 2006, "Fast Paxos", section 2.2.)
+use Rattle.std.specs.Prelude.{ℕ, Bool, true, false, ◌≡◌, ◌≢◌, ◌≤◌, ◌⊎◌, ◌&&◌, ◌||◌, ◌==◌, if◌then◌else◌, List, [], ◌∷◌, length, slice_get, Option, Some, None}
+use Rattle.std.specs.List.{All}
+use Rattle.gz_core.specs.Names.{Name, BallotAt, IsClassic, is_below, same_ballot, same_name}
+use Rattle.gz_core.specs.Values.{name_of}
+use Rattle.gz_core.specs.Calls.{own_value}
+use Rattle.gz_core.specs.Slots.{Slot, Gone, DecidedAs, OpenAt, slots, IsVoteOf}
+use Rattle.gz_core.specs.Rows.{RowAt}
+use Rattle.gz_core.specs.declared.values.Value.{Value}
+use Rattle.gz_core.specs.declared.configuration.Config.{Config}
+use Rattle.gz_core.specs.declared.requests.RowStep.{RowStep}
+use Rattle.gz_core.specs.declared.requests.RowStep.TheVariants.{FastVote, Promise, ClassicVote, Decide, Trim}
+use Rattle.gz_pick.specs.Looks.{row_vote}
+use Rattle.gz_pick.specs.Choices.{pick_of, AreSites}
+use Rattle.gz_pick.specs.declared.heard.Heard.{Heard}
+use Rattle.gz_pick.specs.declared.heard.Pick.TheVariants.{Forced, Free}
+use Rattle.gz_round.specs.History.{Moment, Sent, Handed, GaveUp, Rested, GaveIn, Caller, Tale}
+use Rattle.gz_round.specs.declared.hearing.Seen.{Seen}
+use Rattle.gz_round.specs.Sites.{passes, heard_in, WasHeard}
+use Rattle.gz_round.specs.Sent.{of_sent, some_sent, promise_by, has_promised, has_promised_at, last_promise}
+use Rattle.gz_round.specs.Shown.{IsShown, IsCurrent, IsGrounded, IsClear}
+
+-- no call of a list promised this ballot
+abbrev pub IsUnused : List Tale → BallotAt → Type 0
+IsUnused [] b = Unit {0}
+IsUnused (tale ∷ tales) b = (has_promised tale.moments b ≡ false) × IsUnused tales b
+
+-- whether a row promises a ballot above this one at the version
+abbrev pub slot_promises_above : Slot → BallotAt → Bool
+slot_promises_above Gone b = false
+slot_promises_above (DecidedAs x) b = false
+slot_promises_above (OpenAt promise vote) b = is_below b promise
+
+abbrev pub promises_above : RowAt → ℕ → BallotAt → Bool
+promises_above row v b = slot_promises_above (slots row v) b
+
+abbrev pub is_promise : ℕ → BallotAt → Option (ℕ × BallotAt) → Bool
+is_promise v b None = false
+is_promise v b (Some p) = (p.0 == v) && same_ballot p.1 b
+
+-- whether a row that promises a ballot above this one was heard since the last promise of it was sent
+abbrev pub passed_since : ℕ → BallotAt → List Moment → Bool
+passed_since v b [] = false
+passed_since v b (m ∷ ms) = if is_promise v b (of_sent promise_by m) then false else (passes (λ row. promises_above row v b) (heard_in m) || passed_since v b ms)
+
+-- a promise of a ballot that its session used for nothing else, at a version that has a ground; any other ballot
+-- that the call promised there was passed since
+pub record MayPromise (c : Config) (w : Caller) (past : List Tale) (ms : List Moment) (v : ℕ) (b : BallotAt) : Type 0 where
+  pub above : 1 ≤ v
+  pub classic : IsClassic b
+  pub session : b.session ≡ w.name.session
+  pub unused : IsUnused past b
+  pub own : (has_promised ms b ≡ false) ⊎ (last_promise ms ≡ Some (v, b))
+  pub grounded : IsGrounded c ms v
+  pub passed : (d : BallotAt) → d ≢ b → has_promised_at ms v d ≡ true → passed_since v d ms ≡ true
+
+-- the version, ballot and name that a step votes for in a classic ballot
+pub record Cast : Type 0 where
+  pub version : ℕ
+  pub ballot : BallotAt
+  pub name : Name
+
+abbrev pub cast_by : RowStep → Option Cast
+cast_by (FastVote v value) = None
+cast_by (Promise v b) = None
+cast_by (ClassicVote v b value) = Some (record { version = v; ballot = b; name = name_of value })
+cast_by (Decide v value) = None
+cast_by (Trim to value) = None
+
+-- whether the call sent a vote in this ballot for the value of this name
+abbrev pub has_cast : List Moment → ℕ → BallotAt → Name → Bool
+has_cast ms v b y = some_sent cast_by (λ k. (k.version == v) && same_ballot k.ballot b && same_name k.name y) ms
+
+-- a row of the site was heard that promises the ballot, with this vote of a ballot below
+abbrev pub IsPromiseHeard : List Moment → ℕ → BallotAt → Heard → Type 0
+IsPromiseHeard ms v b h = (row : RowAt) × WasHeard ms h.site row × (slots row v ≡ OpenAt b h.vote) × (IsVoteOf b h.vote → ⊥)
+
+-- the vote that was heard at this place has this name
+abbrev pub IsNamedAt : List Heard → ℕ → Name → Type 0
+IsNamedAt heard at x = (h : Heard) × (vote : BallotAt × Name) × (slice_get heard at ≡ Some h) × (h.vote ≡ Some vote) × (vote.1 ≡ x)
+
+-- where the choice is free, a put proposes its own value, and another call one that it heard a vote for
+abbrev pub MayPropose : Config → Caller → List Moment → ℕ → Value → Type 0
+MayPropose c w ms v x =
+    ((own_value w.name w.call ≡ Some x) × IsCurrent c ms v × IsClear c w.name ms v)
+    ⊎ ((s : ℕ) × (row : RowAt) × (b : BallotAt) × (own_value w.name w.call ≡ None) × WasHeard ms s row × (row_vote row v ≡ Some (b, name_of x)))
+
+-- the promises that were heard leave the value to the call
+abbrev pub IsLeft : Config → Caller → List Moment → ℕ → List Heard → Value → Type 0
+IsLeft c w ms v heard x =
+    ((at : ℕ) × (pick_of c.n c.qf heard ≡ Forced at) × IsNamedAt heard at (name_of x))
+    ⊎ ((pick_of c.n c.qf heard ≡ Free) × MayPropose c w ms v x)
+
+-- a vote in a classic ballot that the call promised: rows of a classic quorum promise it, their votes leave the
+-- value to the call, and all its votes of the ballot are for one value
+pub record MayClassicVote (c : Config) (w : Caller) (ms : List Moment) (v : ℕ) (b : BallotAt) (x : Value) : Type 0 where
+  pub above : 1 ≤ v
+  pub promised : has_promised_at ms v b ≡ true
+  pub heard : List Heard
+  pub sites : AreSites c.n heard
+  pub enough : c.qc ≤ length heard
+  pub rows : All (IsPromiseHeard ms v b) heard
+  pub choice : IsLeft c w ms v heard x
+  pub one : (y : Name) → has_cast ms v b y ≡ true → y ≡ name_of x

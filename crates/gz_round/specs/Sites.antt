@@ -1,0 +1,142 @@
+-- What a call knows of each site, as of now: the last row that it heard there, whether that row was overtaken
+-- since, whether the site is out for the call, and the request that is awaited from it.
+use Rattle.std.specs.Prelude.{ℕ, ◌≡◌, ◌⊎◌, Bool, true, false, ◌&&◌, ◌||◌, ◌==◌, ◌^◌, nat_lt, if◌then◌else◌, List, [], ◌∷◌, length, Option, Some, None, option_map}
+use Rattle.std.specs.List.{list_all}
+use Rattle.gz_core.specs.Rows.{RowAt, empty_row}
+use Rattle.gz_core.specs.declared.values.Value.{Value}
+use Rattle.gz_core.specs.declared.values.Value.TheVariants.{Tomb, Put}
+use Rattle.gz_core.specs.declared.rows.Vote.{Vote}
+use Rattle.gz_core.specs.declared.rows.Column.{Column}
+use Rattle.gz_core.specs.declared.rows.Column.TheVariants.{Open, Decided}
+use Rattle.gz_core.specs.declared.requests.Op.{Op}
+use Rattle.gz_core.specs.declared.requests.Op.TheVariants.{ReadRow, WriteRow}
+use Rattle.gz_core.specs.declared.requests.Reply.{Reply}
+use Rattle.gz_core.specs.declared.requests.Reply.TheVariants.{Row, NoRow, Written, Changed, Failed}
+use Rattle.gz_round.specs.declared.hearing.Seen.{Seen}
+use Rattle.gz_round.specs.History.{Asked, Moment, Sent, Handed, GaveUp, Rested, GaveIn, is_row_request}
+
+-- no call of this store deletes yet, so a value is a put's
+abbrev pub value_stands : Value → Bool
+value_stands (Tomb name) = false
+value_stands (Put put) = true
+
+abbrev pub vote_stands : Option Vote → Bool
+vote_stands None = true
+vote_stands (Some vote) = value_stands vote.value
+
+-- a promise below the rounds that no run reaches, and a value that a run can hold
+abbrev pub column_stands : Column → Bool
+column_stands (Open promise vote) = nat_lt promise.round (2 ^ 31) && vote_stands vote
+column_stands (Decided value) = value_stands value
+
+-- the same at a version that a run can reach
+abbrev pub entry_stands : ℕ × Column → Bool
+entry_stands c = nat_lt c.0 (2 ^ 62) && column_stands c.1
+
+-- a row that a run can hold: no version or floor of 2^62 or more, no round of 2^31 or more, fewer than 2^22 columns
+abbrev pub can_stand : RowAt → Bool
+can_stand row = nat_lt row.floor (2 ^ 62) && (nat_lt (length row.columns) (2 ^ 22) && list_all entry_stands row.columns)
+
+-- a row that no run can hold isn't heard
+abbrev pub seen_under : Option ℕ → RowAt → Option Seen
+seen_under etag row = if can_stand row then Some (record { etag = etag; row = row }) else None
+
+-- the row that a request writes
+abbrev pub written_by : Op → Option RowAt
+written_by (ReadRow key) = None
+written_by (WriteRow key expect step row) = Some row
+
+abbrev pub seen_written : ℕ → Option RowAt → Option Seen
+seen_written etag None = None
+seen_written etag (Some row) = seen_under (Some etag) row
+
+-- the row that a reply shows: that of a read, the empty one where there is none, and the one that was sent once it is written
+abbrev pub seen_in : Option RowAt → Reply → Option Seen
+seen_in written (Row etag row) = seen_under (Some etag) row
+seen_in written NoRow = Some (record { etag = None; row = empty_row })
+seen_in written (Written etag) = seen_written etag written
+seen_in written Changed = None
+seen_in written Failed = None
+
+-- the reply of a write that was overtaken
+abbrev pub is_changed : Reply → Bool
+is_changed (Row etag row) = false
+is_changed NoRow = false
+is_changed (Written etag) = false
+is_changed Changed = true
+is_changed Failed = false
+
+-- a site as the call knows it
+pub record SiteNow : Type 0 where
+  pub row : Option Seen
+  pub changed : Bool
+  pub out : Bool
+  pub awaits : Option Asked
+  pub unanswered : Bool
+
+abbrev pub unheard : SiteNow
+unheard = record { row = None; changed = false; out = false; awaits = None; unanswered = false }
+
+-- a reply with a row is the site's last row from now on; Changed overtakes it; any other reply puts the site out
+abbrev pub after_reply : Option Seen → Bool → SiteNow → SiteNow
+after_reply (Some seen) changed now = record { row = Some seen; changed = false; out = now.out; awaits = None; unanswered = false }
+after_reply None true now = record { row = now.row; changed = true; out = now.out; awaits = None; unanswered = false }
+after_reply None false now = record { row = now.row; changed = now.changed; out = true; awaits = None; unanswered = false }
+
+abbrev pub after_sent : Asked → SiteNow → SiteNow
+after_sent a now = if a.awaited then record { row = now.row; changed = now.changed; out = now.out; awaits = Some a; unanswered = true } else now
+
+-- what a moment that concerns a site makes of it
+abbrev pub after : Moment → SiteNow → SiteNow
+after (Sent a) now = after_sent a now
+after (Handed a reply) now = after_reply (seen_in (written_by a.op) reply) (is_changed reply) now
+after (GaveUp a) now = record { row = now.row; changed = now.changed; out = true; awaits = None; unanswered = false }
+after Rested now = record { row = now.row; changed = now.changed; out = now.out; awaits = None; unanswered = now.unanswered }
+after GaveIn now = record { row = now.row; changed = now.changed; out = true; awaits = None; unanswered = now.unanswered }
+
+-- whether a request is a row request to this site
+abbrev pub is_to : Asked → ℕ → Bool
+is_to a s = is_row_request a.op && (a.site == s)
+
+-- whether a moment concerns a site: resting and giving in concern all
+abbrev pub concerns : Moment → ℕ → Bool
+concerns (Sent a) s = is_to a s
+concerns (Handed a reply) s = is_to a s
+concerns (GaveUp a) s = is_to a s
+concerns Rested s = true
+concerns GaveIn s = true
+
+-- the site as of now
+abbrev pub site_now : List Moment → ℕ → SiteNow
+site_now [] s = unheard
+site_now (m ∷ ms) s = if concerns m s then after m (site_now ms s) else site_now ms s
+
+abbrev pub row_seen : Option Seen → Option RowAt
+row_seen None = None
+row_seen (Some seen) = Some seen.row
+
+-- the row that the call goes by: the last one heard, none where the site is out
+abbrev pub known : SiteNow → Option RowAt
+known now = if now.out then None else row_seen now.row
+
+-- the row that is heard at a moment
+abbrev pub heard_in : Moment → Option Seen
+heard_in (Sent a) = None
+heard_in (Handed a reply) = seen_in (written_by a.op) reply
+heard_in (GaveUp a) = None
+heard_in Rested = None
+heard_in GaveIn = None
+
+abbrev pub passes : (RowAt → Bool) → Option Seen → Bool
+passes p None = false
+passes p (Some seen) = p seen.row
+
+-- whether some row that was heard from a site passes a test
+abbrev pub some_heard : (RowAt → Bool) → List Moment → ℕ → Bool
+some_heard p [] s = false
+some_heard p (m ∷ ms) s = (passes p (heard_in m) && concerns m s) || some_heard p ms s
+
+-- a row was heard from a site
+abbrev pub WasHeard : List Moment → ℕ → RowAt → Type 0
+WasHeard [] s row = ⊥
+WasHeard (m ∷ ms) s row = ((seen : Seen) × (concerns m s ≡ true) × (heard_in m ≡ Some seen) × (seen.row ≡ row)) ⊎ WasHeard ms s row

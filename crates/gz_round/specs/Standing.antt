@@ -1,0 +1,78 @@
+-- What a running call keeps stands for what has happened to it.
+use Rattle.std.specs.Prelude.{ℕ, Bool, true, false, ◌≡◌, ◌≢◌, ◌≤◌, ◌<◌, ◌⊎◌, List, length, slice_get, Option, Some, None, is_some, option_map}
+use Rattle.gz_core.specs.Rows.{RowAt}
+use Rattle.gz_core.specs.Calls.{key_of, own_value}
+use Rattle.gz_core.specs.declared.values.Value.{Value}
+use Rattle.gz_core.specs.declared.configuration.Config.{Config}
+use Rattle.gz_round.specs.declared.run.Awaited.{Awaited}
+use Rattle.gz_round.specs.declared.run.Mark.{Mark}
+use Rattle.gz_round.specs.declared.run.Run.{Run}
+use Rattle.gz_round.specs.declared.run.Stage.{Stage}
+use Rattle.gz_round.specs.declared.run.Stage.TheVariants.{Look, Fast}
+use Rattle.gz_round.specs.History.{Asked, Moment, Caller, Tale}
+use Rattle.gz_round.specs.declared.hearing.Seen.{Seen}
+use Rattle.gz_round.specs.Sites.{SiteNow, site_now, known, written_by}
+use Rattle.gz_round.specs.Sent.{met, voted, phase_of}
+use Rattle.gz_round.specs.Sending.{AreAllowed, MayFastVote, MayRead}
+use Rattle.gz_round.specs.Counting.{IsGoing}
+
+abbrev pub etag_seen : Option Seen → Option ℕ
+etag_seen None = None
+etag_seen (Some seen) = seen.etag
+
+abbrev pub awaited_of : Asked → Awaited
+awaited_of a = record { number = a.number; written = written_by a.op }
+
+-- what is kept of a site beside its row
+abbrev pub mark_of : SiteNow → Mark
+mark_of now = record { etag = etag_seen now.row; changed = now.changed; out = now.out; awaited = option_map awaited_of now.awaits }
+
+-- the lists say of each site what the moments say
+pub record Knows (c : Config) (run : Run) (ms : List Moment) : Type 0 where
+  pub rows_len : length run.rows ≡ c.n
+  pub marks_len : length run.marks ≡ c.n
+  pub rows : (s : ℕ) → s < c.n → slice_get run.rows s ≡ Some (known (site_now ms s))
+  pub marks : (s : ℕ) → s < c.n → slice_get run.marks s ≡ Some (mark_of (site_now ms s))
+
+-- a request is awaited only from the site that it was sent to, which isn't out; and from each site that hasn't
+-- answered all that is awaited of it, a request is awaited
+pub record IsSound (now : SiteNow) (s : ℕ) : Type 0 where
+  pub inside : (a : Asked) → now.awaits ≡ Some a → (now.out ≡ false) × (a.site ≡ s) × (a.awaited ≡ true)
+  pub answered : now.unanswered ≡ is_some now.awaits
+
+-- the call keeps what has happened to it, and each moment of it was allowed
+pub record Stands (c : Config) (w : Caller) (past : List Tale) (run : Run) (ms : List Moment) : Type 0 where
+  pub name_is : run.name ≡ w.name
+  pub key_is : run.key ≡ key_of w.call
+  pub own_is : run.own ≡ own_value w.name w.call
+  pub knows : Knows c run ms
+  pub met_is : run.met ≡ met ms
+  pub voted_is : run.voted ≡ voted w.name ms
+  pub wrote_is : run.wrote ≡ phase_of ms
+  pub sites : (s : ℕ) → IsSound (site_now ms s) s
+  pub allowed : AreAllowed c w past ms
+
+-- the phase has what its step wants
+abbrev pub StageStands : Config → Caller → Stage → List Moment → Type 0
+StageStands c w Look ms = voted w.name ms ≡ false
+StageStands c w (Fast v) ms = MayFastVote c w ms v × ((x : Value) × (own_value w.name w.call ≡ Some x))
+
+-- each site that may be read is being read, or is out
+abbrev pub AreAskedAgain : Config → List Moment → Type 0
+AreAskedAgain c ms = (s : ℕ) → s < c.n → MayRead (site_now ms s) → (site_now ms s).awaits ≡ None → (site_now ms s).out ≡ true
+
+-- a request is awaited from a site
+abbrev pub IsWaiting : Config → List Moment → Type 0
+IsWaiting c ms = (s : ℕ) × (a : Asked) × (s < c.n) × ((site_now ms s).awaits ≡ Some a)
+
+-- between two events: the phase stands, each site is asked for what it may be asked, the call can go on, and it
+-- awaits a request
+pub record Runs (c : Config) (w : Caller) (past : List Tale) (run : Run) (ms : List Moment) : Type 0 where
+  pub stands : Stands c w past run ms
+  pub stage : StageStands c w run.stage ms
+  pub again : AreAskedAgain c ms
+  pub going : IsGoing c ms
+  pub waits : IsWaiting c ms
+
+abbrev pub IsKept : Config → Run → Type 0
+IsKept c run = (w : Caller) × (past : List Tale) × (ms : List Moment) × Stands c w past run ms

@@ -1,0 +1,290 @@
+//! All that a call does at an event, once what came was noted.
+ghost use Rattle.std.specs.Prelude.{◌≡◌, ◌≤◌, ◌<◌, ◌+◌, ◌^◌, ℕ, List, [], length, Some, slice_get, IfOk, MatchOption};
+ghost use Rattle.gz_core.specs.Rows.{RowAt};
+ghost use Rattle.gz_core.specs.Configurations.{IsConfig};
+ghost use Rattle.gz_round.specs.History.{Moment, Caller, Tale, sent_from};
+ghost use Rattle.gz_round.specs.Standing.{Stands, IsKept};
+ghost use Rattle.gz_round.specs.Counting.{IsGoing};
+ghost use Rattle.std.specs.Option.{option_copied};
+ghost use Rattle.gz_round.specs.Causes.{HasCause, row_value, column_value, vote_value};
+ghost use Rattle.gz_round.specs.Acting.{IsPlain, Acts, CanAct, CanFollow, outcome_of, contended_of, cut_off_of, CanFinish, Finishes, IsPut, IsPutAt, IsKnownPut, IsAnswerFor, IsAnswerOf, stage_step, vote_for, notice_for, working_version};
+ghost use Rattle.gz_round.specs.Following.{Ready, IsReady, Turned};
+
+use crate::following::Next;
+use crate::run::{Run, Stage};
+use gz_core::{
+    Answer, Column, Config, Row, RowStep, SiteId, Turn, UnsureWhy, Value, Version, Vote,
+};
+use gz_pick::highest;
+use std::alloc::{AllocError, Global};
+
+impl Run {
+    /// All that the call does at an event, once what came was noted.
+    pub fn act(&mut self, alloc: Global, config: &Config, first: u32) -> Result<Turn, AllocError>
+        requires config { IsConfig config.now }
+        requires first { first < 2 ^ 31 }
+        requires ready { IsReady config.now self.old }
+        ensures { IfOk result (λ turn. (w : Caller) (past : List Tale) (ms : List Moment) → Ready config.now w past self.old ms
+            → Turned config.now w past self.new (sent_from first turn.send ms) turn.answer) }
+    {
+        match self.stop(config) {
+            Some(answer) => self.close(alloc, config, first, answer),
+            None => self.follow(alloc, config, first),
+        }
+    }
+
+    /// The answer of a call that was overtaken as often as it tries, or has too few sites left.
+    fn stop(&self, config: &Config) -> Option<Answer>
+        requires config { IsConfig config.now }
+        requires kept { IsKept config.now self.now }
+        ensures { (w : Caller) (past : List Tale) (ms : List Moment) → Stands config.now w past self.now ms
+            → MatchOption result (IsGoing config.now ms) (λ answer. HasCause config.now w ms answer × IsPlain answer) }
+    {
+        if self.met >= config.tries {
+            return Some(self.contended());
+        }
+        if self.outs() + config.qc as usize > config.n as usize {
+            return Some(self.cut_off());
+        }
+        None
+    }
+
+    /// The answer of a call that was overtaken too often.
+    fn contended(&self) -> Answer
+        ensures { result ≡ contended_of self.now }
+    {
+        let met = self.met;
+        if self.voted {
+            Answer::Unsure {
+                why: UnsureWhy::Contended { met },
+            }
+        } else {
+            Answer::Contended { met }
+        }
+    }
+
+    /// The answer of a call with too few sites left.
+    fn cut_off(&self) -> Answer
+        requires { length self.now.rows ≤ 16 }
+        ensures { result ≡ cut_off_of self.now }
+    {
+        let phase = self.wrote;
+        let heard = self.known() as u32;
+        if self.voted {
+            Answer::Unsure {
+                why: UnsureWhy::NoQuorum { phase, heard },
+            }
+        } else {
+            Answer::NoQuorum { phase, heard }
+        }
+    }
+
+    /// What follows from the rows that are known.
+    fn follow(&mut self, alloc: Global, config: &Config, first: u32) -> Result<Turn, AllocError>
+        requires config { IsConfig config.now }
+        requires first { first < 2 ^ 31 }
+        requires follows { CanFollow config.now self.old }
+        ensures { IfOk result (λ turn. (w : Caller) (past : List Tale) (ms : List Moment) → Ready config.now w past self.old ms → IsGoing config.now ms
+            → Turned config.now w past self.new (sent_from first turn.send ms) turn.answer) }
+    {
+        match self.next(config) {
+            Next::Wait => self.go_on(alloc, config, first),
+            Next::Vote { version } => {
+                self.stage = Stage::Fast { version };
+                self.go_on(alloc, config, first)
+            },
+            Next::Chosen { version } => self.finish(alloc, config, first, version),
+            Next::Learnt { version, site } => {
+                let answer = self.told(version, site)?;
+                self.close(alloc, config, first, answer)
+            },
+            Next::Absent => self.close(alloc, config, first, Answer::Absent),
+        }
+    }
+
+    /// The phase goes on: each site is asked for its step. Where nothing is awaited then, the phase has ended
+    /// without its goal.
+    fn go_on(&mut self, alloc: Global, config: &Config, first: u32) -> Result<Turn, AllocError>
+        requires config { IsConfig config.now }
+        requires first { first < 2 ^ 31 }
+        requires acts { CanAct config.now self.old }
+        ensures { IfOk result (λ turn. (w : Caller) (past : List Tale) (ms : List Moment) → Acts config.now w past self.old ms
+            → Turned config.now w past self.new (sent_from first turn.send ms) turn.answer) }
+    {
+        let step = self.step()?;
+        let send = self.first_pass(alloc, config, &step, first)?;
+        let answer = self.outcome();
+        Ok(Turn { send, answer })
+    }
+
+    /// What a pass comes to: where nothing is awaited, the phase has ended without its goal.
+    fn outcome(&self) -> Option<Answer>
+        ensures { result ≡ outcome_of self.now }
+    {
+        if self.waits() {
+            None
+        } else {
+            Some(Answer::Unsettled {
+                version: self.working(),
+            })
+        }
+    }
+
+    /// The step of the phase: none in `Look`, which reads alone.
+    fn step(&self) -> Result<Option<RowStep>, AllocError>
+        ensures { IfOk result (λ step. step ≡ stage_step self.now) }
+    {
+        match self.stage {
+            Stage::Look => Ok(None),
+            Stage::Fast { version } => self.vote(version),
+        }
+    }
+
+    /// The vote for the call's own value, if it has one.
+    fn vote(&self, version: Version) -> Result<Option<RowStep>, AllocError>
+        ensures { IfOk result (λ step. step ≡ vote_for version self.now.own) }
+    {
+        match &self.own {
+            None => Ok(None),
+            Some(value) => {
+                let value = value.clone()?;
+                Ok(Some(RowStep::FastVote { version, value }))
+            },
+        }
+    }
+
+    /// The notice that the call's own value is chosen, if it has one.
+    fn notice(&self, version: Version) -> Result<Option<RowStep>, AllocError>
+        ensures { IfOk result (λ step. step ≡ notice_for version self.now.own) }
+    {
+        match &self.own {
+            None => Ok(None),
+            Some(value) => {
+                let value = value.clone()?;
+                Ok(Some(RowStep::Decide { version, value }))
+            },
+        }
+    }
+
+    /// The version that the phase works at.
+    fn working(&self) -> Version
+        ensures { result ≡ working_version self.now }
+    {
+        match self.stage {
+            Stage::Look => highest(self.rows.as_slice()),
+            Stage::Fast { version } => version,
+        }
+    }
+
+    /// Ends the call with an answer. Reads that are due go out all the same.
+    fn close(
+        &mut self,
+        alloc: Global,
+        config: &Config,
+        first: u32,
+        answer: Answer,
+    ) -> Result<Turn, AllocError>
+        requires config { IsConfig config.now }
+        requires first { first < 2 ^ 31 }
+        requires kept { IsKept config.now self.old }
+        ensures { IfOk result (λ turn. (w : Caller) (past : List Tale) (ms : List Moment) → Stands config.now w past self.old ms
+            → HasCause config.now w ms answer × IsPlain answer → Turned config.now w past self.new (sent_from first turn.send ms) turn.answer) }
+    {
+        let send = self.first_pass(alloc, config, &None, first)?;
+        Ok(Turn {
+            send,
+            answer: Some(answer),
+        })
+    }
+
+    /// Ends a put whose value is chosen: every site that can take it is told by a notice.
+    fn finish(
+        &mut self,
+        alloc: Global,
+        config: &Config,
+        first: u32,
+        version: Version,
+    ) -> Result<Turn, AllocError>
+        requires config { IsConfig config.now }
+        requires first { first < 2 ^ 31 }
+        requires finishes { CanFinish config.now self.old version }
+        ensures { IfOk result (λ turn. (w : Caller) (past : List Tale) (ms : List Moment) → Finishes config.now w past self.old ms version
+            → Turned config.now w past self.new (sent_from first turn.send ms) turn.answer) }
+    {
+        let step = self.notice(version)?;
+        let send = self.first_pass(alloc, config, &step, first)?;
+        Ok(Turn {
+            send,
+            answer: Some(Answer::Ok { version }),
+        })
+    }
+
+    /// The answer of a call that has learnt the value of a version, which the row of this site has.
+    fn told(&self, version: Version, site: SiteId) -> Result<Answer, AllocError>
+        requires site { site < length self.now.rows }
+        requires known { IsKnownPut self.now site version }
+        ensures { IfOk result (λ answer. (row : RowAt) → slice_get self.now.rows site ≡ Some (Some row) → IsAnswerOf row version answer) }
+    {
+        match self.rows.at(site.index()) {
+            None => unreachable!(),
+            Some(row) => bytes_of(row, version),
+        }
+    }
+}
+
+/// The answer with the value that a row has at a version.
+fn bytes_of(row: &Row, version: Version) -> Result<Answer, AllocError>
+    requires { IsPutAt row.now version }
+    ensures { IfOk result (λ answer. IsAnswerOf row.now version answer) }
+{
+    match value_at(row, version) {
+        None => unreachable!(),
+        Some(value) => put_answer(value, version),
+    }
+}
+
+fn put_answer(value: &Value, version: Version) -> Result<Answer, AllocError>
+    requires { IsPut value.now }
+    ensures { IfOk result (λ answer. IsAnswerFor value.now version answer) }
+{
+    match value {
+        Value::Tomb { .. } => unreachable!(),
+        Value::Put(put) => {
+            let name = put.name;
+            let bytes = put.bytes.clone()?;
+            Ok(Answer::Bytes {
+                version,
+                name,
+                bytes,
+            })
+        },
+    }
+}
+
+/// The value that a row has at a version, of a vote or a decision.
+fn value_at(row: &Row, version: Version) -> Option<&Value>
+    ensures { option_copied result ≡ row_value row.now version }
+{
+    match row.column(version) {
+        None => None,
+        Some(column) => value_in(column),
+    }
+}
+
+fn value_in(column: &Column) -> Option<&Value>
+    ensures { option_copied result ≡ column_value (Some column.now) }
+{
+    match column {
+        Column::Decided { value } => Some(value),
+        Column::Open { vote, .. } => value_of(vote),
+    }
+}
+
+fn value_of(vote: &Option<Vote>) -> Option<&Value>
+    ensures { option_copied result ≡ vote_value vote.now }
+{
+    match vote {
+        None => None,
+        Some(vote) => Some(&vote.value),
+    }
+}

@@ -1,0 +1,173 @@
+//! What a reply tells of a site.
+ghost use Rattle.std.specs.Prelude.{◌≡◌, ◌<◌, ◌+◌, ◌^◌, length, slice_get, Some, IfOk};
+ghost use Rattle.std.specs.List.{list_all};
+ghost use Rattle.gz_round.specs.Sites.{value_stands, vote_stands, column_stands, entry_stands, can_stand, seen_in, seen_under, seen_written};
+ghost use Rattle.gz_round.specs.declared.run.Mark.{Mark};
+ghost use Rattle.gz_round.specs.Noting.{heard_run, overtaken_run, left_run};
+
+use crate::run::{Mark, Run};
+use gz_core::{Column, Etag, Reply, Row, Value, Version, Vote};
+use std::alloc::{AllocError, Global};
+
+/// A row that was heard, and the tag that it stands under (none: there was no row).
+#[derive(Debug, Drop)]
+pub struct Seen {
+    pub etag: Option<Etag>,
+    pub row: Row,
+}
+
+/// Versions and floors that a run reaches lie below this one.
+const VERSIONS: u64 = 1 << 62;
+
+/// Rounds that a run reaches lie below this one.
+const ROUNDS: u32 = 1 << 31;
+
+/// A row of a run has fewer columns.
+const COLUMNS: usize = 1 << 22;
+
+/// Whether a run can hold the row. One that no run can hold is not heard.
+pub fn can_stand(row: &Row) -> bool
+    ensures { result ≡ can_stand row.now }
+{
+    row.floor().number() < VERSIONS && row.columns().len() < COLUMNS && columns_stand(row.columns())
+}
+
+fn columns_stand(columns: &[(Version, Column)]) -> bool
+    ensures { result ≡ list_all entry_stands columns.now }
+{
+    columns.iter().all(|entry| entry_stands(entry))
+}
+
+fn entry_stands(entry: &(Version, Column)) -> bool
+    ensures { result ≡ entry_stands entry.now }
+{
+    entry.0.number() < VERSIONS && column_stands(&entry.1)
+}
+
+fn column_stands(column: &Column) -> bool
+    ensures { result ≡ column_stands column.now }
+{
+    match column {
+        Column::Open { promise, vote } => promise.round < ROUNDS && vote_stands(vote),
+        Column::Decided { value } => value_stands(value),
+    }
+}
+
+fn vote_stands(vote: &Option<Vote>) -> bool
+    ensures { result ≡ vote_stands vote.now }
+{
+    match vote {
+        None => true,
+        Some(vote) => value_stands(&vote.value),
+    }
+}
+
+fn value_stands(value: &Value) -> bool
+    ensures { result ≡ value_stands value.now }
+{
+    match value {
+        Value::Tomb { .. } => false,
+        Value::Put(_) => true,
+    }
+}
+
+/// The row that a reply shows, where `written` is the row that its request writes, if it is a write.
+pub fn shown_by(
+    alloc: Global,
+    written: &Option<Row>,
+    answer: &Reply,
+) -> Result<Option<Seen>, AllocError>
+    ensures { IfOk result (λ seen. seen ≡ seen_in written.now answer.now) }
+{
+    match answer {
+        Reply::Row { etag, row } => seen_under(Some(*etag), row),
+        Reply::NoRow => Ok(Some(Seen {
+            etag: None,
+            row: Row::empty(alloc),
+        })),
+        Reply::Written { etag } => seen_written(*etag, written),
+        Reply::Changed => Ok(None),
+        Reply::Failed => Ok(None),
+    }
+}
+
+fn seen_under(etag: Option<Etag>, row: &Row) -> Result<Option<Seen>, AllocError>
+    ensures { IfOk result (λ seen. seen ≡ seen_under etag row.now) }
+{
+    if can_stand(row) {
+        let row = row.clone()?;
+        Ok(Some(Seen { etag, row }))
+    } else {
+        Ok(None)
+    }
+}
+
+fn seen_written(etag: Etag, written: &Option<Row>) -> Result<Option<Seen>, AllocError>
+    ensures { IfOk result (λ seen. seen ≡ seen_written etag written.now) }
+{
+    match written {
+        None => Ok(None),
+        Some(row) => seen_under(Some(etag), row),
+    }
+}
+
+impl Run {
+    /// Takes a row as the last one of a site.
+    pub fn hear(&mut self, at: usize, seen: Seen)
+        requires rows { at < length self.old.rows }
+        requires marks { at < length self.old.marks }
+        ensures { self.new ≡ heard_run self.old at seen }
+    {
+        let Seen { etag, row } = seen;
+        self.rows.set(at, Some(row));
+        self.marks.set(
+            at,
+            Mark {
+                etag,
+                changed: false,
+                out: false,
+                awaited: None,
+            },
+        );
+    }
+
+    /// Notes that the last row of a site was overtaken.
+    pub fn overtake(&mut self, at: usize)
+        requires marks { at < length self.old.marks }
+        requires met { self.old.met + 1 < 2 ^ 32 }
+        ensures { (mark : Mark) → slice_get self.old.marks at ≡ Some mark → self.new ≡ overtaken_run self.old at mark }
+    {
+        let etag = self.marks.at(at).etag;
+        let out = self.marks.at(at).out;
+        self.marks.set(
+            at,
+            Mark {
+                etag,
+                changed: true,
+                out,
+                awaited: None,
+            },
+        );
+        self.met += 1;
+    }
+
+    /// Puts a site out for the rest of the call.
+    pub fn leave(&mut self, at: usize)
+        requires rows { at < length self.old.rows }
+        requires marks { at < length self.old.marks }
+        ensures { (mark : Mark) → slice_get self.old.marks at ≡ Some mark → self.new ≡ left_run self.old at mark }
+    {
+        let etag = self.marks.at(at).etag;
+        let changed = self.marks.at(at).changed;
+        self.rows.set(at, None);
+        self.marks.set(
+            at,
+            Mark {
+                etag,
+                changed,
+                out: true,
+                awaited: None,
+            },
+        );
+    }
+}

@@ -1,0 +1,18 @@
+//! One phase of a call: what it asks of the sites, what it is told, and when it reaches its goal.
+#![tactic(auto)]
+
+mod acting;
+pub mod asking;
+pub mod awaiting;
+pub mod counts;
+pub mod following;
+pub mod hearing;
+pub mod making;
+mod noting;
+mod passing;
+pub mod run;
+mod starting;
+
+pub use following::Next;
+pub use hearing::Seen;
+pub use run::{Awaited, Mark, Run, Stage};

@@ -1,0 +1,86 @@
+//! What came at an event, noted.
+ghost use Rattle.std.specs.Prelude.{◌≡◌, ◌≤◌, ◌<◌, ◌+◌, ◌^◌, List, length, slice_get, ◌∷◌, Some, None, IfOk, OnOk};
+ghost use Rattle.gz_core.specs.declared.configuration.Config.{Config};
+ghost use Rattle.gz_round.specs.History.{Asked, Moment, Handed, GaveUp, Caller, Tale};
+ghost use Rattle.gz_round.specs.Sites.{is_changed, site_now, seen_in};
+ghost use Rattle.gz_round.specs.Noting.{noted_by, written_at, IsReplyNoted};
+ghost use Rattle.gz_round.specs.Following.{Ready};
+ghost use Rattle.gz_round.specs.declared.run.Mark.{Mark};
+
+use crate::hearing::{Seen, shown_by};
+use crate::run::Run;
+use gz_core::Reply;
+use std::alloc::{AllocError, Global};
+
+impl Run {
+    /// Notes a reply of the request that is awaited from a site.
+    pub fn note_reply(&mut self, alloc: Global, at: usize, answer: &Reply) -> Result<(), AllocError>
+        requires rows { at < length self.old.rows }
+        requires marks { at < length self.old.marks }
+        requires met { self.old.met + 1 < 2 ^ 32 }
+        ensures noted { OnOk result (IsReplyNoted self.old at answer.now self.new) }
+        ensures ready { OnOk result ((c : Config) (w : Caller) (past : List Tale) (ms : List Moment) (a : Asked) → at < c.n
+            → (site_now ms at).awaits ≡ Some a → Ready c w past self.old ms → Ready c w past self.new (Handed a answer.now ∷ ms)) }
+    {
+        let seen = self.shown_at(alloc, at, answer)?;
+        self.note(at, seen, is_changed(answer));
+        Ok(())
+    }
+
+    /// Notes that the request that is awaited from a site won't be answered.
+    pub fn note_give_up(&mut self, at: usize)
+        requires rows { at < length self.old.rows }
+        requires marks { at < length self.old.marks }
+        ensures { (c : Config) (w : Caller) (past : List Tale) (ms : List Moment) (a : Asked) → at < c.n
+            → (site_now ms at).awaits ≡ Some a → Ready c w past self.old ms → Ready c w past self.new (GaveUp a ∷ ms) }
+    {
+        self.leave(at);
+    }
+
+    /// The row that a reply of a site's request shows.
+    fn shown_at(&self, alloc: Global, at: usize, answer: &Reply) -> Result<Option<Seen>, AllocError>
+        requires { at < length self.now.marks }
+        ensures { IfOk result (λ seen. (mark : Mark) → slice_get self.now.marks at ≡ Some mark → seen ≡ seen_in (written_at mark) answer.now) }
+    {
+        match &self.marks.at(at).awaited {
+            None => shown_by(alloc, &None, answer),
+            Some(awaited) => shown_by(alloc, &awaited.written, answer),
+        }
+    }
+
+    /// Notes the row that a site's request showed, or that a write was overtaken, or that the site is out.
+    fn note(&mut self, at: usize, seen: Option<Seen>, changed: bool)
+        requires rows { at < length self.old.rows }
+        requires marks { at < length self.old.marks }
+        requires met { self.old.met + 1 < 2 ^ 32 }
+        ensures { (mark : Mark) → slice_get self.old.marks at ≡ Some mark → self.new ≡ noted_by self.old at mark seen changed }
+    {
+        match seen {
+            Some(seen) => self.hear(at, seen),
+            None => self.note_none(at, changed),
+        }
+    }
+
+    fn note_none(&mut self, at: usize, changed: bool)
+        requires rows { at < length self.old.rows }
+        requires marks { at < length self.old.marks }
+        requires met { self.old.met + 1 < 2 ^ 32 }
+        ensures { (mark : Mark) → slice_get self.old.marks at ≡ Some mark → self.new ≡ noted_by self.old at mark None changed }
+    {
+        if changed {
+            self.overtake(at);
+        } else {
+            self.leave(at);
+        }
+    }
+}
+
+/// Whether a reply tells that a write was overtaken.
+fn is_changed(answer: &Reply) -> bool
+    ensures { result ≡ is_changed answer.now }
+{
+    match answer {
+        Reply::Changed => true,
+        _ => false,
+    }
+}

@@ -1,0 +1,86 @@
+//! One pass over the sites: each is asked for all that it may be asked for.
+ghost use Rattle.std.specs.Prelude.{◌≡◌, ◌≤◌, ◌<◌, ◌+◌, ◌^◌, ℕ, List, [], length, IfOk, OnOk};
+ghost use Rattle.gz_core.specs.Configurations.{IsConfig};
+ghost use Rattle.gz_round.specs.History.{Moment, Caller, Tale, sent_from};
+ghost use Rattle.gz_round.specs.Steps.{IsStepOf};
+ghost use Rattle.gz_round.specs.Asking.{IsAskedAt, IsLeftBy};
+ghost use Rattle.gz_round.specs.Following.{Asks, AreServed, CanAsk};
+
+use crate::run::Run;
+use gz_core::{Config, Items, Out, RowStep};
+use std::alloc::{AllocError, Global};
+
+impl Run {
+    /// Asks a site for all that it may be asked for.
+    fn ask(
+        &mut self,
+        at: usize,
+        step: &Option<RowStep>,
+        first: u32,
+        send: &mut Items<Out>,
+    ) -> Result<(), AllocError>
+        requires site { at < 16 }
+        requires rows { at < length self.old.rows }
+        requires marks { at < length self.old.marks }
+        requires step { IsStepOf step.now }
+        requires first { first < 2 ^ 31 }
+        requires few { length send.old < 2 ^ 20 }
+
+        ensures asked { OnOk result (IsAskedAt self.old at step.now first send.old self.new send.new) }
+        ensures few { length send.new ≤ length send.old + 1 }
+    {
+        let Some(out) = self.request(at, step)? else {
+            return Ok(());
+        };
+        let number = first + send.len() as u32;
+        self.note_sent(at, number, &out)?;
+        send.push(out)
+    }
+
+    /// Asks each site, in ascending order, for all that it may be asked for.
+    pub fn ask_all(
+        &mut self,
+        config: &Config,
+        step: &Option<RowStep>,
+        first: u32,
+        send: &mut Items<Out>,
+    ) -> Result<(), AllocError>
+        requires config { IsConfig config.now }
+        requires step { IsStepOf step.now }
+        requires first { first < 2 ^ 31 }
+        requires few { length send.old < 2 ^ 19 }
+        requires asks { CanAsk config.now self.old first send.old step.now }
+
+        ensures asked { OnOk result ((w : Caller) (past : List Tale) (ms : List Moment)
+            → Asks config.now w past self.old (sent_from first send.old ms) step.now
+            → Asks config.now w past self.new (sent_from first send.new ms) step.now × AreServed config.now w (sent_from first send.new ms) step.now) }
+        ensures left { OnOk result (IsLeftBy self.old self.new step.now) }
+    {
+        for at in 0..config.n as usize {
+            self.ask(at, step, first, send)?;
+        }
+        Ok(())
+    }
+
+    /// The requests of a first pass over the sites.
+    pub fn first_pass(
+        &mut self,
+        alloc: Global,
+        config: &Config,
+        step: &Option<RowStep>,
+        first: u32,
+    ) -> Result<Items<Out>, AllocError>
+        requires config { IsConfig config.now }
+        requires step { IsStepOf step.now }
+        requires first { first < 2 ^ 31 }
+        requires asks { CanAsk config.now self.old first [] step.now }
+
+        ensures asked { IfOk result (λ send. (w : Caller) (past : List Tale) (ms : List Moment) → Asks config.now w past self.old ms step.now
+            → Asks config.now w past self.new (sent_from first send ms) step.now × AreServed config.now w (sent_from first send ms) step.now) }
+        ensures left { OnOk result (IsLeftBy self.old self.new step.now) }
+    {
+        let mut send = Items::new(alloc);
+        self.ask_all(config, step, first, &mut send)?;
+        Ok(send)
+    }
+}

@@ -1,0 +1,54 @@
+//! What a running call keeps.
+ghost use Rattle.std.specs.Prelude.{◌≡◌, IfOk};
+
+use gz_core::{Etag, Items, Key, Phase, PutName, Row, Value, Version};
+use std::alloc::AllocError;
+
+/// A row request that is awaited: its number, and the row that it writes if it is a write.
+#[derive(Clone, Debug, Drop)]
+pub struct Awaited {
+    pub number: u32,
+    pub written: Option<Row>,
+}
+
+/// What a call keeps of a site beside its row: the tag of the last row that was heard (none: there was no row),
+/// whether that row was overtaken since, whether the site is out for the call, and the request that is awaited.
+#[derive(Clone, Debug, Drop)]
+pub struct Mark {
+    pub etag: Option<Etag>,
+    pub changed: bool,
+    pub out: bool,
+    pub awaited: Option<Awaited>,
+}
+
+/// The phase of a call. `Look` reads every site; `Fast` votes in the fast ballot of a version.
+#[derive(Clone, Copy, Debug, PartialEq, Eq)]
+pub enum Stage {
+    Look,
+    Fast { version: Version },
+}
+
+/// A running call: its name, the object's key, the value that it writes if it is a put, the last row of each
+/// site that isn't out, what else it keeps of each site, how often it was overtaken, whether it voted for its
+/// value, the part that sent its last row write, and its phase.
+#[derive(Clone, Debug, Drop)]
+pub struct Run {
+    pub name: PutName,
+    pub key: Key,
+    pub own: Option<Value>,
+    pub rows: Items<Option<Row>>,
+    pub marks: Items<Mark>,
+    pub met: u32,
+    pub voted: bool,
+    pub wrote: Phase,
+    pub stage: Stage,
+}
+
+impl Run {
+    /// A copy of all that the call keeps.
+    pub fn copy(&self) -> Result<Run, AllocError>
+        ensures { IfOk result (λ run. run ≡ self.now) }
+    {
+        self.clone()
+    }
+}

@@ -1,0 +1,81 @@
+//! How a call begins.
+ghost use Rattle.std.specs.Prelude.{◌≡◌, ℕ, ◌≤◌, ◌<◌, List, [], length, slice_get, Some, None, IfOk};
+ghost use Rattle.gz_core.specs.Calls.{key_of, own_value};
+ghost use Rattle.gz_round.specs.History.{Caller, Tale};
+ghost use Rattle.gz_round.specs.Following.{Ready};
+ghost use Rattle.gz_round.specs.Starting.{IsWithin, fresh_mark};
+
+use crate::run::{Mark, Run, Stage};
+use gz_core::{Call, Config, Items, Key, Phase, PutName, PutValue, Row, Value};
+use std::alloc::{AllocError, Global};
+
+impl Run {
+    /// A call that has sent nothing and heard nothing.
+    pub fn start(
+        alloc: Global,
+        config: &Config,
+        name: PutName,
+        call: Call,
+    ) -> Result<Run, AllocError>
+        requires { IsWithin call }
+        ensures { IfOk result (λ run. (w : Caller) (past : List Tale) → w.name ≡ name → w.call ≡ call → Ready config.now w past run []) }
+    {
+        let rows = no_rows(alloc, config.n as usize)?;
+        let marks = fresh_marks(alloc, config.n as usize)?;
+        let (key, own) = parts(name, call);
+        Ok(Run {
+            name,
+            key,
+            own,
+            rows,
+            marks,
+            met: 0,
+            voted: false,
+            wrote: Phase::Look,
+            stage: Stage::Look,
+        })
+    }
+}
+
+/// The key of a call, and the value that it writes.
+fn parts(name: PutName, call: Call) -> (Key, Option<Value>)
+    requires { IsWithin call }
+    ensures key { result.0 ≡ key_of call }
+    ensures own { result.1 ≡ own_value name call }
+{
+    match call {
+        Call::Put { key, bytes } => (key, Some(Value::Put(PutValue { name, bytes }))),
+        Call::Get { key } => (key, None),
+    }
+}
+
+/// No row of any site.
+fn no_rows(alloc: Global, n: usize) -> Result<Items<Option<Row>>, AllocError>
+    ensures len { IfOk result (λ rows. length rows ≡ n) }
+    ensures none { IfOk result (λ rows. (s : ℕ) → s < n → slice_get rows s ≡ Some None) }
+{
+    let mut rows = Items::new(alloc);
+    for site in 0..n {
+        let _ = site;
+        rows.push(None)?;
+    }
+    Ok(rows)
+}
+
+/// Sites of which nothing is known.
+fn fresh_marks(alloc: Global, n: usize) -> Result<Items<Mark>, AllocError>
+    ensures len { IfOk result (λ marks. length marks ≡ n) }
+    ensures fresh { IfOk result (λ marks. (s : ℕ) → s < n → slice_get marks s ≡ Some fresh_mark) }
+{
+    let mut marks = Items::new(alloc);
+    for site in 0..n {
+        let _ = site;
+        marks.push(Mark {
+            etag: None,
+            changed: false,
+            out: false,
+            awaited: None,
+        })?;
+    }
+    Ok(marks)
+}
