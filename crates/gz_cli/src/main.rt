@@ -1,0 +1,64 @@
+//! The program `giza`: it replays a schedule over sites in memory, and prints the log.
+#![tactic(auto)]
+
+mod bench;
+mod edge;
+mod load;
+mod replay;
+mod rows;
+mod run;
+mod sequence;
+mod status;
+mod words;
+
+use bench::Bench;
+use edge::{FileShelf, StdSink};
+use gz_core::Word;
+use run::run;
+use status::Status;
+use std::alloc::{AllocError, Global};
+use std::process::ExitCode;
+use std::{env, io};
+
+fn main(rt: HostRuntime) -> ExitCode {
+    let status = match arguments(&rt) {
+        Ok(words) => start(&rt, words.as_slice()),
+        Err(error) => unread(&error),
+    };
+    if !matches!(status, Status::Done) {
+        let _ = eprintln!(rt; "giza: {status}");
+    }
+    ExitCode::from(status.number())
+}
+
+// The words of the command line, without the program's own name.
+fn arguments(rt: &HostRuntime) -> io::Result<Vec<Word>> {
+    let mut words = Vec::new(rt.alloc());
+    for word in env::args(rt)?.skip(1) {
+        words.push(Word(word))?;
+    }
+    Ok(words)
+}
+
+// Words that are no text are of no form.
+fn unread(error: &io::Error) -> Status {
+    if error.kind() == io::ErrorKind::OutOfMemory {
+        Status::NoMemory
+    } else {
+        Status::Usage
+    }
+}
+
+// Runs the words over the files of the folder, with the log on standard output.
+fn start(rt: &HostRuntime, words: &[Word]) -> Status {
+    match Bench::new(rt.alloc()) {
+        Ok(mut bench) => run(
+            rt.alloc(),
+            words,
+            &mut FileShelf::new(rt),
+            &mut StdSink::new(rt),
+            &mut bench,
+        ),
+        Err(_) => Status::NoMemory,
+    }
+}

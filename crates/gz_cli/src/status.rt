@@ -1,0 +1,71 @@
+//! How a run ends.
+use gz_core::{Why, Word};
+use std::fmt;
+
+/// How a run ends, with its number and its text.
+#[derive(Debug, Drop)]
+pub enum Status {
+    Done,
+    /// The words are of no form.
+    Usage,
+    /// The shelf failed.
+    ShelfFault { name: Word },
+    NoFile { name: Word },
+    /// The file has more than 65,536 bytes.
+    FileTooLarge { name: Word },
+    /// The first line of the schedule that can't be played, counted from 1.
+    BadText { line: u32, why: Why },
+    /// The sink failed.
+    SinkFault,
+    NoMemory,
+}
+
+impl Status {
+    /// The number with which the program ends.
+    pub fn number(&self) -> u8 {
+        match self {
+            Status::Done => 0,
+            Status::Usage => 2,
+            Status::ShelfFault { .. } => 3,
+            Status::NoFile { .. } => 4,
+            Status::FileTooLarge { .. } => 5,
+            Status::BadText { .. } => 7,
+            Status::SinkFault => 11,
+            Status::NoMemory => 12,
+        }
+    }
+}
+
+impl fmt::Display for Status {
+    fn fmt<W: fmt::Write>(&self, f: &mut fmt::Formatter<W>) -> fmt::Result {
+        match self {
+            Status::Done => write!(f, "done"),
+            Status::Usage => write!(f, "usage"),
+            Status::ShelfFault { name } => {
+                let name = name.as_str();
+                write!(f, "cannot read {name}")
+            }
+            Status::NoFile { name } => {
+                let name = name.as_str();
+                write!(f, "no file {name}")
+            }
+            Status::FileTooLarge { name } => {
+                let name = name.as_str();
+                write!(f, "file too large {name}")
+            }
+            Status::BadText { line, why } => {
+                let why = word(*why);
+                write!(f, "line {line}: {why}")
+            }
+            Status::SinkFault => write!(f, "cannot write"),
+            Status::NoMemory => write!(f, "out of memory"),
+        }
+    }
+}
+
+// The word of a fault.
+fn word(why: Why) -> &'static str {
+    match why {
+        Why::Unbuilt => "unbuilt",
+    }
+}

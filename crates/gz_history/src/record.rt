@@ -1,0 +1,12 @@
+//! A call as the history keeps it.
+use gz_core::{Answer, Call, PutName};
+
+/// A call with the ticks of its beginning and of its answer. It has an answer exactly where it has an end.
+#[derive(Clone, Debug, PartialEq, Eq, Drop)]
+pub struct CallRec {
+    pub name: PutName,
+    pub call: Call,
+    pub begin: u32,
+    pub end: Option<u32>,
+    pub answer: Option<Answer>,
+}

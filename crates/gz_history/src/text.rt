@@ -1,0 +1,66 @@
+//! A text that grows at its end.
+ghost use Rattle.std.specs.Prelude.{◌≡◌, [], ◌++◌, OnOk, decimal};
+ghost use Rattle.gz_history.specs.Log.{bytes_text};
+
+use std::alloc::{AllocError, Global};
+use std::marker::Model;
+
+#[derive(Drop)]
+pub struct Text {
+    bytes: Vec<u8>,
+}
+
+impl Model for Text {
+    ghost use Rattle.std.specs.Prelude.{List, ℕ};
+
+    ghost Value = { List ℕ };
+
+    ghost view = { λ t. t.bytes.items };
+}
+
+impl Text {
+    pub fn new(alloc: Global) -> Text
+        ensures { result ≡ [] }
+    {
+        Text {
+            bytes: Vec::new(alloc),
+        }
+    }
+
+    pub fn as_slice(&self) -> &[u8]
+        ensures { result.now ≡ self.now }
+    {
+        self.bytes.as_slice()
+    }
+
+    pub fn into_bytes(self) -> Vec<u8>
+        ensures { result.items ≡ self }
+    {
+        let Text { bytes } = self;
+        bytes
+    }
+
+    pub fn put(&mut self, bytes: &[u8]) -> Result<(), AllocError>
+        ensures { OnOk result (self.new ≡ self.old ++ bytes.now) }
+    {
+        self.bytes.extend_from_slice(bytes)
+    }
+
+    pub fn number(&mut self, alloc: Global, n: u64) -> Result<(), AllocError>
+        ensures { OnOk result (self.new ≡ self.old ++ decimal n) }
+    {
+        let digits = n.to_string(alloc)?;
+        self.bytes.extend_from_slice(digits.as_bytes())
+    }
+
+    // The bytes in hexadecimal, or a dash where there are none.
+    pub fn bytes(&mut self, alloc: Global, bytes: &[u8]) -> Result<(), AllocError>
+        ensures { OnOk result (self.new ≡ self.old ++ bytes_text bytes.now) }
+    {
+        if bytes.is_empty() {
+            return self.bytes.extend_from_slice(b"-");
+        }
+        let digits = hex::encode(alloc, bytes)?;
+        self.bytes.extend_from_slice(digits.as_bytes())
+    }
+}

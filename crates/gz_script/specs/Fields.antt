@@ -1,0 +1,47 @@
+-- The forms of fields.
+use Rattle.std.specs.Prelude.{ℕ, ◌+◌, ◌-◌, ◌*◌, ◌^◌, ◌==◌, ◌&&◌, ◌||◌, slice_index, Bool, nat_lt, nat_le, if◌then◌else◌, List, [], ◌∷◌, length, fold, Option, Some, None, option_and_then}
+use Rattle.std.specs.List.{list_all}
+use Rattle.std.specs.Char.{is_ascii_digit}
+use Rattle.std.specs.Result.{result_ok}
+use Rattle.hex.specs.Hex.{decode_of}
+
+-- decimal digits without leading zeros, except 0 itself
+abbrev pub is_numeral : List ℕ → Bool
+is_numeral digits = list_all is_ascii_digit digits && (nat_lt 48 (slice_index digits 0) || (length digits == 1))
+
+-- the number that decimal digits spell
+abbrev pub value_of : List ℕ → ℕ
+value_of digits = fold (λ n d. n * 10 + (d - 48)) 0 digits
+
+-- a number below 2^32
+abbrev pub number_of : List ℕ → Option ℕ
+number_of field = if is_numeral field && nat_lt (value_of field) (2 ^ 32) then Some (value_of field) else None
+
+-- a number that is at least 1
+abbrev pub from_one : ℕ → Option ℕ
+from_one n = if nat_le 1 n then Some n else None
+
+-- the number of a session
+abbrev pub session_of : List ℕ → Option ℕ
+session_of field = option_and_then from_one (number_of field)
+
+-- a printable character of ASCII that is no blank
+abbrev pub is_printable : ℕ → Bool
+is_printable b = nat_le 0x21 b && nat_le b 0x7e
+
+-- the bytes of a key: 1 to 255 printable characters of ASCII that are no blanks
+abbrev pub is_key_field : List ℕ → Bool
+is_key_field field = nat_le 1 (length field) && nat_le (length field) 255 && list_all is_printable field
+
+abbrev pub key_of : List ℕ → Option (List ℕ)
+key_of field = if is_key_field field then Some field else None
+
+-- at most 65,536 bytes
+abbrev pub within : List ℕ → Option (List ℕ)
+within bytes = if nat_le (length bytes) 65536 then Some bytes else None
+
+-- bytes: `x:` and an even number of hexadecimal digits
+abbrev pub bytes_of : List ℕ → Option (List ℕ)
+bytes_of [] = None
+bytes_of (a ∷ []) = None
+bytes_of (a ∷ b ∷ digits) = if (a == 120) && (b == 58) then option_and_then within (result_ok (decode_of digits)) else None

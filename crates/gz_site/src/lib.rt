@@ -1,0 +1,17 @@
+//! What lies outside the store: sites that hold rows, shelves of files, and sinks of bytes, each as a trait with
+//! an implementation in memory.
+#![tactic(auto)]
+
+pub mod many;
+pub mod memory;
+pub mod memory_files;
+pub mod shelves;
+pub mod sinks;
+pub mod sites;
+
+pub use many::{read_at, write_at};
+pub use memory::{Failing, MemSite};
+pub use memory_files::{MemShelf, MemSink};
+pub use shelves::{Shelf, ShelfError};
+pub use sinks::{Sink, SinkError, write_all};
+pub use sites::{RowRead, RowWrite, Site, SiteFault};

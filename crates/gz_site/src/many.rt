@@ -1,0 +1,43 @@
+//! Calls at one site of a list.
+ghost use Rattle.std.specs.Prelude.{◌≡◌, ◌<◌, length};
+ghost use Rattle.gz_site.specs.Steps.{ReadRowStep, WriteRowStep};
+ghost use Rattle.gz_site.specs.Many.{TellsAt, CauseAt, OthersStay};
+
+use crate::sites::{RowRead, RowWrite, Site, SiteFault};
+use gz_core::{Etag, Key, Row};
+use std::alloc::Global;
+
+/// Reads the row of a key at the site at this place. The other sites stay as they were.
+pub fn read_at<S: Site>(
+    alloc: Global,
+    sites: &mut Vec<S>,
+    at: usize,
+    key: &Key,
+) -> Result<RowRead, SiteFault>
+    requires { at < length sites.old.items }
+    ensures len { length sites.new.items ≡ length sites.old.items }
+    ensures step { TellsAt S.told sites.old.items at sites.new.items (λ old new. ReadRowStep old key.now result new) }
+    ensures cause { CauseAt S.faults SiteFault.Failed sites.old.items at sites.new.items result }
+    ensures others { OthersStay sites.old.items at sites.new.items }
+{
+    sites[at].read_row(alloc, key)
+}
+
+/// Writes the row of a key at the site at this place, where the stored tag is `expect`. The other sites stay as
+/// they were.
+pub fn write_at<S: Site>(
+    alloc: Global,
+    sites: &mut Vec<S>,
+    at: usize,
+    key: &Key,
+    expect: Option<Etag>,
+    row: &Row,
+) -> Result<RowWrite, SiteFault>
+    requires { at < length sites.old.items }
+    ensures len { length sites.new.items ≡ length sites.old.items }
+    ensures step { TellsAt S.told sites.old.items at sites.new.items (λ old new. WriteRowStep old key.now expect row.now result new) }
+    ensures cause { CauseAt S.faults SiteFault.Failed sites.old.items at sites.new.items result }
+    ensures others { OthersStay sites.old.items at sites.new.items }
+{
+    sites[at].write_row_if(alloc, key, expect, row)
+}
