@@ -3,6 +3,8 @@
 
 pub mod log;
 pub mod record;
+#[cfg(test)]
+mod tests;
 mod text;
 
 pub use log::log_text;

@@ -6,6 +6,8 @@ mod fields;
 mod grammar;
 pub mod line;
 pub mod schedule;
+#[cfg(test)]
+mod tests;
 
 pub use line::Line;
 pub use schedule::read_schedule;
