@@ -6,3 +6,4 @@ mod HoldLemmas
 mod CountLemmas
 mod FreshLemmas
 mod LegalLemmas
+mod RunLemmas

@@ -1,10 +1,10 @@
 -- What a run promises: the cause of each status, and what it leaves.
-use Rattle.std.specs.Prelude.{ℕ, ◌≡◌, ◌<◌, ◌≤◌, ◌++◌, List, [], length, map, filter_map, take, Option, Some, None, option_map, slice_get}
+use Rattle.std.specs.Prelude.{ℕ, ◌⊎◌, ◌≡◌, ◌<◌, ◌≤◌, ◌++◌, List, [], length, map, filter_map, take, Option, Some, None, option_map, slice_get}
 use Rattle.gz_core.specs.Causes.{Rose}
 use Rattle.gz_core.specs.declared.calls.Call.{Call}
 use Rattle.gz_core.specs.declared.calls.Call.TheVariants.{Get}
 use Rattle.gz_site.specs.Told.{IsEmpty}
-use Rattle.gz_site.specs.Files.{Exceeds}
+use Rattle.gz_site.specs.Files.{Exceeds, IsSomePart}
 use Rattle.gz_core.specs.declared.texts.TextError.{TextError}
 use Rattle.gz_core.specs.declared.texts.TextError.TheVariants.{Bad, TooLong, NoMemory as NoTextMemory}
 use Rattle.gz_site.specs.declared.shelves.ShelfError.{ShelfError}
@@ -181,6 +181,35 @@ pub record Replayed (files : Files) (name : List ℕ) (calls : List CallRec) (Wr
   pub plays : calls ≡ (played lines).calls
   pub order : AreCallsOf lines calls
   pub written : Written (log_of calls (played lines).ticks 0)
+
+-- the same for the words of the command line
+abbrev pub Replays : Option (List ℕ) → Files → List CallRec → (List ℕ → Type 0) → Type 0
+Replays None files calls Written = ⊥
+Replays (Some name) files calls Written = Replayed files name calls Written
+
+-- want of memory came before anything was written, or some first part of the log of the file was written
+abbrev pub IsCutShort : Option (List ℕ) → Files → Option (List ℕ) → Option (List ℕ) → Type 0
+IsCutShort None files before after = ⊥
+IsCutShort (Some name) files before after = (after ≡ before) ⊎ ((lines : List Line) × (Loads files name lines × IsSomePart before (log_of (played lines).calls (played lines).ticks 0) after))
+
+-- the shelf tells that the file has these bytes
+abbrev pub TellsBytes : Files → List ℕ → List ℕ → Type 0
+TellsBytes None name bytes = ⊥
+TellsBytes (Some files) name bytes = files name ≡ Some bytes
+
+-- the words name a file that the shelf tells, that is within the limit and of which each line can be played
+pub record IsPlayable (named : Option (List ℕ)) (files : Files) : Type 0 where
+  pub name : List ℕ
+  pub words : named ≡ Some name
+  pub bytes : List ℕ
+  pub file : TellsBytes files name bytes
+  pub within : length bytes ≤ 65536
+  pub built : AreBuilt (readings bytes) (length (readings bytes))
+
+-- no count of faults rose
+pub record AreSteady (old new : Counts) : Type 0 where
+  pub shelf : Rose old.faults new.faults → ⊥
+  pub sink : Rose old.sink new.sink → ⊥
 
 -- the sites are empty, and the first three never fail
 pub record AreFresh (sites : List MemSite) : Type 0 where

@@ -9,6 +9,8 @@ mod rows;
 mod run;
 mod sequence;
 mod status;
+#[cfg(test)]
+mod tests;
 mod words;
 
 use bench::Bench;

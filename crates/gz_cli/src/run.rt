@@ -6,7 +6,7 @@ ghost use Rattle.gz_history.specs.Legal.{IsLegal};
 ghost use Rattle.gz_site.specs.Files.{IsSomePart};
 ghost use Rattle.gz_cli.specs.Words.{file_in};
 ghost use Rattle.gz_cli.specs.Replays.{played, ThreeHold};
-ghost use Rattle.gz_cli.specs.Runs.{AreFresh, RunCause, IsRefusal, Whole, WriteCause, HasPlayed, sink_status};
+ghost use Rattle.gz_cli.specs.Runs.{AreFresh, RunCause, Replays, IsCutShort, IsPlayable, AreSteady, GetsLatest, RowsHold, IsRefusal, Whole, WriteCause, HasPlayed, sink_status};
 
 use crate::bench::Bench;
 use crate::load::load;
@@ -20,6 +20,9 @@ use gz_site::{Shelf, Sink, SinkError, write_all};
 use std::alloc::Global;
 
 /// Replays the schedule that the words name, and writes the log of its calls.
+///
+/// A refusal leaves the bench as it was, and writes nothing. After a fault of the sink the calls stand and some
+/// first part of the log was written; after want of memory no more is said of the bench.
 pub fn run<F: Shelf, O: Sink>(
     alloc: Global,
     words: &[Word],
@@ -28,9 +31,22 @@ pub fn run<F: Shelf, O: Sink>(
     bench: &mut Bench,
 ) -> Status
     requires { AreFresh bench.old.sites.items }
+
+    // Each status has its cause, and comes nowhere else.
     ensures usage { (result ≡ Status.Usage) ↔ (file_in words.now ≡ None) }
     ensures cause { RunCause (file_in words.now) (F.files shelf.old) (record { faults = F.faults shelf.old; absences = F.absences shelf.old; excesses = F.excesses shelf.old; sink = O.faults out.old }) (record { faults = F.faults shelf.new; absences = F.absences shelf.new; excesses = F.excesses shelf.new; sink = O.faults out.new }) result }
+    ensures complete { IsPlayable (file_in words.now) (F.files shelf.old) → AreSteady (record { faults = F.faults shelf.old; absences = F.absences shelf.old; excesses = F.excesses shelf.old; sink = O.faults out.old }) (record { faults = F.faults shelf.new; absences = F.absences shelf.new; excesses = F.excesses shelf.new; sink = O.faults out.new }) → (result ≡ Status.Done) ⊎ (result ≡ Status.NoMemory) }
+
+    // What Done means: the calls of the lines, and the whole log.
+    ensures done { result ≡ Status.Done → Replays (file_in words.now) (F.files shelf.old) bench.new.calls.items (λ log. Whole (O.written out.old) log (O.written out.new)) }
+    ensures gets { HasPlayed result → GetsLatest bench.new.calls.items }
+    ensures legal { HasPlayed result → IsLegal bench.new.calls.items }
+    ensures rows { HasPlayed result → RowsHold bench.new.calls.items bench.new.sites.items }
+
+    // What stands after another status.
     ensures refused { IsRefusal result → (bench.new ≡ bench.old) × (O.written out.new ≡ O.written out.old) }
+    ensures unwritten { result ≡ Status.SinkFault → Replays (file_in words.now) (F.files shelf.old) bench.new.calls.items (λ log. IsSomePart (O.written out.old) log (O.written out.new)) }
+    ensures memory { result ≡ Status.NoMemory → IsCutShort (file_in words.now) (F.files shelf.old) (O.written out.old) (O.written out.new) }
 {
     let Some(name) = file_name(words) else {
         return Status::Usage;

@@ -1,0 +1,200 @@
+//! The program over a shelf and a sink in memory, and the edge over a real file and standard output.
+ghost use Rattle.std.specs.Prelude.{◌<◌, ◌-◌, ◌^◌, All, IfOk};
+
+use crate::bench::Bench;
+use crate::edge::{FileShelf, StdSink};
+use crate::run::run;
+use gz_core::{Answer, Ballot, Call, Column, Items, Key, PutName, PutValue, Session, Value, Version, Vote, Word};
+use gz_history::CallRec;
+use gz_site::{MemShelf, MemSink, RowRead, Shelf, ShelfError, Sink, Site};
+use std::alloc::{AllocError, Global};
+use std::collections::BTreeMap;
+use std::process::Abort;
+use std::test::Fail;
+use std::{env, fs};
+
+const PUT_GET: &str = "session\nput 1 a x:0102\nsettle 1\nget 1 a\nsettle 1\n";
+
+const PUT_GET_LOG: &str = "1.1 put a 0102 2 14 ok 1\n1.2 get a - 15 21 bytes 1 1.1 0102\nend 2 21 0\n";
+
+// A list of one call that fails; calls count from 1, so that 0 lists none.
+fn failing(alloc: Global, call: u32) -> Result<Vec<u64>, AllocError>
+    ensures { IfOk result (λ calls. All (λ call. call < 2 ^ 64 - 1) calls.items) }
+{
+    let mut calls = Vec::new(alloc);
+    calls.push(call as u64)?;
+    Ok(calls)
+}
+
+fn word(alloc: Global, text: &str) -> Result<Word, AllocError> {
+    Ok(Word(String::from_str(alloc, text)?))
+}
+
+// A shelf with the one file `s`.
+fn shelf(alloc: Global, text: &[u8], fails: u32) -> Result<MemShelf, AllocError> {
+    let mut files = BTreeMap::new(alloc);
+    files.insert(String::from_str(alloc, "s")?, Vec::from_slice(alloc, text)?)?;
+    let fails = failing(alloc, fails)?;
+    Ok(MemShelf::new(files, fails))
+}
+
+// How a run ends and what it writes, where `shelf_fails` and `sink_fails` number the calls that fail.
+#[derive(Drop)]
+struct Case<'a> {
+    words: &'a [&'a str],
+    text: &'a [u8],
+    shelf_fails: u32,
+    sink_fails: u32,
+    number: u8,
+    status: &'a str,
+    log: &'a str,
+}
+
+fn check(rt: &impl Abort, alloc: Global, case: &Case) -> Result<(), Fail> {
+    let mut words = Vec::new(alloc);
+    for text in case.words {
+        words.push(word(alloc, text)?)?;
+    }
+    let mut shelf = shelf(alloc, case.text, case.shelf_fails)?;
+    let mut out = MemSink::new(alloc, failing(alloc, case.sink_fails)?);
+    let mut bench = Bench::new(alloc)?;
+    let status = run(alloc, words.as_slice(), &mut shelf, &mut out, &mut bench);
+    assert_eq!(rt; status.number(), case.number);
+    assert_eq!(rt; status.to_string(alloc)?.as_str(), case.status);
+    assert_eq!(rt; out.written(), case.log.as_bytes());
+    Ok(())
+}
+
+fn played<'a>(text: &'a str, number: u8, status: &'a str, log: &'a str) -> Case<'a> {
+    Case {
+        words: &["replay", "s"],
+        text: text.as_bytes(),
+        shelf_fails: 0,
+        sink_fails: 0,
+        number,
+        status,
+        log,
+    }
+}
+
+#[test]
+fn each_status_of_a_schedule(rt: HostRuntime) -> Result<(), Fail> {
+    for (text, number, status, log) in [
+        (PUT_GET, 0, "done", PUT_GET_LOG),
+        ("session\nget 1 a\nsettle 1\n", 0, "done", "1.1 get a - 2 6 absent\nend 1 6 0\n"),
+        ("", 0, "done", "end 0 0 0\n"),
+        ("# none\n  \r\nsettle 9\nsession", 0, "done", "end 0 1 0\n"),
+        ("session\nsession\nput 2 b x:\nsettle 2\nput 1 b x:Ff\n\nsettle 1\nget 2 b\nsettle 2\n", 0, "done",
+            "2.1 put b - 3 15 ok 1\n1.1 put b ff 16 28 ok 2\n2.2 get b - 29 35 bytes 2 1.1 ff\nend 3 35 0\n"),
+        ("session\ndelete 1 a\n", 7, "line 2: unbuilt", ""),
+        ("session\nput 1 a x:01\n", 7, "line 2: unbuilt", ""),
+        ("session\npat 1 a\n", 7, "line 2: unbuilt", ""),
+        ("session\nput 2 a x:01\nsettle 2\n", 7, "line 2: unbuilt", ""),
+    ] {
+        check(&rt, rt.alloc(), &played(text, number, status, log))?;
+    }
+    Ok(())
+}
+
+#[test]
+fn each_status_of_the_words(rt: HostRuntime) -> Result<(), Fail> {
+    let words: [&[&str]; 4] = [&[], &["replay"], &["replay", "-x"], &["play", "s"]];
+    for words in words {
+        check(&rt, rt.alloc(), &Case { words, ..played(PUT_GET, 2, "usage", "") })?;
+    }
+    check(&rt, rt.alloc(), &Case { words: &["replay", "none"], ..played(PUT_GET, 4, "no file none", "") })?;
+    let comment = vec![in rt.alloc(); b'#'; 65_537]?;
+    check(&rt, rt.alloc(), &Case { text: comment.as_slice(), ..played("", 5, "file too large s", "") })?;
+    check(&rt, rt.alloc(), &Case { text: &comment[..65_536], ..played("", 0, "done", "end 0 0 0\n") })
+}
+
+#[test]
+fn each_outside_call_fails_in_turn(rt: HostRuntime) -> Result<(), Fail> {
+    check(&rt, rt.alloc(), &Case { shelf_fails: 1, ..played(PUT_GET, 3, "cannot read s", "") })?;
+    check(&rt, rt.alloc(), &Case { shelf_fails: 2, ..played(PUT_GET, 0, "done", PUT_GET_LOG) })?;
+    check(&rt, rt.alloc(), &Case { sink_fails: 1, ..played(PUT_GET, 11, "cannot write", "") })?;
+    check(&rt, rt.alloc(), &Case { sink_fails: 2, ..played(PUT_GET, 11, "cannot write", PUT_GET_LOG) })?;
+    check(&rt, rt.alloc(), &Case { sink_fails: 3, ..played(PUT_GET, 0, "done", PUT_GET_LOG) })
+}
+
+fn key(alloc: Global) -> Result<Key, Fail> {
+    Ok(Key::new(Vec::from_slice(alloc, b"a")?).ok_or("a key")?)
+}
+
+fn bytes(alloc: Global) -> Result<Items<u8>, AllocError> {
+    Items::from_slice(alloc, &[1, 2])
+}
+
+fn name(seq: u32) -> PutName {
+    PutName {
+        session: Session(1),
+        seq: seq.max(1),
+    }
+}
+
+#[test]
+fn a_put_and_a_get_leave_calls_and_rows(rt: HostRuntime) -> Result<(), Fail> {
+    let alloc = rt.alloc();
+    let words = vec![in alloc; word(alloc, "replay")?, word(alloc, "s")?]?;
+    let mut shelf = shelf(alloc, PUT_GET.as_bytes(), 0)?;
+    let mut out = MemSink::new(alloc, failing(alloc, 0)?);
+    let mut bench = Bench::new(alloc)?;
+    let status = run(alloc, words.as_slice(), &mut shelf, &mut out, &mut bench);
+    assert_eq!(rt; status.number(), 0);
+    let put = CallRec {
+        name: name(1),
+        call: Call::Put { key: key(alloc)?, bytes: bytes(alloc)? },
+        begin: 2,
+        end: Some(14),
+        answer: Some(Answer::Ok { version: Version(1) }),
+    };
+    let get = CallRec {
+        name: name(2),
+        call: Call::Get { key: key(alloc)? },
+        begin: 15,
+        end: Some(21),
+        answer: Some(Answer::Bytes { version: Version(1), name: name(1), bytes: bytes(alloc)? }),
+    };
+    let expected = vec![in alloc; put, get]?;
+    assert_eq!(rt; bench.calls.as_slice(), expected.as_slice());
+    let value = Value::Put(PutValue { name: name(1), bytes: bytes(alloc)? });
+    let vote = Vote { ballot: Ballot::fast(), value };
+    let column = Column::Open { promise: Ballot::fast(), vote: Some(vote) };
+    let columns = vec![in alloc; (Version(1), column)]?;
+    let key = key(alloc)?;
+    for (at, site) in bench.sites.iter_mut().enumerate() {
+        match site.read_row(alloc, &key) {
+            Ok(RowRead::Row { row, .. }) => {
+                assert!(rt; at < 3);
+                assert_eq!(rt; row.columns(), columns.as_slice());
+            }
+            _ => assert!(rt; at >= 3),
+        }
+    }
+    Ok(())
+}
+
+#[test]
+fn a_real_file(rt: HostRuntime) -> Result<(), Fail> {
+    let alloc = rt.alloc();
+    let folder = env::temp_dir(&rt)?;
+    let folder = folder.as_path().to_str().ok_or("a folder")?;
+    let path = format!(in alloc; "{folder}/giza-shelf-test")?;
+    fs::write(&rt, path.as_str(), "four")?;
+    let mut shelf = FileShelf::new(&rt);
+    assert_eq!(rt; shelf.read(alloc, path.as_str(), 4).ok().ok_or("four bytes")?.as_slice(), b"four".as_slice());
+    assert_eq!(rt; shelf.read(alloc, path.as_str(), 3).err(), Some(ShelfError::TooLarge));
+    fs::remove_file(&rt, path.as_str())?;
+    assert_eq!(rt; shelf.read(alloc, path.as_str(), 4).err(), Some(ShelfError::NoSuch));
+    assert_eq!(rt; shelf.read(alloc, folder, 4).err(), Some(ShelfError::Failed));
+    Ok(())
+}
+
+#[test]
+fn standard_output(rt: HostRuntime) -> Result<(), Fail> {
+    let mut out = StdSink::new(&rt);
+    assert_eq!(rt; out.write(b"out\n"), Ok(4));
+    assert_eq!(rt; out.write(b""), Ok(0));
+    assert_eq!(rt; out.flush(), Ok(()));
+    Ok(())
+}
