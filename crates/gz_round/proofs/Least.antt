@@ -10,7 +10,7 @@ use Rattle.gz_round.specs.declared.run.Mark.{Mark}
 use Rattle.gz_round.specs.declared.run.Run.{Run}
 use Rattle.gz_round.specs.History.{Asked, Moment}
 use Rattle.gz_round.specs.Sites.{site_now}
-use Rattle.gz_round.specs.Standing.{Knows, mark_of, awaited_of}
+use Rattle.gz_round.specs.Standing.{Knows, AreSound, mark_of, awaited_of}
 use Rattle.gz_round.specs.Numbering.{AreNumbered, awaits_number, live_where, IsLiveAt}
 use Rattle.gz_round.specs.Awaiting.{awaited_number, number_of, lower_than, lower_of, IsLeastBelow, IsLeastFrom}
 use Rattle.gz_round.proofs.Lists.{count_same}
@@ -153,6 +153,9 @@ pub live_none : (c : Config) (ms : List Moment) → live_where c (λ m. nat_lt m
 live_none c ms = count_same c.n (λ s. awaits_number (λ m. nat_lt m 0) (site_now ms s).awaits) (λ s. false) (λ (s : ℕ) (l : s < c.n). none_low (site_now ms s).awaits) ∙ count_false c.n
 
 -- the least number from one on, below which i numbers stand, is the i-th
-pub live_from : (c : Config) (run : Run) (ms : List Moment) (low i : ℕ) (o : Option ℕ) → Knows c run ms → IsLeastFrom run.marks low o → live_where c (λ m. nat_lt m low) ms ≡ i → IsLiveAt c ms i o
-live_from c run ms low i None k h e = let below = all_below c run ms low k h in omega arith
-live_from c run ms low i (Some n) k h e = let w = mark_awaits c run ms h.0.0 n h.0.1 k h.0.2 h.0.3 in ((h.0.0, w.0, w.1, w.2, w.3), none_between c run ms low n k h ∙ e)
+pub live_from : (c : Config) (run : Run) (ms : List Moment) (low i : ℕ) (o : Option ℕ) → Knows c run ms → AreSound ms → IsLeastFrom run.marks low o → live_where c (λ m. nat_lt m low) ms ≡ i → IsLiveAt c ms i o
+live_from c run ms low i None k sound h e = let below = all_below c run ms low k h in omega arith
+live_from c run ms low i (Some n) k sound h e =
+    let w = mark_awaits c run ms h.0.0 n h.0.1 k h.0.2 h.0.3 in
+    let here : w.0.site ≡ h.0.0 = ((sound h.0.0).inside w.0 w.2).1 in
+    ((w.0, subst (λ (s : ℕ). s < c.n) (sym here) w.1, subst (λ (s : ℕ). (site_now ms s).awaits ≡ Some w.0) (sym here) w.2, w.3), none_between c run ms low n k h ∙ e)

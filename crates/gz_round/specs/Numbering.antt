@@ -22,4 +22,4 @@ live_where c p ms = count_sites c.n (λ s. awaits_number p (site_now ms s).await
 -- the i-th lowest number of those that are awaited, none where there are no more
 abbrev pub IsLiveAt : Config → List Moment → ℕ → Option ℕ → Type 0
 IsLiveAt c ms i None = live_where c (λ m. true) ms ≤ i
-IsLiveAt c ms i (Some n) = ((s : ℕ) × (a : Asked) × (s < c.n) × ((site_now ms s).awaits ≡ Some a) × (a.number ≡ n)) × (live_where c (λ m. nat_lt m n) ms ≡ i)
+IsLiveAt c ms i (Some n) = ((a : Asked) × (a.site < c.n) × ((site_now ms a.site).awaits ≡ Some a) × (a.number ≡ n)) × (live_where c (λ m. nat_lt m n) ms ≡ i)

@@ -40,6 +40,9 @@ pub record IsSound (now : SiteNow) (s : ℕ) : Type 0 where
   pub inside : (a : Asked) → now.awaits ≡ Some a → (now.out ≡ false) × (a.site ≡ s) × (a.awaited ≡ true)
   pub answered : now.unanswered ≡ is_some now.awaits
 
+abbrev pub AreSound : List Moment → Type 0
+AreSound ms = (s : ℕ) → IsSound (site_now ms s) s
+
 -- the call keeps what has happened to it, and each moment of it was allowed
 pub record Stands (c : Config) (w : Caller) (past : List Tale) (run : Run) (ms : List Moment) : Type 0 where
   pub name_is : run.name ≡ w.name
@@ -49,7 +52,7 @@ pub record Stands (c : Config) (w : Caller) (past : List Tale) (run : Run) (ms :
   pub met_is : run.met ≡ met ms
   pub voted_is : run.voted ≡ voted w.name ms
   pub wrote_is : run.wrote ≡ phase_of ms
-  pub sites : (s : ℕ) → IsSound (site_now ms s) s
+  pub sites : AreSound ms
   pub allowed : AreAllowed c w past ms
 
 -- the phase has what its step wants

@@ -2,7 +2,7 @@
 ghost use Rattle.std.specs.Prelude.{◌≡◌, ℕ, List, Some, count_by, MatchOption};
 ghost use Rattle.gz_core.specs.declared.configuration.Config.{Config};
 ghost use Rattle.gz_round.specs.History.{Moment};
-ghost use Rattle.gz_round.specs.Standing.{Knows};
+ghost use Rattle.gz_round.specs.Standing.{Knows, AreSound};
 ghost use Rattle.gz_round.specs.Numbering.{AreNumbered, IsLiveAt};
 ghost use Rattle.gz_round.specs.Awaiting.{has_number, IsSiteOf, is_live, number_of, lower_of, IsLeastFrom};
 
@@ -31,7 +31,7 @@ impl Run {
 
     /// The `i`-th lowest number of the requests that are awaited, counted from 0. Takes no memory.
     pub fn live_at(&self, i: u32) -> Option<u32>
-        ensures { (c : Config) (ms : List Moment) (next : ℕ) → Knows c self.now ms → AreNumbered c ms next → IsLiveAt c ms i result }
+        ensures { (c : Config) (ms : List Moment) (next : ℕ) → Knows c self.now ms → AreSound ms → AreNumbered c ms next → IsLiveAt c ms i result }
     {
         let mut low: u64 = 0;
         for place in 0..i {
