@@ -1,10 +1,13 @@
 //! The program over a shelf and a sink in memory, and the edge over a real file and standard output.
-ghost use Rattle.std.specs.Prelude.{◌<◌, ◌-◌, ◌^◌, All, IfOk};
+ghost use Rattle.std.specs.Prelude.{◌<◌, ◌≤◌, ◌-◌, ◌^◌, length, All, IfOk};
 
 use crate::bench::Bench;
 use crate::edge::{FileShelf, StdSink};
 use crate::run::run;
-use gz_core::{Answer, Ballot, Call, Column, Items, Key, PutName, PutValue, Session, Value, Version, Vote, Word};
+use gz_core::{
+    Answer, Ballot, Call, Column, Items, Key, PutName, PutValue, Session, Value, Version, Vote,
+    Word,
+};
 use gz_history::CallRec;
 use gz_site::{MemShelf, MemSink, RowRead, Shelf, ShelfError, Sink, Site};
 use std::alloc::{AllocError, Global};
@@ -15,7 +18,8 @@ use std::{env, fs};
 
 const PUT_GET: &str = "session\nput 1 a x:0102\nsettle 1\nget 1 a\nsettle 1\n";
 
-const PUT_GET_LOG: &str = "1.1 put a 0102 2 14 ok 1\n1.2 get a - 15 21 bytes 1 1.1 0102\nend 2 21 0\n";
+const PUT_GET_LOG: &str =
+    "1.1 put a 0102 2 14 ok 1\n1.2 get a - 15 21 bytes 1 1.1 0102\nend 2 21 0\n";
 
 // A list of one call that fails; calls count from 1, so that 0 lists none.
 fn failing(alloc: Global, call: u32) -> Result<Vec<u64>, AllocError>
@@ -41,7 +45,7 @@ fn shelf(alloc: Global, text: &[u8], fails: u32) -> Result<MemShelf, AllocError>
 // How a run ends and what it writes, where `shelf_fails` and `sink_fails` number the calls that fail.
 #[derive(Drop)]
 struct Case<'a> {
-    words: &'a [&'a str],
+    words: &'a str,
     text: &'a [u8],
     shelf_fails: u32,
     sink_fails: u32,
@@ -52,7 +56,7 @@ struct Case<'a> {
 
 fn check(rt: &impl Abort, alloc: Global, case: &Case) -> Result<(), Fail> {
     let mut words = Vec::new(alloc);
-    for text in case.words {
+    for text in case.words.split_whitespace() {
         words.push(word(alloc, text)?)?;
     }
     let mut shelf = shelf(alloc, case.text, case.shelf_fails)?;
@@ -67,7 +71,7 @@ fn check(rt: &impl Abort, alloc: Global, case: &Case) -> Result<(), Fail> {
 
 fn played<'a>(text: &'a str, number: u8, status: &'a str, log: &'a str) -> Case<'a> {
     Case {
-        words: &["replay", "s"],
+        words: "replay s",
         text: text.as_bytes(),
         shelf_fails: 0,
         sink_fails: 0,
@@ -77,19 +81,45 @@ fn played<'a>(text: &'a str, number: u8, status: &'a str, log: &'a str) -> Case<
     }
 }
 
+fn of_no_form(words: &str) -> Case<'_> {
+    Case {
+        words,
+        text: b"",
+        shelf_fails: 0,
+        sink_fails: 0,
+        number: 2,
+        status: "usage",
+        log: "",
+    }
+}
+
 #[test]
 fn each_status_of_a_schedule(rt: HostRuntime) -> Result<(), Fail> {
     for (text, number, status, log) in [
         (PUT_GET, 0, "done", PUT_GET_LOG),
-        ("session\nget 1 a\nsettle 1\n", 0, "done", "1.1 get a - 2 6 absent\nend 1 6 0\n"),
+        (
+            "session\nget 1 a\nsettle 1\n",
+            0,
+            "done",
+            "1.1 get a - 2 6 absent\nend 1 6 0\n",
+        ),
         ("", 0, "done", "end 0 0 0\n"),
         ("# none\n  \r\nsettle 9\nsession", 0, "done", "end 0 1 0\n"),
-        ("session\nsession\nput 2 b x:\nsettle 2\nput 1 b x:Ff\n\nsettle 1\nget 2 b\nsettle 2\n", 0, "done",
-            "2.1 put b - 3 15 ok 1\n1.1 put b ff 16 28 ok 2\n2.2 get b - 29 35 bytes 2 1.1 ff\nend 3 35 0\n"),
+        (
+            "session\nsession\nput 2 b x:\nsettle 2\nput 1 b x:Ff\n\nsettle 1\nget 2 b\nsettle 2\n",
+            0,
+            "done",
+            "2.1 put b - 3 15 ok 1\n1.1 put b ff 16 28 ok 2\n2.2 get b - 29 35 bytes 2 1.1 ff\nend 3 35 0\n",
+        ),
         ("session\ndelete 1 a\n", 7, "line 2: unbuilt", ""),
         ("session\nput 1 a x:01\n", 7, "line 2: unbuilt", ""),
         ("session\npat 1 a\n", 7, "line 2: unbuilt", ""),
-        ("session\nput 2 a x:01\nsettle 2\n", 7, "line 2: unbuilt", ""),
+        (
+            "session\nput 2 a x:01\nsettle 2\n",
+            7,
+            "line 2: unbuilt",
+            "",
+        ),
     ] {
         check(&rt, rt.alloc(), &played(text, number, status, log))?;
     }
@@ -98,30 +128,87 @@ fn each_status_of_a_schedule(rt: HostRuntime) -> Result<(), Fail> {
 
 #[test]
 fn each_status_of_the_words(rt: HostRuntime) -> Result<(), Fail> {
-    let words: [&[&str]; 4] = [&[], &["replay"], &["replay", "-x"], &["play", "s"]];
-    for words in words {
-        check(&rt, rt.alloc(), &Case { words, ..played(PUT_GET, 2, "usage", "") })?;
+    for words in ["", "replay", "replay -x", "play s", "replay s s"] {
+        check(&rt, rt.alloc(), &of_no_form(words))?;
     }
-    check(&rt, rt.alloc(), &Case { words: &["replay", "none"], ..played(PUT_GET, 4, "no file none", "") })?;
+    check(
+        &rt,
+        rt.alloc(),
+        &Case {
+            words: "replay none",
+            ..played(PUT_GET, 4, "no file none", "")
+        },
+    )?;
     let comment = vec![in rt.alloc(); b'#'; 65_537]?;
-    check(&rt, rt.alloc(), &Case { text: comment.as_slice(), ..played("", 5, "file too large s", "") })?;
-    check(&rt, rt.alloc(), &Case { text: &comment[..65_536], ..played("", 0, "done", "end 0 0 0\n") })
+    check(
+        &rt,
+        rt.alloc(),
+        &Case {
+            text: comment.as_slice(),
+            ..played("", 5, "file too large s", "")
+        },
+    )?;
+    check(
+        &rt,
+        rt.alloc(),
+        &Case {
+            text: &comment[..65_536],
+            ..played("", 0, "done", "end 0 0 0\n")
+        },
+    )
 }
 
 #[test]
 fn each_outside_call_fails_in_turn(rt: HostRuntime) -> Result<(), Fail> {
-    check(&rt, rt.alloc(), &Case { shelf_fails: 1, ..played(PUT_GET, 3, "cannot read s", "") })?;
-    check(&rt, rt.alloc(), &Case { shelf_fails: 2, ..played(PUT_GET, 0, "done", PUT_GET_LOG) })?;
-    check(&rt, rt.alloc(), &Case { sink_fails: 1, ..played(PUT_GET, 11, "cannot write", "") })?;
-    check(&rt, rt.alloc(), &Case { sink_fails: 2, ..played(PUT_GET, 11, "cannot write", PUT_GET_LOG) })?;
-    check(&rt, rt.alloc(), &Case { sink_fails: 3, ..played(PUT_GET, 0, "done", PUT_GET_LOG) })
+    check(
+        &rt,
+        rt.alloc(),
+        &Case {
+            shelf_fails: 1,
+            ..played(PUT_GET, 3, "cannot read s", "")
+        },
+    )?;
+    check(
+        &rt,
+        rt.alloc(),
+        &Case {
+            shelf_fails: 2,
+            ..played(PUT_GET, 0, "done", PUT_GET_LOG)
+        },
+    )?;
+    check(
+        &rt,
+        rt.alloc(),
+        &Case {
+            sink_fails: 1,
+            ..played(PUT_GET, 11, "cannot write", "")
+        },
+    )?;
+    check(
+        &rt,
+        rt.alloc(),
+        &Case {
+            sink_fails: 2,
+            ..played(PUT_GET, 11, "cannot write", PUT_GET_LOG)
+        },
+    )?;
+    check(
+        &rt,
+        rt.alloc(),
+        &Case {
+            sink_fails: 3,
+            ..played(PUT_GET, 0, "done", PUT_GET_LOG)
+        },
+    )
 }
 
 fn key(alloc: Global) -> Result<Key, Fail> {
     Ok(Key::new(Vec::from_slice(alloc, b"a")?).ok_or("a key")?)
 }
 
-fn bytes(alloc: Global) -> Result<Items<u8>, AllocError> {
+fn bytes(alloc: Global) -> Result<Items<u8>, AllocError>
+    ensures { IfOk result (λ bytes. length bytes ≤ 2) }
+{
     Items::from_slice(alloc, &[1, 2])
 }
 
@@ -130,6 +217,51 @@ fn name(seq: u32) -> PutName {
         session: Session(1),
         seq: seq.max(1),
     }
+}
+
+fn put_call(alloc: Global) -> Result<CallRec, Fail> {
+    Ok(CallRec {
+        name: name(1),
+        call: Call::Put {
+            key: key(alloc)?,
+            bytes: bytes(alloc)?,
+        },
+        begin: 2,
+        end: Some(14),
+        answer: Some(Answer::Ok {
+            version: Version(1),
+        }),
+    })
+}
+
+fn get_call(alloc: Global) -> Result<CallRec, Fail> {
+    Ok(CallRec {
+        name: name(2),
+        call: Call::Get { key: key(alloc)? },
+        begin: 15,
+        end: Some(21),
+        answer: Some(Answer::Bytes {
+            version: Version(1),
+            name: name(1),
+            bytes: bytes(alloc)?,
+        }),
+    })
+}
+
+// The column of a fast vote for the put.
+fn voted(alloc: Global) -> Result<Column, AllocError> {
+    let value = Value::Put(PutValue {
+        name: name(1),
+        bytes: bytes(alloc)?,
+    });
+    let vote = Vote {
+        ballot: Ballot::fast(),
+        value,
+    };
+    Ok(Column::Open {
+        promise: Ballot::fast(),
+        vote: Some(vote),
+    })
 }
 
 #[test]
@@ -141,26 +273,9 @@ fn a_put_and_a_get_leave_calls_and_rows(rt: HostRuntime) -> Result<(), Fail> {
     let mut bench = Bench::new(alloc)?;
     let status = run(alloc, words.as_slice(), &mut shelf, &mut out, &mut bench);
     assert_eq!(rt; status.number(), 0);
-    let put = CallRec {
-        name: name(1),
-        call: Call::Put { key: key(alloc)?, bytes: bytes(alloc)? },
-        begin: 2,
-        end: Some(14),
-        answer: Some(Answer::Ok { version: Version(1) }),
-    };
-    let get = CallRec {
-        name: name(2),
-        call: Call::Get { key: key(alloc)? },
-        begin: 15,
-        end: Some(21),
-        answer: Some(Answer::Bytes { version: Version(1), name: name(1), bytes: bytes(alloc)? }),
-    };
-    let expected = vec![in alloc; put, get]?;
+    let expected = vec![in alloc; put_call(alloc)?, get_call(alloc)?]?;
     assert_eq!(rt; bench.calls.as_slice(), expected.as_slice());
-    let value = Value::Put(PutValue { name: name(1), bytes: bytes(alloc)? });
-    let vote = Vote { ballot: Ballot::fast(), value };
-    let column = Column::Open { promise: Ballot::fast(), vote: Some(vote) };
-    let columns = vec![in alloc; (Version(1), column)]?;
+    let columns = vec![in alloc; (Version(1), voted(alloc)?)]?;
     let key = key(alloc)?;
     for (at, site) in bench.sites.iter_mut().enumerate() {
         match site.read_row(alloc, &key) {
@@ -182,11 +297,27 @@ fn a_real_file(rt: HostRuntime) -> Result<(), Fail> {
     let path = format!(in alloc; "{folder}/giza-shelf-test")?;
     fs::write(&rt, path.as_str(), "four")?;
     let mut shelf = FileShelf::new(&rt);
-    assert_eq!(rt; shelf.read(alloc, path.as_str(), 4).ok().ok_or("four bytes")?.as_slice(), b"four".as_slice());
-    assert_eq!(rt; shelf.read(alloc, path.as_str(), 3).err(), Some(ShelfError::TooLarge));
+    assert_eq!(rt;
+        shelf
+            .read(alloc, path.as_str(), 4)
+            .ok()
+            .ok_or("four bytes")?
+            .as_slice(),
+        b"four".as_slice()
+    );
+    assert_eq!(rt;
+        shelf.read(alloc, path.as_str(), 3).err(),
+        Some(ShelfError::TooLarge)
+    );
     fs::remove_file(&rt, path.as_str())?;
-    assert_eq!(rt; shelf.read(alloc, path.as_str(), 4).err(), Some(ShelfError::NoSuch));
-    assert_eq!(rt; shelf.read(alloc, folder, 4).err(), Some(ShelfError::Failed));
+    assert_eq!(rt;
+        shelf.read(alloc, path.as_str(), 4).err(),
+        Some(ShelfError::NoSuch)
+    );
+    assert_eq!(rt;
+        shelf.read(alloc, folder, 4).err(),
+        Some(ShelfError::Failed)
+    );
     Ok(())
 }
 
