@@ -6,6 +6,3 @@ mod law;
 
 pub use client::Client;
 pub use law::ends_exactly;
-
-#[cfg(test)]
-mod tests;

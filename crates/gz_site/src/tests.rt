@@ -1,4 +1,6 @@
 //! Sites, shelves and sinks in memory.
+ghost use Rattle.std.specs.Prelude.{◌≡◌, length, IfOk};
+
 use super::*;
 use gz_core::{Etag, Key, Row};
 use std::alloc::{AllocError, Global};
@@ -12,7 +14,7 @@ fn key(alloc: Global) -> Result<Key, Fail> {
     }
 }
 
-/// The tag, the floor and the number of columns that a read shows.
+/// What a read shows: the tag, the floor and the number of columns.
 fn shown(read: RowRead) -> Option<(Etag, u64, usize)> {
     match read {
         RowRead::Row { etag, row } => Some((etag, row.floor().number(), row.columns().len())),
@@ -20,20 +22,42 @@ fn shown(read: RowRead) -> Option<(Etag, u64, usize)> {
     }
 }
 
+fn read(
+    alloc: Global,
+    site: &mut MemSite,
+    key: &Key,
+) -> Result<Option<(Etag, u64, usize)>, SiteFault> {
+    Ok(shown(site.read_row(alloc, key)?))
+}
+
+/// Writes the empty row.
+fn write(
+    alloc: Global,
+    site: &mut MemSite,
+    key: &Key,
+    expect: Option<Etag>,
+) -> Result<RowWrite, SiteFault> {
+    site.write_row_if(alloc, key, expect, &Row::empty(alloc))
+}
+
 #[test]
 fn a_row_is_written_by_its_tag(rt: HostRuntime) -> Result<(), Fail> {
     let alloc = rt.alloc();
     let key = key(alloc)?;
-    let row = Row::empty(alloc);
     let mut site = MemSite::new(alloc, Vec::new(alloc));
-    assert_eq!(rt; shown(site.read_row(alloc, &key)?), None);
-    let first = site.write_row_if(alloc, &key, None, &row)?;
-    assert_eq!(rt; first, RowWrite::Written { etag: Etag(1) });
-    let again = site.write_row_if(alloc, &key, None, &row)?;
-    assert_eq!(rt; again, RowWrite::Changed);
-    assert_eq!(rt; shown(site.read_row(alloc, &key)?), Some((Etag(1), 0, 0)));
-    let second = site.write_row_if(alloc, &key, Some(Etag(1)), &row)?;
-    assert_eq!(rt; second, RowWrite::Written { etag: Etag(2) });
+    assert!(rt; read(alloc, &mut site, &key) == Ok(None));
+    let answers = [
+        write(alloc, &mut site, &key, None),
+        write(alloc, &mut site, &key, None),
+        write(alloc, &mut site, &key, Some(Etag(1))),
+    ];
+    let told = [
+        Ok(RowWrite::Written { etag: Etag(1) }),
+        Ok(RowWrite::Changed),
+        Ok(RowWrite::Written { etag: Etag(2) }),
+    ];
+    assert!(rt; answers == told);
+    assert!(rt; read(alloc, &mut site, &key) == Ok(Some((Etag(2), 0, 0))));
     Ok(())
 }
 
@@ -43,36 +67,47 @@ fn failing_first(alloc: Global, effect: bool) -> Result<MemSite, AllocError> {
     Ok(MemSite::new(alloc, failing))
 }
 
+/// A write that fails, and the read after it.
+fn after_failure(alloc: Global, effect: bool) -> Result<Option<(Etag, u64, usize)>, Fail> {
+    let key = key(alloc)?;
+    let mut site = failing_first(alloc, effect)?;
+    if write(alloc, &mut site, &key, None) != Err(SiteFault::Failed) {
+        return Err(Fail::from("not failed"));
+    }
+    Ok(read(alloc, &mut site, &key)?)
+}
+
 #[test]
 fn a_failed_write_has_its_effect_or_none(rt: HostRuntime) -> Result<(), Fail> {
-    let alloc = rt.alloc();
-    let key = key(alloc)?;
-    let row = Row::empty(alloc);
-    for (effect, stored) in [(false, None), (true, Some((Etag(1), 0, 0)))] {
-        let mut site = failing_first(alloc, effect)?;
-        let written = site.write_row_if(alloc, &key, None, &row);
-        assert_eq!(rt; written, Err(SiteFault::Failed));
-        assert_eq!(rt; shown(site.read_row(alloc, &key)?), stored);
-    }
+    let without = after_failure(rt.alloc(), false)?;
+    let with = after_failure(rt.alloc(), true)?;
+    assert!(rt; without == None && with == Some((Etag(1), 0, 0)));
     Ok(())
+}
+
+fn two_sites(alloc: Global) -> Result<Vec<MemSite>, AllocError>
+    ensures { IfOk result (λ sites. length sites.items ≡ 2) }
+{
+    let mut sites = Vec::new(alloc);
+    sites.push(MemSite::new(alloc, Vec::new(alloc)))?;
+    sites.push(MemSite::new(alloc, Vec::new(alloc)))?;
+    Ok(sites)
+}
+
+/// A write at the second of two sites, and what each shows then.
+fn after_write_at(alloc: Global) -> Result<[Option<(Etag, u64, usize)>; 2], Fail> {
+    let key = key(alloc)?;
+    let mut sites = two_sites(alloc)?;
+    write_at(alloc, &mut sites, 1, &key, None, &Row::empty(alloc))?;
+    let first = read_at(alloc, &mut sites, 0, &key)?;
+    let second = read_at(alloc, &mut sites, 1, &key)?;
+    Ok([shown(first), shown(second)])
 }
 
 #[test]
 fn sites_by_their_places(rt: HostRuntime) -> Result<(), Fail> {
-    let alloc = rt.alloc();
-    let key = key(alloc)?;
-    let row = Row::empty(alloc);
-    let mut sites = Vec::new(alloc);
-    sites.push(MemSite::new(alloc, Vec::new(alloc)))?;
-    sites.push(MemSite::new(alloc, Vec::new(alloc)))?;
-    assert_eq!(rt; sites.len(), 2);
-    let written = write_at(alloc, &mut sites, 1, &key, None, &row)?;
-    assert_eq!(rt; written, RowWrite::Written { etag: Etag(1) });
-    assert_eq!(rt; shown(read_at(alloc, &mut sites, 0, &key)?), None);
-    assert_eq!(rt;
-        shown(read_at(alloc, &mut sites, 1, &key)?),
-        Some((Etag(1), 0, 0))
-    );
+    let reads = after_write_at(rt.alloc())?;
+    assert!(rt; reads == [None, Some((Etag(1), 0, 0))]);
     Ok(())
 }
 
