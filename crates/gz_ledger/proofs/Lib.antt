@@ -4,6 +4,7 @@ pub mod Guarded
 pub mod Kept
 pub mod More
 pub mod OnePut
+pub mod OneRecovery
 pub mod Orders
 pub mod Rows
 pub mod Shown

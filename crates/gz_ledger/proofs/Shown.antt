@@ -5,7 +5,7 @@ use Rattle.gz_core.specs.Names.{Name, BallotAt}
 use Rattle.gz_core.specs.declared.configuration.Config.{Config}
 use Rattle.gz_core.proofs.Counting.{count_weaker}
 use Rattle.gz_ledger.specs.Acceptors.{slot_votes, slot_voted}
-use Rattle.gz_ledger.specs.Histories.{IsIn, Seen, cast, cast_in, IsChosenAt, IsShown, IsVotedAt}
+use Rattle.gz_ledger.specs.Histories.{IsIn, Seen, cast, cast_in, IsChosenAt, IsShown, IsVotedAt, IsCurrent}
 use Rattle.gz_ledger.proofs.SlotTests.{IsVote, votes_means, votes_from, voted_means, voted_from}
 
 -- each element of a list is one of another
@@ -77,3 +77,8 @@ shown_more cfg seen more v x i (inr h) = inr (record { entry = h.entry; found = 
 
 pub voted_more : (seen more : List Seen) (v : ℕ) (x : Name) → Includes seen more → IsVotedAt seen v x → IsVotedAt more v x
 voted_more seen more v x i h = record { entry = h.entry; found = i h.entry h.found; promise = h.promise; ballot = h.ballot; votes = h.votes }
+
+-- rows that are current are so among more rows
+pub current_more : (cfg : Config) (seen more : List Seen) (v : ℕ) → Includes seen more → IsCurrent cfg seen v → IsCurrent cfg more v
+current_more cfg seen more v i c =
+    record { rows = c.rows; sites = c.sites; enough = c.enough; found = λ (e : Seen) (j : IsIn e c.rows). i e (c.found e j); quiet = c.quiet }

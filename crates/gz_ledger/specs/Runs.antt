@@ -1,11 +1,11 @@
 -- Runs that the guards allow.
 use Rattle.std.specs.Prelude.{ℕ, List, [], ◌∷◌, Some, None}
-use Rattle.gz_core.specs.Names.{Name, fast}
-use Rattle.gz_core.specs.Slots.{OpenAt, VotesFast, with_slot}
+use Rattle.gz_core.specs.Names.{Name, BallotAt, fast}
+use Rattle.gz_core.specs.Slots.{Slot, OpenAt, DecidedAs, VotesFast, Promises, VotesClassic, Decides, with_slot}
 use Rattle.gz_core.specs.declared.configuration.Config.{Config}
 use Rattle.gz_core.specs.declared.configuration.Order.TheVariants.{Parallel}
-use Rattle.gz_ledger.specs.Acceptors.{new_acceptor}
-use Rattle.gz_ledger.specs.Histories.{IsShown}
+use Rattle.gz_ledger.specs.Acceptors.{Acceptor, new_acceptor}
+use Rattle.gz_ledger.specs.Histories.{Seen, IsShown}
 use Rattle.gz_ledger.specs.Deeds.{Asked, Deed, Reads, Begins, Written, AreDeeds, seen_after}
 
 -- three sites, of which one may be lost
@@ -28,3 +28,61 @@ one_put x =
 -- the put of any name may do so, and its value is then shown at version 1
 abbrev pub OnePutRuns : Type 0
 OnePutRuns = (x : Name) → AreDeeds three_sites (λ s. 0) (one_put x) × IsShown three_sites (seen_after (λ s. 0) (one_put x)) 1 x
+
+-- the first classic ballot of the first session
+abbrev pub first_ballot : BallotAt
+first_ballot = record { round = 1; session = 1 }
+
+-- a row with this state of version 1
+abbrev pub row_with : Slot → Acceptor
+row_with slot = with_slot new_acceptor 1 slot
+
+-- a promise of the ballot at version 1 of a new object
+abbrev pub first_promise : Name → ℕ → Asked
+first_promise y s = record {
+  expect = None;
+  write = record { call = y; site = s; before = new_acceptor; act = Promises 1 first_ballot; after = row_with (OpenAt first_ballot None) };
+}
+
+-- a vote in it for the call's own value
+abbrev pub ballot_vote : Name → ℕ → Asked
+ballot_vote y s = record {
+  expect = Some 1;
+  write = record {
+    call = y;
+    site = s;
+    before = row_with (OpenAt first_ballot None);
+    act = VotesClassic 1 first_ballot y;
+    after = with_slot (row_with (OpenAt first_ballot None)) 1 (OpenAt first_ballot (Some (first_ballot, y)));
+  };
+}
+
+-- the decision
+abbrev pub ballot_decision : Name → ℕ → Asked
+ballot_decision y s = record {
+  expect = Some 2;
+  write = record {
+    call = y;
+    site = s;
+    before = (ballot_vote y s).write.after;
+    act = Decides 1 y;
+    after = with_slot (ballot_vote y s).write.after 1 (DecidedAs y);
+  };
+}
+
+-- the row that a write made at its site
+abbrev pub made_by : Asked → Seen
+made_by a = record { site = a.write.site; row = a.write.after }
+
+-- a put votes at one site and goes no further; another one promises a classic ballot at the two other sites, votes
+-- in it for its own value, and tells one site of the decision; the newest deed first
+abbrev pub one_recovery : Name → Name → List Deed
+one_recovery x y =
+    Written (ballot_decision y 1) 3 ∷ Begins (made_by (ballot_vote y 1) ∷ made_by (ballot_vote y 2) ∷ []) (ballot_decision y 1) ∷ Written (ballot_vote y 2) 2 ∷ Written (ballot_vote y 1) 2
+    ∷ Begins (made_by (first_promise y 1) ∷ made_by (first_promise y 2) ∷ []) (ballot_vote y 2) ∷ Begins (made_by (first_promise y 1) ∷ made_by (first_promise y 2) ∷ []) (ballot_vote y 1)
+    ∷ Written (first_promise y 2) 1 ∷ Written (first_promise y 1) 1 ∷ Begins [] (first_promise y 2) ∷ Begins [] (first_promise y 1) ∷ Written (first_vote x 0) 1 ∷ Begins [] (first_vote x 0)
+    ∷ Reads 2 ∷ Reads 1 ∷ Reads 0 ∷ []
+
+-- they may do so, and the value of the second put is then shown at version 1
+abbrev pub OneRecoveryRuns : Type 0
+OneRecoveryRuns = (x y : Name) → AreDeeds three_sites (λ s. 0) (one_recovery x y) × IsShown three_sites (seen_after (λ s. 0) (one_recovery x y)) 1 y

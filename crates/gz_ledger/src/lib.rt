@@ -5,7 +5,7 @@
 
 ghost use Rattle.gz_ledger.specs.Agreements.{Agreement, LatestIsCurrent, OwnIsAbove};
 ghost use Rattle.gz_ledger.specs.Guards.{MayMore};
-ghost use Rattle.gz_ledger.specs.Runs.{OnePutRuns};
+ghost use Rattle.gz_ledger.specs.Runs.{OnePutRuns, OneRecoveryRuns};
 ghost use Rattle.gz_ledger.specs.Deeds.{DeedsAreMoves, TagsNameRows, StoreAgreement, LatestRowsAreCurrent, OwnRowsAreAbove};
 
 /// In every run of the machine: each vote of a classic ballot is safe, one value is shown at a version and at one
@@ -39,4 +39,10 @@ pub fn store_agreement()
 /// The guards can be met: a put reads three sites and writes its fast vote at each, and its value is shown.
 pub fn one_put_runs()
     ensures { OnePutRuns }
+{}
+
+/// The guards of a classic ballot can be met: a put goes no further than one fast vote, and another one promises a
+/// ballot, has its own value chosen in it and sends the decision.
+pub fn one_recovery_runs()
+    ensures { OneRecoveryRuns }
 {}
