@@ -143,8 +143,8 @@ mod tests {
     #[test]
     fn both_bodies_agree(rt: HostRuntime) -> Result<(), Fail> {
         let object = sample(rt.alloc(), 1400)?;
-        for k in 1..21 {
-            for width in 0..71 {
+        for k in 1..21usize {
+            for width in 0..71usize {
                 let len = (k * width).saturating_sub(k / 2);
                 let bytes = object.get(..len).ok_or("too few bytes")?;
                 let pieces = split(rt.alloc(), k, 20 - k, bytes)?;

@@ -1,5 +1,5 @@
 -- The products of 16 bytes with a coefficient, by its tables.
-use Rattle.std.proofs.Common.{◌≡◌, ℕ, suc, ◌+◌, ◌*◌, ◌/◌, ◌%◌, ◌-◌, inl, inr, ◌<◌, ◌≤◌, List, [], ◌∷◌, ◌++◌, Vec, map, length, get_or, slice_index, sym, ◌∙◌, ap, subst, arith, add-one, bit_xor}
+use Rattle.std.proofs.Common.{◌≡◌, ℕ, ◌+◌, ◌*◌, ◌/◌, ◌%◌, ◌-◌, inl, inr, ◌<◌, ◌≤◌, List, [], ◌∷◌, ◌++◌, Vec, map, length, get_or, slice_index, sym, ◌∙◌, ap, subst, arith, add-one, bit_xor}
 use Rattle.std.specs.declared.alloc.Global.{Global}
 use Rattle.std.proofs.lemmas.List.{map_push, get_or_default}
 use Rattle.std.proofs.lemmas.Bool.{cases_lt}
@@ -46,10 +46,10 @@ module _ (coefficients tables : List ℕ) (n j : ℕ) (sources : List (List ℕ)
         let c = slice_index coefficients j in
         let b = column sources (at + k) j in
         let whole : slice_index both k ≡ product c b =
-            B.each k l
-            ∙ ap (λ x. bit_xor x (slice_index of_high k)) (of_low_is low low_table of_low L M F k l)
-            ∙ ap (bit_xor (product c (b % 16))) (of_high_is high high_table of_high H small N G k l)
-            ∙ sym (product_by_halves c b) in
+        B.each k l
+        ∙ ap (λ x. bit_xor x (slice_index of_high k)) (of_low_is low low_table of_low L M F k l)
+        ∙ ap (bit_xor (product c (b % 16))) (of_high_is high high_table of_high H small N G k l)
+        ∙ sym (product_by_halves c b) in
         lane_more j (slice_index coefficients) (column sources (at + k)) (slice_index so_far k) (slice_index result k) (S.each k l) (R.each k l ∙ ap (bit_xor (slice_index so_far k)) whole);
   }
 
@@ -60,10 +60,10 @@ stored_more coefficients sources v old new at done S sums reached before place l
     elim (cases_lt place at) [
       | inl early ↦ S.below place early ∙ before place (omega arith)
       | inr late ↦
-        let lane : place - at < 16 = omega arith in
-        let back : at + (place - at) ≡ place = omega arith in
-        let P : ℕ → Type 0 = λ p. slice_index new p ≡ combination (length coefficients) (slice_index coefficients) (column sources p) in
-        subst P back (S.inside (place - at) lane ∙ sums.each (place - at) lane)
+          let lane : place - at < 16 = omega arith in
+          let back : at + (place - at) ≡ place = omega arith in
+          let P : ℕ → Type 0 = λ p. slice_index new p ≡ combination (length coefficients) (slice_index coefficients) (column sources p) in
+          subst P back (S.inside (place - at) lane ∙ sums.each (place - at) lane)
     ]
 
 -- one more piece, of the next row
@@ -77,7 +77,7 @@ pieces_more rows sources width n next pieces new piece row A within is P pushed 
     let same : row ≡ get_or rows n [] = is ∙ get_or_default rows n row [] within in
     let N : ℕ → Type 0 = λ n. AreCombined rows sources width n (map {B = List ℕ} (λ (p : Vec ℕ Global). p.items) new) in
     subst N (sym step) (subst Q (sym grown ∙ ap (map {B = List ℕ} (λ (p : Vec ℕ Global). p.items)) (sym pushed))
-      (record {
-        count = length_pushed bytes piece.items n A.count;
-        pieces_are = each_pushed (λ t y. IsPiece (get_or rows t []) sources width y) bytes piece.items [] n A.count A.pieces_are (subst R same P);
-      }))
+    (record {
+      count = length_pushed bytes piece.items n A.count;
+      pieces_are = each_pushed (λ t y. IsPiece (get_or rows t []) sources width y) bytes piece.items [] n A.count A.pieces_are (subst R same P);
+    }))

@@ -2,10 +2,9 @@
 ghost use Rattle.std.specs.Prelude.{◌≡◌, IfOk, length};
 ghost use Rattle.gz_lanes.specs.Lanes.{AreTables};
 
+use gz_field::{products_with_high, products_with_low};
 use std::alloc::{AllocError, Global};
 use std::marker::Model;
-
-use gz_field::{products_with_high, products_with_low};
 
 /// A row of coefficients, one for each source, with 32 bytes of tables for each. A contract sees the coefficients.
 #[derive(Drop)]

@@ -4,12 +4,11 @@ ghost use Rattle.gz_lanes.specs.Combination.{combination, column, contents, IsCo
 ghost use Rattle.std.specs.Prelude.{◌*◌, ◌^◌, map, IfOk};
 ghost use Rattle.gz_lanes.specs.Lanes.{HasLanes};
 
-use std::alloc::{AllocError, Global};
-use std::simd::prelude::*;
-
 use crate::lanes::{high_halves, load, look_up, low_halves, store, sum, zeros};
 use crate::plain;
 use crate::rows::Row;
+use std::alloc::{AllocError, Global};
+use std::simd::prelude::*;
 
 /// Adds the products of the row's coefficient j with 16 bytes, which are given by their halves: those of source j from `at`
 /// on. `sources` and `at` are for the contract alone.
@@ -50,7 +49,15 @@ fn add_source(
     requires so_far_is { HasLanes so_far (λ k. combination j (slice_index row.now) (column (contents sources.now) (at + k))) }
     ensures { HasLanes result (λ k. combination (j + 1) (slice_index row.now) (column (contents sources.now) (at + k))) }
 {
-    add_products(row, j, low_halves(bytes), high_halves(bytes), so_far, sources, at)
+    add_products(
+        row,
+        j,
+        low_halves(bytes),
+        high_halves(bytes),
+        so_far,
+        sources,
+        at,
+    )
 }
 
 /// The sums of one row over all sources, at the 16 places from `at` on.
@@ -190,7 +197,12 @@ fn combine_four(
 }
 
 /// A piece of the width that holds the combinations of one row.
-fn combined(alloc: Global, row: &Row, sources: &[&[u8]], width: usize) -> Result<Vec<u8>, AllocError>
+fn combined(
+    alloc: Global,
+    row: &Row,
+    sources: &[&[u8]],
+    width: usize,
+) -> Result<Vec<u8>, AllocError>
     requires paired { length row.now ≡ length sources.now }
     requires widths { All (λ source. length source ≡ width) (contents sources.now) }
     ensures { IfOk result (λ piece. IsPiece row.now (contents sources.now) width piece.items) }

@@ -1,4 +1,4 @@
-use Rattle.std.proofs.Common.{List, ℕ, length, sym, ap, ◌∙◌, subst}
+use Rattle.std.proofs.Common.{List, ℕ, length, subst}
 use Rattle.gz_lanes.specs.Combination.{contents, AreCombined}
 use Rattle.gz_code.specs.Interpolation.{rows}
 use Rattle.gz_code.proofs.Weights.{all_values_are}
@@ -13,4 +13,4 @@ returns-in_ok-pieces-in-Vector c =
     let N : ℕ → Type 0 = λ n. AreCombined weights.items sources c.args.width n pieces in
     let R = c.in_ok-rows-in-Vector.ensures in
     all_values_are c.args.points.now c.args.targets.now sources weights.items pieces c.args.width (length c.args.targets.now) R
-      (subst N R.count (subst P c.deref.ensures.value c.in_ok-pieces-in-Vector.ensures))
+    (subst N R.count (subst P c.deref.ensures.value c.in_ok-pieces-in-Vector.ensures))

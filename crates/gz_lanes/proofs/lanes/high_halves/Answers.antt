@@ -1,4 +1,4 @@
-use Rattle.std.proofs.Common.{get_or, ◌∙◌, ◌/◌, ◌^◌, ◌<◌, sym, subst, ℕ}
+use Rattle.std.proofs.Common.{◌/◌, ◌^◌, ◌<◌, sym, subst, ℕ}
 use Rattle.gz_lanes.proofs.Vectors.{splatted, upper_half-lt}
 use Rattle.gz_lanes.proofs.lanes.high_halves.Goals as goal
 
