@@ -1,6 +1,7 @@
 //! The row of an object at a site: one column for each version, an acceptor's state of one instance of Fast Paxos.
 ghost use Rattle.std.specs.Prelude.{◌≡◌, IfOk};
-ghost use Rattle.gz_core.specs.Rows.{IsRow, empty_row};
+ghost use Rattle.std.specs.Option.{option_copied};
+ghost use Rattle.gz_core.specs.Rows.{IsRow, empty_row, column_in};
 
 use crate::lists::Items;
 use crate::names::{Ballot, Version};
@@ -85,4 +86,24 @@ impl Row {
     {
         self.columns.as_slice()
     }
+
+    /// The column of a version, where it has one.
+    pub fn column(&self, version: Version) -> Option<&Column>
+        ensures same { option_copied result ≡ column_in self.now.columns version }
+        ensures row { IsRow self.now }
+    {
+        column_of(self.columns.as_slice(), version)
+    }
+}
+
+/// The column of a version among these, where it has one.
+fn column_of(columns: &[(Version, Column)], version: Version) -> Option<&Column>
+    ensures { option_copied result ≡ column_in columns.now version }
+{
+    for (at, column) in columns {
+        if *at == version {
+            return Some(column);
+        }
+    }
+    None
 }

@@ -1,0 +1,6 @@
+mod Ballots
+mod Forward
+mod Making
+mod Placing
+mod Rising
+mod Seen

@@ -1,0 +1,15 @@
+pub mod Follows
+pub mod Grown
+pub mod Guarded
+pub mod Kept
+pub mod More
+pub mod OnePut
+pub mod Orders
+pub mod Rows
+pub mod Shown
+pub mod SlotTests
+pub mod Sound
+pub mod SoundVotes
+pub mod Stances
+pub mod Stores
+pub mod Tags

@@ -1,0 +1,5 @@
+pub mod Choices
+pub mod Entries
+pub mod LeastNames
+pub mod LeastSites
+pub mod Tops

@@ -1,0 +1,99 @@
+//! The votes that were cast, as an audit keeps them, and the values that they choose.
+ghost use Rattle.std.specs.Prelude.{◌≡◌, ◌<◌, ◌≤◌, length, ℕ};
+ghost use Rattle.gz_core.specs.Configurations.{IsConfig, need};
+ghost use Rattle.gz_core.specs.Counts.{count_sites};
+ghost use Rattle.gz_model.specs.Casts.{is_at, is_vote, has_cast, has_enough, is_before_name, IsChosen, IsLeastName};
+
+use gz_core::{Ballot, Config, Key, PutName, SiteId, Version};
+
+/// A vote that a site cast: for the value of this name, in this ballot, at this version of the object of this key.
+#[derive(Clone, Debug, PartialEq, Eq, Drop)]
+pub struct Cast {
+    pub site: SiteId,
+    pub key: Key,
+    pub version: Version,
+    pub ballot: Ballot,
+    pub name: PutName,
+}
+
+/// The value that is chosen at this version of the object: the least name, by session and then by number, for
+/// which in some ballot a fast or a classic quorum of the sites has cast votes. An audit: it takes no memory,
+/// and a time that grows with the square of the number of casts, times the number of sites.
+pub fn chosen(cfg: &Config, casts: &[Cast], key: &Key, v: Version) -> Option<PutName>
+    requires { IsConfig cfg.now }
+    ensures { IsLeastName (IsChosen cfg.now casts.now key.now v) result }
+{
+    let mut least: Option<PutName> = None;
+    for cast in casts {
+        if cast.is_at(key, v) && is_before(cast.name, &least) && is_chosen(cfg, casts, cast) {
+            least = Some(cast.name);
+        }
+    }
+    least
+}
+
+impl Cast {
+    // Whether the vote was cast at this version of the object.
+    fn is_at(&self, key: &Key, v: Version) -> bool
+        ensures { result ≡ is_at self.now key.now v }
+    {
+        self.version == v && self.key == *key
+    }
+
+    // Whether the other cast is this vote, by whatever site.
+    fn is_vote(&self, other: &Cast) -> bool
+        ensures { result ≡ is_vote self.now other.now.key other.now.version other.now.ballot other.now.name }
+    {
+        self.is_at(&other.key, other.version)
+            && self.ballot == other.ballot
+            && self.name == other.name
+    }
+}
+
+// Whether a quorum has cast this vote.
+fn is_chosen(cfg: &Config, casts: &[Cast], cast: &Cast) -> bool
+    requires { IsConfig cfg.now }
+    ensures { result ≡ has_enough cfg.now casts.now cast.now.key cast.now.version cast.now.ballot cast.now.name }
+{
+    let need = if cast.ballot.is_fast() {
+        cfg.qf
+    } else {
+        cfg.qc
+    };
+    need <= votes_of(cfg.n, casts, cast)
+}
+
+// How many sites have cast this vote.
+fn votes_of(sites: u16, casts: &[Cast], cast: &Cast) -> u16
+    ensures { result ≡ count_sites sites (has_cast casts.now cast.now.key cast.now.version cast.now.ballot cast.now.name) }
+{
+    let mut votes = 0;
+    for site in 0..sites {
+        if has_voted(casts, cast, site) {
+            votes += 1;
+        }
+    }
+    votes
+}
+
+// Whether a site has cast this vote.
+fn has_voted(casts: &[Cast], cast: &Cast, site: u16) -> bool
+    ensures { result ≡ has_cast casts.now cast.now.key cast.now.version cast.now.ballot cast.now.name site }
+{
+    for other in casts {
+        if other.site.index() == site as usize && other.is_vote(cast) {
+            return true;
+        }
+    }
+    false
+}
+
+// Whether a name stands before the least one so far.
+fn is_before(name: PutName, least: &Option<PutName>) -> bool
+    ensures { result ≡ is_before_name name least.now }
+{
+    match least {
+        Some(other) => name < *other,
+        None => true,
+    }
+}

@@ -1,0 +1,3 @@
+pub mod Choices
+pub mod Evidences
+pub mod Looks
