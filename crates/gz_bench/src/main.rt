@@ -4,22 +4,62 @@
 
 mod work;
 
+ghost use Rattle.std.specs.Prelude.{◌+◌, ◌≤◌};
+
 use anyhow::{Result, bail, ensure};
-use std::alloc::Global;
+use gz_code::{join, split, split_plainly};
 use std::env;
 use std::time::Instant;
-use work::{checksum, object_of};
+use work::{checksum, last_pieces, object_of};
 
-/// The time in nanoseconds of the fastest of so many rounds of `split`.
-fn best_split(rt: &HostRuntime, k: usize, m: usize, object: &[u8], rounds: u32) -> Result<u128> {
-    ensure!(k >= 1 && k <= 256 && m <= 256 - k, "no code of {k} + {m}");
-    let mut best = u128::MAX;
-    for _ in 0..rounds {
-        let start = Instant::now(rt)?;
-        let pieces = gz_code::split(rt.alloc(), k, m, object)?;
-        best = best.min(start.elapsed(rt)?.as_nanos());
-        drop(pieces);
+/// A code, and how often it is to run.
+#[derive(Drop)]
+struct Job {
+    k: usize,
+    m: usize,
+    rounds: u32,
+
+    ghost at_least_one: { 1 ≤ k },
+    ghost within_field: { k + m ≤ 256 },
+}
+
+impl Job {
+    fn new(k: usize, m: usize, rounds: u32) -> Result<Job> {
+        ensure!(k >= 1 && k <= 256 && m <= 256 - k, "no code of {k} + {m}");
+        Ok(Job { k, m, rounds })
     }
+}
+
+/// The time in nanoseconds of the fastest round of `split`, or of its plain body.
+fn best_split(rt: &HostRuntime, job: &Job, object: &[u8], plainly: bool) -> Result<u128> {
+    let mut best = u128::MAX;
+    let mut last = Vec::new(rt.alloc());
+    for _ in 0..job.rounds {
+        let start = Instant::now(rt)?;
+        let pieces = if plainly {
+            split_plainly(rt.alloc(), job.k, job.m, object)?
+        } else {
+            split(rt.alloc(), job.k, job.m, object)?
+        };
+        best = best.min(start.elapsed(rt)?.as_nanos());
+        last = pieces;
+    }
+    drop(last);
+    Ok(best)
+}
+
+/// The time in nanoseconds of the fastest round of `join` from the last k pieces.
+fn best_join(rt: &HostRuntime, job: &Job, object: &[u8]) -> Result<u128> {
+    let pieces = last_pieces(rt.alloc(), split(rt.alloc(), job.k, job.m, object)?, job.k)?;
+    let mut best = u128::MAX;
+    let mut last = Vec::new(rt.alloc());
+    for _ in 0..job.rounds {
+        let start = Instant::now(rt)?;
+        let joined = join(rt.alloc(), job.k, job.m, object.len(), &pieces)?;
+        best = best.min(start.elapsed(rt)?.as_nanos());
+        last = joined;
+    }
+    ensure!(last.as_slice() == object, "the object does not come back");
     Ok(best)
 }
 
@@ -27,9 +67,15 @@ fn best_split(rt: &HostRuntime, k: usize, m: usize, object: &[u8], rounds: u32) 
 fn show_sums(rt: &HostRuntime) -> Result<()> {
     for (k, m, len) in [(2, 1, 4096), (12, 4, 4099), (200, 56, 5000)] {
         let object = object_of(rt.alloc(), 1, len)?;
-        let pieces = gz_code::split(rt.alloc(), k, m, &object)?;
+        let pieces = split(rt.alloc(), k, m, &object)?;
         let sum = checksum(&pieces);
         println!(rt; "{k}+{m} {len} {sum}")?;
+        let given = last_pieces(rt.alloc(), pieces, k)?;
+        let joined = join(rt.alloc(), k, m, len, &given)?;
+        ensure!(
+            joined.as_slice() == object.as_slice(),
+            "the object does not come back"
+        );
     }
     Ok(())
 }
@@ -41,9 +87,11 @@ fn run(rt: &HostRuntime, words: &[String]) -> Result<()> {
             let k: usize = k.parse()?;
             let m: usize = m.parse()?;
             let object = object_of(rt.alloc(), 1, len.parse()?)?;
-            let rounds: u32 = rounds.parse()?;
+            let job = Job::new(k, m, rounds.parse()?)?;
             let best = match task.as_str() {
-                "split" => best_split(rt, k, m, &object, rounds)?,
+                "plain" => best_split(rt, &job, &object, true)?,
+                "split" => best_split(rt, &job, &object, false)?,
+                "join" => best_join(rt, &job, &object)?,
                 _ => bail!("no task {task}"),
             };
             println!(rt; "{best}")?;

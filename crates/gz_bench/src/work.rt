@@ -24,3 +24,19 @@ pub fn checksum(pieces: &[Vec<u8>]) -> u64 {
     }
     sum
 }
+
+/// The last `count` of the pieces, with their indices.
+pub fn last_pieces(
+    alloc: Global,
+    pieces: Vec<Vec<u8>>,
+    count: usize,
+) -> Result<Vec<(usize, Vec<u8>)>, AllocError> {
+    let skipped = pieces.len().saturating_sub(count);
+    let mut last = Vec::new(alloc);
+    for (index, piece) in pieces.into_iter().enumerate() {
+        if index >= skipped {
+            last.push((index, piece))?;
+        }
+    }
+    Ok(last)
+}

@@ -6,7 +6,7 @@ use Rattle.std.proofs.lemmas.Bool.{cases_lt}
 use Rattle.std.proofs.lemmas.List.{get_or_append_left, get_or-append_right, length-take-le}
 use Rattle.gz_code.specs.CodeWord.{word_at}
 use Rattle.gz_code.specs.Decoding.{Given, index_at, bytes_given, AreIndices, AreSlices, IsAssembled}
-use Rattle.gz_code.proofs.Pushes.{each_pushed, length_pushed}
+use Rattle.gz_lanes.proofs.Pushes.{each_pushed, length_pushed}
 use Rattle.gz_code.proofs.Seen.{index_of_item, bytes_of_item}
 
 pub indices_more : (given : Given) (n : ℕ) (points new : List ℕ) (item : ℕ × Vec ℕ Global) → AreIndices given n points → n < length given → item ≡ get_or given n item → new ≡ points ++ item.0 ∷ []

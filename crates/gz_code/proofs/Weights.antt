@@ -1,13 +1,13 @@
 -- The weights as the code computes them.
-use Rattle.std.proofs.Common.{◌≡◌, ℕ, zero, suc, ◌<◌, ◌≤◌, List, length, slice_index, bit_xor, refl, sym, ◌∙◌, ap, arith, inl, inr}
+use Rattle.std.proofs.Common.{◌≡◌, ℕ, zero, suc, ◌<◌, ◌≤◌, List, length, slice_index, slice_index_or, [], bit_xor, refl, sym, ◌∙◌, ap, arith, inl, inr}
 use Rattle.std.proofs.lemmas.Nat.{xor_lt}
 use Rattle.std.proofs.lemmas.Bool.{cases_lt, eq-eqb, ne_eqb}
 use Rattle.gz_field.specs.Field.{product}
 use Rattle.gz_field.proofs.Additive.{xor_both}
 use Rattle.gz_field.proofs.Algebra.{product-comm, product-assoc, product-one}
 use Rattle.gz_field.proofs.Inverse.{inverse_unique}
-use Rattle.gz_lanes.specs.Combination.{combination, column, IsCombined}
-use Rattle.gz_code.specs.Interpolation.{apart, AreWeights, AreValues}
+use Rattle.gz_lanes.specs.Combination.{combination, column, IsCombined, AreCombined}
+use Rattle.gz_code.specs.Interpolation.{apart, AreWeights, AreValues, AreRows, AreAllValues}
 use Rattle.gz_code.specs.Polynomial.{ArePoints}
 use Rattle.gz_code.proofs.Interpolation.{weight, base, apart-lt, span-lt, span_nonzero, value_from_points}
 
@@ -90,4 +90,14 @@ values_are points weights piece sources width y W long combined = record {
       ∙ ap (λ n. combination n (slice_index weights) (column sources place)) W.long
       ∙ combination_same (length points) _ _ _ _ (λ j l. refl) (λ j l. sym (passes j l))
       ∙ sym (W.value_is p D);
+}
+
+-- the combinations by weights for each target are the values there
+pub all_values_are : (points targets : List ℕ) (sources weights pieces : List (List ℕ)) (width n : ℕ) → AreRows points targets n weights → AreCombined weights sources width n pieces
+    → AreAllValues points sources width targets n pieces
+all_values_are points targets sources weights pieces width n R C = record {
+  count = C.count;
+  values = λ t l.
+      let piece = C.pieces_are t l in
+      values_are points (slice_index_or weights t []) (slice_index_or pieces t []) sources width (slice_index targets t) (R.each t l) piece.wide piece.combined;
 }

@@ -38,3 +38,8 @@ rows pieces = map (λ piece. piece.items) pieces.items
 pub record AreAllValues (points : List ℕ) (sources : List (List ℕ)) (width : ℕ) (targets : List ℕ) (n : ℕ) (pieces : List (List ℕ)) : Type 0 where
   pub count : length pieces ≡ n
   pub values : (t : ℕ) → t < n → AreValues points sources width (slice_index targets t) (slice_index_or pieces t [])
+
+-- weights for each of the first n targets
+pub record AreRows (points targets : List ℕ) (n : ℕ) (weights : List (List ℕ)) : Type 0 where
+  pub count : length weights ≡ n
+  pub each : (t : ℕ) → t < n → AreWeights points (slice_index_or weights t []) (slice_index targets t)

@@ -6,7 +6,7 @@ ghost use Rattle.gz_code.specs.Decoding.{Given, index_at, IsFirst, IsBeyond, IsR
 
 use crate::encode::slices_of;
 use crate::error::CodeError;
-use crate::interpolate::pieces_at;
+use crate::interpolate::{Kernel, pieces_at};
 use std::alloc::{AllocError, Global};
 
 /// Whether each index is below the number of pieces.
@@ -206,7 +206,7 @@ fn rebuild(
     let order = locate(alloc, k, &mut points)?;
     let (given, lost) = points.split_at(k);
     let sources = slices_given(alloc, k, pieces)?;
-    let recovered = pieces_at(alloc, given, &sources, width, lost)?;
+    let recovered = pieces_at(alloc, Kernel::Vector, given, &sources, width, lost)?;
     let at_hand = slices_at_hand(alloc, k, pieces, &recovered)?;
     assemble(alloc, &order, &at_hand, width, len)
 }

@@ -5,7 +5,7 @@ ghost use Rattle.gz_code.specs.CodeWord.{IsSplit, piece_width};
 ghost use Rattle.gz_code.specs.Interpolation.{rows, AreAllValues};
 ghost use Rattle.gz_code.specs.Encoding.{IsPadded, AreDataPieces, AreNumbers, AreParity};
 
-use crate::interpolate::pieces_at;
+use crate::interpolate::{Kernel, pieces_at};
 use std::alloc::{AllocError, Global};
 
 /// The bytes with zeros after them, up to the width.
@@ -69,6 +69,7 @@ pub(crate) fn slices_of<'a>(
 /// The parity pieces to the data pieces.
 fn parity_pieces(
     alloc: Global,
+    kernel: Kernel,
     m: usize,
     width: usize,
     firsts: &[Vec<u8>],
@@ -80,7 +81,26 @@ fn parity_pieces(
     let points = points_from(alloc, 0, firsts.len())?;
     let targets = points_from(alloc, firsts.len(), m)?;
     let sources = slices_of(alloc, firsts)?;
-    pieces_at(alloc, &points, &sources, width, &targets)
+    pieces_at(alloc, kernel, &points, &sources, width, &targets)
+}
+
+/// The pieces of an object, by either body.
+fn split_by(
+    alloc: Global,
+    kernel: Kernel,
+    k: usize,
+    m: usize,
+    bytes: &[u8],
+) -> Result<Vec<Vec<u8>>, AllocError>
+    requires at_least_one { 1 ≤ k }
+    requires within_field { k + m ≤ 256 }
+    ensures { IfOk result (λ pieces. IsSplit k m bytes.now (rows pieces)) }
+{
+    let width = bytes.len().div_ceil(k);
+    let mut pieces = data_pieces(alloc, k, width, bytes)?;
+    let mut parity = parity_pieces(alloc, kernel, m, width, &pieces)?;
+    pieces.append(&mut parity)?;
+    Ok(pieces)
 }
 
 /// The k + m pieces of an object, of which any k give it back: each has the object's length divided by k, rounded up,
@@ -90,9 +110,19 @@ pub fn split(alloc: Global, k: usize, m: usize, bytes: &[u8]) -> Result<Vec<Vec<
     requires within_field { k + m ≤ 256 }
     ensures { IfOk result (λ pieces. IsSplit k m bytes.now (rows pieces)) }
 {
-    let width = bytes.len().div_ceil(k);
-    let mut pieces = data_pieces(alloc, k, width, bytes)?;
-    let mut parity = parity_pieces(alloc, m, width, &pieces)?;
-    pieces.append(&mut parity)?;
-    Ok(pieces)
+    split_by(alloc, Kernel::Vector, k, m, bytes)
+}
+
+/// The same as `split`, byte by byte with one look-up for each product: the program that `split` is compared with.
+pub fn split_plainly(
+    alloc: Global,
+    k: usize,
+    m: usize,
+    bytes: &[u8],
+) -> Result<Vec<Vec<u8>>, AllocError>
+    requires at_least_one { 1 ≤ k }
+    requires within_field { k + m ≤ 256 }
+    ensures { IfOk result (λ pieces. IsSplit k m bytes.now (rows pieces)) }
+{
+    split_by(alloc, Kernel::Plain, k, m, bytes)
 }

@@ -2,10 +2,11 @@
 ghost use Rattle.std.specs.Prelude.{◌≡◌, ◌≢◌, ℕ, ◌<◌, ◌≤◌, length, slice_index, All, IfOk};
 ghost use Rattle.gz_lanes.specs.Combination.{contents};
 ghost use Rattle.gz_code.specs.Polynomial.{ArePoints};
-ghost use Rattle.gz_code.specs.Interpolation.{apart, HasInverses, AreWeights, AreValues, AreAllValues, rows};
+ghost use Rattle.gz_code.specs.Interpolation.{apart, HasInverses, AreWeights, AreValues, AreAllValues, AreRows, rows};
 
 use gz_field::{add, inv, mul};
 use gz_lanes::plain::combine;
+use gz_lanes::{Row, combine_rows};
 use std::alloc::{AllocError, Global};
 
 /// The product of the differences of `y` from all points but the one at the place that is left out.
@@ -80,8 +81,24 @@ fn piece_at(
     Ok(piece)
 }
 
-/// A piece for each target, from the sources at the points. With no target it does nothing.
-pub(crate) fn pieces_at(
+/// The weights for each target, in rows that multiply by them.
+fn rows_of(alloc: Global, points: &[u8], targets: &[u8]) -> Result<Vec<Row>, AllocError>
+    requires few { length points.now ≤ 256 }
+    requires points { ArePoints (length points.now) (slice_index points.now) }
+    requires elsewhere { (t j : ℕ) → t < length targets.now → j < length points.now → slice_index targets.now t ≢ slice_index points.now j }
+    ensures { IfOk result (λ rows. AreRows points.now targets.now (length targets.now) rows.items) }
+{
+    let inverses = inverses_of(points);
+    let mut rows = Vec::with_capacity(alloc, targets.len())?;
+    for target in targets {
+        let weights = weights_of(alloc, points, &inverses, *target)?;
+        rows.push(Row::new(alloc, weights)?)?;
+    }
+    Ok(rows)
+}
+
+/// A piece for each target, by the plain bodies: the definition's own program, which `pieces_at` is compared with.
+fn plain_pieces_at(
     alloc: Global,
     points: &[u8],
     sources: &[&[u8]],
@@ -95,13 +112,46 @@ pub(crate) fn pieces_at(
     requires widths { All (λ source. length source ≡ width) (contents sources.now) }
     ensures { IfOk result (λ pieces. AreAllValues points.now (contents sources.now) width targets.now (length targets.now) (rows pieces)) }
 {
-    let mut pieces = Vec::new(alloc);
-    if targets.is_empty() {
-        return Ok(pieces);
-    }
+    let mut pieces = Vec::with_capacity(alloc, targets.len())?;
     let inverses = inverses_of(points);
     for target in targets {
         pieces.push(piece_at(alloc, points, &inverses, sources, width, *target)?)?;
     }
     Ok(pieces)
+}
+
+/// The bodies that add and multiply.
+#[derive(Clone, Copy)]
+pub(crate) enum Kernel {
+    Plain,
+    Vector,
+}
+
+/// A piece for each target, from the sources at the points. With no target it does nothing.
+pub(crate) fn pieces_at(
+    alloc: Global,
+    kernel: Kernel,
+    points: &[u8],
+    sources: &[&[u8]],
+    width: usize,
+    targets: &[u8],
+) -> Result<Vec<Vec<u8>>, AllocError>
+    requires few { length points.now ≤ 256 }
+    requires points { ArePoints (length points.now) (slice_index points.now) }
+    requires elsewhere { (t j : ℕ) → t < length targets.now → j < length points.now → slice_index targets.now t ≢ slice_index points.now j }
+    requires paired { length sources.now ≡ length points.now }
+    requires widths { All (λ source. length source ≡ width) (contents sources.now) }
+    ensures { IfOk result (λ pieces. AreAllValues points.now (contents sources.now) width targets.now (length targets.now) (rows pieces)) }
+{
+    if targets.is_empty() {
+        return Ok(Vec::new(alloc));
+    }
+    match kernel {
+        Kernel::Plain => plain_pieces_at(alloc, points, sources, width, targets),
+        Kernel::Vector => {
+            let rows = rows_of(alloc, points, targets)?;
+            let pieces = combine_rows(alloc, &rows, sources, width)?;
+            Ok(pieces)
+        }
+    }
 }

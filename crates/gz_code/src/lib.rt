@@ -10,7 +10,7 @@ mod error;
 mod interpolate;
 
 pub use decode::join;
-pub use encode::split;
+pub use encode::{split, split_plainly};
 pub use error::CodeError;
 
 /// Law: a polynomial of degree below k that is not 0 has fewer than k zeros.
@@ -107,9 +107,20 @@ mod tests {
         Ok(chosen)
     }
 
+    /// Bytes of a linear congruential generator.
+    fn sample(alloc: Global, len: usize) -> Result<Vec<u8>, AllocError> {
+        let mut bytes = Vec::new(alloc);
+        let mut state = 1u32;
+        for _ in 0..len {
+            state = state.wrapping_mul(1_664_525).wrapping_add(1_013_904_223);
+            bytes.push((state >> 24) as u8)?;
+        }
+        Ok(bytes)
+    }
+
     #[test]
     fn any_pieces_give_back(rt: HostRuntime) -> Result<(), Fail> {
-        let object = [1, 0x80, 0xff, 0, 7, 0x53, 0xca, 0x1d, 2, 99, 200];
+        let object = sample(rt.alloc(), 103)?;
         for count in 1..7 {
             for k in 1..count + 1 {
                 let pieces = split(rt.alloc(), k, count - k, &object)?;
@@ -124,6 +135,21 @@ mod tests {
                         );
                     }
                 }
+            }
+        }
+        Ok(())
+    }
+
+    #[test]
+    fn both_bodies_agree(rt: HostRuntime) -> Result<(), Fail> {
+        let object = sample(rt.alloc(), 1400)?;
+        for k in 1..21usize {
+            for width in 0..71usize {
+                let len = (k * width).saturating_sub(k / 2);
+                let bytes = object.get(..len).ok_or("too few bytes")?;
+                let pieces = split(rt.alloc(), k, 20 - k, bytes)?;
+                let plain = split_plainly(rt.alloc(), k, 20 - k, bytes)?;
+                assert!(rt; pieces == plain, "{k} of 20 at {width}");
             }
         }
         Ok(())

@@ -1,5 +1,5 @@
 -- What the tables hold.
-use Rattle.std.proofs.Common.{◌≡◌, ℕ, suc, ◌+◌, ◌-◌, ◌*◌, ◌/◌, ◌%◌, ◌<◌, sym, ◌∙◌, ap, arith, bit_xor, T, List, get_or, length}
+use Rattle.std.proofs.Common.{take, drop, get_or-take, get_or-drop, ◌≡◌, ℕ, suc, ◌+◌, ◌-◌, ◌*◌, ◌/◌, ◌%◌, ◌<◌, sym, ◌∙◌, ap, arith, bit_xor, T, List, get_or, length}
 use Rattle.gz_field.specs.Field.{sum_of_shifts, product}
 use Rattle.gz_field.specs.declared.tables.TheConstants.{INVERSES, LOW_PRODUCTS, HIGH_PRODUCTS}
 use Rattle.gz_field.proofs.Algebra.{product_by_halves}
@@ -51,3 +51,13 @@ unfolding sum_of_shifts
 inverse_at a low A =
     let from : suc (a - 1) ≡ a = omega arith in
     sym (ap (λ x. product x (get_or INVERSES x 0)) from) ∙ equal_below (λ i. product (suc i) (get_or INVERSES (suc i) 0)) (λ i. 1) 255 tt (a - 1) (omega arith)
+
+-- 16 entries of a table
+entries_from : (table : List ℕ) (from to k : ℕ) → to ≡ from + 16 → k < 16 → get_or (take (to - from) (drop from table)) k 0 ≡ get_or table (from + k) 0
+entries_from table from to k end l = get_or-take (to - from) (drop from table) k 0 (omega arith) ∙ get_or-drop from table k 0
+
+pub low_row : (a row k : ℕ) → row ≡ a → a < 256 → k < 16 → get_or (take (row * 16 + 16 - row * 16) (drop (row * 16) LOW_PRODUCTS)) k 0 ≡ product a k
+low_row a row k same A K = entries_from LOW_PRODUCTS (row * 16) (row * 16 + 16) k (omega arith) K ∙ ap (λ r. get_or LOW_PRODUCTS (r * 16 + k) 0) same ∙ low_product a k A K
+
+pub high_row : (a row k : ℕ) → row ≡ a → a < 256 → k < 16 → get_or (take (row * 16 + 16 - row * 16) (drop (row * 16) HIGH_PRODUCTS)) k 0 ≡ product a (k * 16)
+high_row a row k same A K = entries_from HIGH_PRODUCTS (row * 16) (row * 16 + 16) k (omega arith) K ∙ ap (λ r. get_or HIGH_PRODUCTS (r * 16 + k) 0) same ∙ high_product a k A K

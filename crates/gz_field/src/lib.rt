@@ -2,7 +2,7 @@
 //! modulo x^8 + x^4 + x^3 + x^2 + 1 (0x11d).
 #![tactic(auto)]
 
-ghost use Rattle.std.specs.Prelude.{◌≡◌, ◌≢◌, ℕ, ◌<◌, bit_xor};
+ghost use Rattle.std.specs.Prelude.{◌≡◌, ◌≢◌, ℕ, ◌*◌, ◌<◌, length, slice_index, bit_xor};
 ghost use Rattle.gz_field.specs.Field.{product, carryless, IsRemainder};
 ghost use Rattle.gz_field.specs.Laws.{IsFieldOfBytes, AllPowersOfTwo};
 
@@ -25,6 +25,24 @@ pub fn mul(a: u8, b: u8) -> u8
     let low = LOW_PRODUCTS[row + usize::from(b % 16)];
     let high = HIGH_PRODUCTS[row + usize::from(b / 16)];
     add(low, high)
+}
+
+/// The products of an element with 0 to 15.
+pub fn products_with_low(a: u8) -> &'static [u8]
+    ensures long { length result.now ≡ 16 }
+    ensures products { (k : ℕ) → k < 16 → slice_index result.now k ≡ product a k }
+{
+    let row = usize::from(a) * 16;
+    &LOW_PRODUCTS[row..row + 16]
+}
+
+/// The products of an element with the multiples of 16.
+pub fn products_with_high(a: u8) -> &'static [u8]
+    ensures long { length result.now ≡ 16 }
+    ensures products { (k : ℕ) → k < 16 → slice_index result.now k ≡ product a (k * 16) }
+{
+    let row = usize::from(a) * 16;
+    &HIGH_PRODUCTS[row..row + 16]
 }
 
 /// The inverse of an element: the one whose product with it is 1.

@@ -1,7 +1,8 @@
 -- Sums of products in the field.
-use Rattle.std.specs.Prelude.{◌≡◌, ℕ, zero, suc, ◌<◌, ◌≤◌, List, [], length, map, slice_index, slice_index_or, bit_xor}
+use Rattle.std.specs.Prelude.{◌≡◌, ℕ, zero, suc, ◌+◌, ◌<◌, ◌≤◌, List, [], length, map, slice_index, slice_index_or, bit_xor}
 use Rattle.std.specs.Borrow.{Bor}
 use Rattle.gz_field.specs.Field.{product}
+use Rattle.gz_lanes.specs.Lanes.{HasLanes}
 
 -- the sum, over the j below n, of the products of c j and v j
 unfoldable pub combination : ℕ → (ℕ → ℕ) → (ℕ → ℕ) → ℕ
@@ -25,3 +26,17 @@ IsCombined coefficients sources sum n =
 pub record HasAdded (coefficient : ℕ) (source old new : List ℕ) (n : ℕ) : Type 0 where
   pub below : (place : ℕ) → place < n → slice_index new place ≡ bit_xor (slice_index old place) (product coefficient (slice_index source place))
   pub rest : (place : ℕ) → n ≤ place → slice_index new place ≡ slice_index old place
+
+-- the lanes of a vector are the combinations at 16 places from at on
+abbrev pub IsSum : List ℕ → List (List ℕ) → ℕ → List ℕ → Type 0
+IsSum coefficients sources at v = HasLanes v (λ k. combination (length coefficients) (slice_index coefficients) (column sources (at + k)))
+
+-- a piece that holds the combinations of a row
+pub record IsPiece (coefficients : List ℕ) (sources : List (List ℕ)) (width : ℕ) (piece : List ℕ) : Type 0 where
+  pub wide : length piece ≡ width
+  pub combined : IsCombined coefficients sources piece width
+
+-- for each of the first n rows, a piece that holds its combinations
+pub record AreCombined (rows sources : List (List ℕ)) (width n : ℕ) (pieces : List (List ℕ)) : Type 0 where
+  pub count : length pieces ≡ n
+  pub pieces_are : (t : ℕ) → t < n → IsPiece (slice_index_or rows t []) sources width (slice_index_or pieces t [])

@@ -2,7 +2,7 @@ use Rattle.std.proofs.Common.{ℕ, arith, ◌≡◌, ◌∙◌, sym, ap, length,
 use Rattle.gz_field.specs.Field.{product}
 use Rattle.gz_field.proofs.Inverse.{sum_of_distinct}
 use Rattle.gz_code.proofs.Interpolation.{weight}
-use Rattle.gz_code.proofs.Pushes.{each_pushed, length_pushed}
+use Rattle.gz_lanes.proofs.Pushes.{each_pushed, length_pushed}
 use Rattle.gz_code.proofs.Weights.{weight_from_whole, weights_are}
 use Rattle.gz_code.proofs.interpolate.weights_of.Goals as goal
 
