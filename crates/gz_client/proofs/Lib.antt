@@ -1,3 +1,4 @@
 pub mod Holding
 pub mod Live
 pub mod Exactly
+mod LiveRequests

@@ -1,0 +1,13 @@
+pub mod Audit
+pub mod Bridge
+pub mod Counting
+pub mod Deliveries
+pub mod Fits
+pub mod Opening
+pub mod Reached
+pub mod Refusals
+pub mod States
+pub mod Steps
+pub mod Told
+pub mod Turns
+pub mod Weights
