@@ -1,3 +1,5 @@
+mod Carrying
+mod Listing
 pub mod Acting
 pub mod CastOrder
 pub mod Elements

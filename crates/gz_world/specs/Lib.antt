@@ -1,8 +1,10 @@
 pub mod Audit
 pub mod Bridge
+pub mod Carried
 pub mod Counting
 pub mod Deliveries
 pub mod Fits
+pub mod Listed
 pub mod Opening
 pub mod Reached
 pub mod Refusals
