@@ -1,6 +1,6 @@
 mod Ballots
 mod Forward
-mod Making
+pub mod Making
 mod Placing
-mod Rising
+pub mod Rising
 mod Seen

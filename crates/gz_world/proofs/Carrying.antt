@@ -91,12 +91,12 @@ tales_later old new [] grows h = tt
 tales_later old new (t ∷ ts) grows h = (moments_later old new t.caller.name t.moments grows h.0, tales_later old new ts grows h.1)
 
 -- a request that is awaited was sent
-none_after : (o : Option Seen) (changed : Bool) (now : SiteNow) → (after_reply o changed now).awaits ≡ None
+pub none_after : (o : Option Seen) (changed : Bool) (now : SiteNow) → (after_reply o changed now).awaits ≡ None
 none_after None true now = refl
 none_after None false now = refl
 none_after (Some seen) changed now = refl
 
-still_awaits : (m : Moment) (ms : List Moment) (s : ℕ) (a : Asked) → ((now : SiteNow) → (after m now).awaits ≡ None) → (site_now (m ∷ ms) s).awaits ≡ Some a → (site_now ms s).awaits ≡ Some a
+pub still_awaits : (m : Moment) (ms : List Moment) (s : ℕ) (a : Asked) → ((now : SiteNow) → (after m now).awaits ≡ None) → (site_now (m ∷ ms) s).awaits ≡ Some a → (site_now ms s).awaits ≡ Some a
 still_awaits m ms s a none e =
     elim (concerns m s) as (λ b. (if b then after m (site_now ms s) else site_now ms s).awaits ≡ Some a → (site_now ms s).awaits ≡ Some a) [
       true ↦ λ k. (let bad : None ≡ Some a = sym (none (site_now ms s)) ∙ k in cc)
@@ -110,14 +110,14 @@ sent_or_before b now a e =
     | false ↦ λ k. inr k
     ] e
 
-awaits_sent : (b : Asked) (ms : List Moment) (s : ℕ) (a : Asked) → (site_now (Sent b ∷ ms) s).awaits ≡ Some a → (b ≡ a) ⊎ ((site_now ms s).awaits ≡ Some a)
+pub awaits_sent : (b : Asked) (ms : List Moment) (s : ℕ) (a : Asked) → (site_now (Sent b ∷ ms) s).awaits ≡ Some a → (b ≡ a) ⊎ ((site_now ms s).awaits ≡ Some a)
 awaits_sent b ms s a e =
     elim (is_to b s) as (λ t. (if t then after_sent b (site_now ms s) else site_now ms s).awaits ≡ Some a → (b ≡ a) ⊎ ((site_now ms s).awaits ≡ Some a)) [
       true ↦ λ k. sent_or_before b (site_now ms s) a k
     | false ↦ λ k. inr k
     ] e
 
-awaited_carried : (net : List RequestAt) (name : Name) (ms : List Moment) (s : ℕ) (a : Asked) → MomentsCarried net name ms → (site_now ms s).awaits ≡ Some a → (r : RequestAt) × IsRequestOf net name a r
+pub awaited_carried : (net : List RequestAt) (name : Name) (ms : List Moment) (s : ℕ) (a : Asked) → MomentsCarried net name ms → (site_now ms s).awaits ≡ Some a → (r : RequestAt) × IsRequestOf net name a r
 awaited_carried net name [] s a h e = cc
 awaited_carried net name (Sent b ∷ ms) s a h e = elim (awaits_sent b ms s a e) [
     inl same ↦ (h.0.0, subst (λ (k : Asked). IsRequestOf net name k h.0.0) same h.0.1)
@@ -129,16 +129,16 @@ awaited_carried net name (Rested ∷ ms) s a h e = awaited_carried net name ms s
 awaited_carried net name (GaveIn ∷ ms) s a h e = awaited_carried net name ms s a h.1 (still_awaits GaveIn ms s a (λ now. refl) e)
 
 -- what is sent stands at the end of the net
-get_after : (xs ys : List RequestAt) (j : ℕ) → slice_get (xs ++ ys) (length xs + j) ≡ slice_get ys j
+pub get_after : (xs ys : List RequestAt) (j : ℕ) → slice_get (xs ++ ys) (length xs + j) ≡ slice_get ys j
 get_after [] ys j = let e : 0 + j ≡ j = omega arith in ap (slice_get ys) e
 get_after (x ∷ xs) ys j = let e : suc (length xs) + j ≡ suc (length xs + j) = omega arith in ap (slice_get (x ∷ (xs ++ ys))) e ∙ get_after xs ys j
 
-get_map : (name : Name) (tick : ℕ) (outs : List Out) (j : ℕ) (o : Out) → slice_get outs j ≡ Some o → slice_get (sent_requests name tick outs) j ≡ Some (sent_request name tick o)
+pub get_map : (name : Name) (tick : ℕ) (outs : List Out) (j : ℕ) (o : Out) → slice_get outs j ≡ Some o → slice_get (sent_requests name tick outs) j ≡ Some (sent_request name tick o)
 get_map name tick [] j o h = cc
 get_map name tick (x ∷ xs) zero o h = let e : x ≡ o = cc in ap (λ (k : Out). Some (sent_request name tick k)) e
 get_map name tick (x ∷ xs) (suc j) o h = get_map name tick xs j o h
 
-sent_there : (xs : List RequestAt) (name : Name) (tick : ℕ) (outs : List Out) (j : ℕ) (o : Out) → slice_get outs j ≡ Some o → numbered (xs ++ sent_requests name tick outs) (length xs + 1 + j) ≡ Some (sent_request name tick o)
+pub sent_there : (xs : List RequestAt) (name : Name) (tick : ℕ) (outs : List Out) (j : ℕ) (o : Out) → slice_get outs j ≡ Some o → numbered (xs ++ sent_requests name tick outs) (length xs + 1 + j) ≡ Some (sent_request name tick o)
 sent_there xs name tick outs j o h =
     let e : length xs + 1 + j - 1 ≡ length xs + j = omega arith in
     place_numbered (xs ++ sent_requests name tick outs) (length xs + 1 + j) (sent_request name tick o) (omega arith)

@@ -1,15 +1,33 @@
-mod Carrying
-mod Listing
 pub mod Acting
+pub mod Carrying
 pub mod CastOrder
+pub mod Currents
 pub mod Elements
 pub mod Finishing
+pub mod Growing
+pub mod Guarding
+pub mod Hearing
+pub mod Keeping
+pub mod Keys
+pub mod Listing
 pub mod Lists
 pub mod Members
 pub mod Moving
 pub mod Opened
 pub mod Performing
 pub mod Places
+pub mod Placing
+pub mod Promising
+pub mod Recording
 pub mod Results
+pub mod RunAnswers
+pub mod RunBegins
+pub mod RunDelivers
+pub mod RunSends
+pub mod RunSites
+pub mod RunTools
+pub mod RunTurns
+pub mod Running
+pub mod Sending
 pub mod Telling
 pub mod Turning

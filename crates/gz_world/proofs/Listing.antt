@@ -111,7 +111,7 @@ begin_listed old new session call turn effect b l = record {
 }
 
 -- the record of a call that perhaps ends keeps its name
-answered_name : (tick : ℕ) (o : Option Answer) (c : CallRec) → (answered tick o c).name ≡ c.name
+pub answered_name : (tick : ℕ) (o : Option Answer) (c : CallRec) → (answered tick o c).name ≡ c.name
 answered_name tick None c = refl
 answered_name tick (Some answer) c = refl
 

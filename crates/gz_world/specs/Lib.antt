@@ -4,10 +4,14 @@ pub mod Carried
 pub mod Counting
 pub mod Deliveries
 pub mod Fits
+pub mod Heard
 pub mod Listed
 pub mod Opening
+pub mod Placed
 pub mod Reached
+pub mod Recorded
 pub mod Refusals
+pub mod Runs
 pub mod States
 pub mod Steps
 pub mod Told

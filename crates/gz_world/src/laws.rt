@@ -1,13 +1,27 @@
 //! What holds in every world that is reached.
 ghost use Rattle.gz_world.specs.States.{State};
-ghost use Rattle.gz_world.specs.Reached.{IsReached};
+ghost use Rattle.std.specs.Prelude.{List, ℕ};
+ghost use Rattle.gz_ledger.specs.Deeds.{Deed};
+ghost use Rattle.gz_world.specs.Reached.{IsReached, AllTell};
+ghost use Rattle.gz_world.specs.Runs.{IsRun};
 ghost use Rattle.gz_world.specs.Listed.{AreListed};
 ghost use Rattle.gz_world.specs.Carried.{AreCarried};
+ghost use Rattle.gz_world.specs.Placed.{ArePlaced};
+ghost use Rattle.gz_world.specs.Recorded.{AreRecorded};
 
 /// Of every world that is reached: the names of the calls differ, each call is that of a tale of its session, each
 /// moment of a tale was allowed when it came, and its answer, which is the call's, has its cause in what the call was
-/// handed; and what the call was handed are replies, in the world, to requests that the call sent.
+/// handed; what the call was handed are replies, in the world, to requests that the call sent; each tale is that of a
+/// call; and requests and calls are of sites, sessions and ticks that there are.
 pub fn world_laws()
     ensures listed { (s : State) → IsReached s → AreListed s }
     ensures carried { (s : State) → IsReached s → AreCarried s }
+    ensures placed { (s : State) → IsReached s → ArePlaced s }
+    ensures recorded { (s : State) → IsReached s → AreRecorded s }
+{}
+
+/// What has happened to an object, in a world that is reached and whose sites tell what they hold, is a run of the
+/// machine of agreement.
+pub fn object_runs()
+    ensures { (key : List ℕ) (s : State) → IsReached s → AllTell s → (ds : List Deed) × IsRun key s ds }
 {}
