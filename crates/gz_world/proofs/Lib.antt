@@ -1,4 +1,5 @@
 pub mod Acting
+pub mod Agreeing
 pub mod Carrying
 pub mod CastOrder
 pub mod Currents
@@ -9,6 +10,7 @@ pub mod Guarding
 pub mod Hearing
 pub mod Keeping
 pub mod Keys
+pub mod Legality
 pub mod Listing
 pub mod Lists
 pub mod Members

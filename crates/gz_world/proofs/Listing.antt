@@ -22,7 +22,7 @@ use Rattle.gz_world.specs.Steps.{SessionMoves, BeginsBy, TurnBy, TakesTurn, Call
 use Rattle.gz_world.proofs.Places.{get_set_same, get_set_other, get_of_two, get_one}
 
 -- the name of a call is of its session, and counts no more than the calls of the session
-among_name : (c : Config) (session : ℕ) (call : CallRec) (ts : List Tale) → AreTold c session ts → IsAmong c call ts → (call.name.session ≡ session) × (call.name.seq ≤ length ts)
+pub among_name : (c : Config) (session : ℕ) (call : CallRec) (ts : List Tale) → AreTold c session ts → IsAmong c call ts → (call.name.session ≡ session) × (call.name.seq ≤ length ts)
 among_name c session call [] told h = absurd h
 among_name c session call (t ∷ ts) told h = elim h [
     inl e ↦ (let n : call.name ≡ record { session = session; seq = length ts + 1 } = sym (ap (λ (w : Caller). w.name) e.caller) ∙ told.1 in

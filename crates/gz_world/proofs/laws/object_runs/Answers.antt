@@ -1,4 +1,5 @@
 use Rattle.gz_world.proofs.Running.{runs}
+use Rattle.gz_world.proofs.Legality.{agree, reads_a_write}
 use Rattle.gz_world.proofs.laws.object_runs.Goals as goal
 
 pub returns : goal.returns
