@@ -1,6 +1,6 @@
 mod Ballots
 mod Forward
 pub mod Making
-mod Placing
+pub mod Placing
 pub mod Rising
 mod Seen

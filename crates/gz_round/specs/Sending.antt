@@ -13,7 +13,7 @@ use Rattle.gz_core.specs.declared.requests.Op.TheVariants.{ReadRow, WriteRow}
 use Rattle.gz_accept.specs.declared.answers.Step.{Step}
 use Rattle.gz_accept.specs.declared.answers.Step.TheVariants.{Done}
 use Rattle.gz_accept.specs.Steps.{fast_answer, fast_voted, promise_answer, promised, classic_answer, classic_voted, decide_answer, decided, trim_answer, trimmed_to}
-use Rattle.gz_round.specs.Rounds.{MayPromise, MayClassicVote}
+use Rattle.gz_round.specs.Rounds.{MayPromise, MayClassicVote, IsValueKnown}
 use Rattle.gz_round.specs.History.{Asked, Moment, Sent, Handed, GaveUp, Rested, GaveIn, Caller, Tale}
 use Rattle.gz_round.specs.declared.hearing.Seen.{Seen}
 use Rattle.gz_round.specs.Sites.{SiteNow, site_now}
@@ -53,7 +53,7 @@ abbrev pub MayMake : Config → Caller → List Tale → List Moment → RowStep
 MayMake c w past ms (FastVote v x) = (own_value w.name w.call ≡ Some x) × MayFastVote c w ms v
 MayMake c w past ms (Promise v b) = MayPromise c w past ms v b
 MayMake c w past ms (ClassicVote v b x) = MayClassicVote c w ms v b x
-MayMake c w past ms (Decide v x) = IsShown c ms v (name_of x)
+MayMake c w past ms (Decide v x) = IsShown c ms v (name_of x) × IsValueKnown w ms v x
 MayMake c w past ms (Trim to x) = ⊥
 
 -- a write goes out on the last row that was heard, under its tag, where it wasn't overtaken since

@@ -135,5 +135,5 @@ may_send c w past ms st (ClassicVote v b x) keeps allowed k =
       source = left_source c w past ms st v k.heard x keeps k.choice;
       one = λ q y found same is. k.one y (sent_casts ms v b y (subst (SentStep ms) is (keeps.own q found same)));
     }
-may_send c w past ms st (Decide v x) keeps allowed k = shown_heard c st ms v (name_of x) keeps.stands k
+may_send c w past ms st (Decide v x) keeps allowed k = shown_heard c st ms v (name_of x) keeps.stands k.0
 may_send c w past ms st (Trim to x) keeps allowed k = absurd k
