@@ -1,6 +1,6 @@
 mod Ballots
 mod Forward
 pub mod Making
-pub mod Placing
+mod Placing
 pub mod Rising
-mod Seen
+pub mod Seen

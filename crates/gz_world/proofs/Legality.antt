@@ -5,6 +5,10 @@ use Rattle.std.proofs.lemmas.Option.{slice_get_read, get_or_from_slice_get}
 use Rattle.std.specs.Prelude.{Option, Contains, ◌==◌, slice_get}
 use Rattle.gz_core.specs.Names.{Name}
 use Rattle.gz_core.specs.Calls.{key_of, own_value}
+use Rattle.gz_core.specs.Puts.{PutData}
+use Rattle.gz_core.specs.declared.values.Value.{Value}
+use Rattle.gz_core.specs.declared.values.Value.TheVariants.{Put as PutOf}
+use Rattle.gz_round.specs.Shown.{IsValueHeard}
 use Rattle.gz_core.specs.Slots.{Act}
 use Rattle.gz_core.specs.declared.calls.Answer.{Answer}
 use Rattle.gz_core.specs.declared.calls.Answer.TheVariants.{Ok, Bytes, Absent, NoQuorum, Contended, Unsure, Unsettled}
@@ -14,8 +18,8 @@ use Rattle.gz_core.specs.declared.configuration.Config.{Config}
 use Rattle.gz_round.specs.History.{Moment, Sent, Handed, GaveUp, Rested, GaveIn, Caller, Tale}
 use Rattle.gz_round.specs.Sent.{vote_by, of_sent, passes_sent, some_sent, voted, voted_at}
 use Rattle.gz_client.specs.Tales.{IsAnswered, AreTold}
-use Rattle.gz_history.specs.Answers.{shows, names, read_from, IsPut, MayTakeEffect}
-use Rattle.gz_history.specs.Legal.{IsBefore, IsBeforeEnd, Agree, TakeEffectOnce, KeepOrder, IsSource, ReadsAWrite}
+use Rattle.gz_history.specs.Answers.{shows, names, read_from, bytes_read, bytes_written, IsPut, MayTakeEffect}
+use Rattle.gz_history.specs.Legal.{IsBefore, IsBeforeEnd, Agree, TakeEffectOnce, KeepOrder, IsSource, ReadsAWrite, ReturnWritten, IsLegal}
 use Rattle.gz_history.specs.declared.record.CallRec.{CallRec}
 use Rattle.gz_ledger.specs.Histories.{Seen, Write, IsIn, IsShown, VotesFor, IsProposed}
 use Rattle.gz_ledger.specs.Deeds.{Deed, Reads, Begins, Written, Failed, Elsewhere, after_deeds, AreDeeds, ledger_of, seen_after, sent_after}
@@ -27,6 +31,7 @@ use Rattle.gz_world.specs.Listed.{IsTaleOf, IsAmong, AreListed}
 use Rattle.gz_world.specs.Placed.{ArePlaced}
 use Rattle.gz_world.specs.Reached.{IsReached, AllTell}
 use Rattle.gz_world.specs.Recorded.{IsNamedIn, TalesRecorded, AreRecorded}
+use Rattle.gz_world.specs.Valued.{IsGiven, AreValued}
 use Rattle.gz_world.specs.Runs.{IsSender, IsSentBy, IsShownAt, IsSince, IsRun}
 use Rattle.gz_world.specs.States.{State}
 use Rattle.gz_world.proofs.Agreeing.{agreed, same_name_of, no_name_of, named_shown, shown_positive, keeps_order}
@@ -36,6 +41,13 @@ use Rattle.gz_world.proofs.Listing.{among_name}
 use Rattle.gz_world.proofs.Places.{get_below}
 use Rattle.gz_world.proofs.RunAnswers.{HasTale, call_tale, call_told}
 use Rattle.gz_world.proofs.Sending.{sent_votes}
+use Rattle.gz_world.proofs.Carrying.{carried}
+use Rattle.gz_world.proofs.Listing.{listed}
+use Rattle.gz_world.proofs.Placing.{placed}
+use Rattle.gz_world.proofs.Recording.{recorded}
+use Rattle.gz_world.proofs.Running.{runs}
+use Rattle.gz_world.proofs.Values.{heard_given}
+use Rattle.gz_world.proofs.Valuing.{valued, net_given}
 
 contains_get : {A : Type 0} (xs : List A) (x : A) → Contains xs x → (i : ℕ) × (slice_get xs i ≡ Some x)
 contains_get xs x h = (h.0, slice_get_read xs (length xs) h.0 x refl h.1 (sym h.2))
@@ -50,6 +62,7 @@ pub record IsKnownRun (key : List ℕ) (s : State) (ds : List Deed) : Type 0 whe
   pub carries : AreCarried s
   pub placed : ArePlaced s
   pub recorded : AreRecorded s
+  pub valued : AreValued s
 
 pub agree : (key : List ℕ) (s : State) (ds : List Deed) (i j : ℕ) (a b : CallRec) → IsKnownRun key s ds → slice_get s.calls i ≡ Some a → slice_get s.calls j ≡ Some b → key_of a.call ≡ key → key_of b.call ≡ key → Agree a b
 agree key s ds i j a b k ga gb ka kb = λ v x y sa sb na nb.
@@ -204,3 +217,72 @@ reads_a_write key s ds i a k ga ka = λ x from.
       began = began_before key s ds i n.0 v a b x h.tale.caller.name a.end k ga n.2 ka kb r.shows_it shown name (ap (own_value h.tale.caller.name) own ∙ r.reads) put refl;
       effect = effect_of c t b.answer (subst (IsAnswered c t) so.is.answer so.is.told.answered) (voted_some t.caller.name t.moments v (sent_votes t.moments q.act v t.caller.name so.sender.sent cast));
     }))
+
+-- the bytes that the answer of a call that reads gives were heard with the name
+read_value : (c : Config) (t : Tale) (answer : Option Answer) (x : Name) (bytes : List ℕ) → IsAnswered c t answer → read_from answer ≡ Some x → bytes_read answer ≡ Some bytes → (v : ℕ) × IsValueHeard t.moments v (PutOf (record { name = x; bytes = bytes }))
+read_value c t None x bytes h e k = cc
+read_value c t (Some (Ok version)) x bytes h e k = cc
+read_value c t (Some (Bytes version name read)) x bytes h e k =
+    let named : name ≡ x = cc in
+    let same : read ≡ bytes = cc in
+    (version, subst (λ y. IsValueHeard t.moments version (PutOf (record { name = y; bytes = bytes }))) named (subst (λ ys. IsValueHeard t.moments version (PutOf (record { name = name; bytes = ys }))) same h.1.heard))
+read_value c t (Some Absent) x bytes h e k = cc
+read_value c t (Some (NoQuorum phase heard)) x bytes h e k = cc
+read_value c t (Some (Contended met)) x bytes h e k = cc
+read_value c t (Some (Unsure why)) x bytes h e k = cc
+read_value c t (Some (Unsettled version)) x bytes h e k = cc
+
+-- a call with a value of its own writes its bytes under its name
+own_put : (name : Name) (call : Call) (p : PutData) → own_value name call ≡ Some (PutOf p) → (name ≡ p.name) × (bytes_written call ≡ Some p.bytes)
+own_put name (Put key bytes) p e =
+    let d : PutData = record { name = name; bytes = bytes } in
+    let same : d ≡ p = cc in
+    (ap (λ (q : PutData). q.name) same, ap (λ (q : PutData). Some q.bytes) same)
+own_put name (Get key) p e = cc
+
+-- a call that reads returns the bytes of the put that it names
+pub returns_written : (key : List ℕ) (s : State) (ds : List Deed) (i j : ℕ) (a b : CallRec) → IsKnownRun key s ds → slice_get s.calls i ≡ Some a → slice_get s.calls j ≡ Some b → key_of a.call ≡ key → ReturnWritten a b
+returns_written key s ds i j a b k ga gb ka = λ bytes from read.
+    let h = call_tale key s ds i a k.run k.listed k.carries ga ka in
+    let t = h.tale in
+    let value = read_value s.cfg t a.answer b.name bytes (subst (IsAnswered s.cfg t) h.is.answer h.is.told.answered) from read in
+    let heard = value.1 in
+    let p : PutData = record { name = b.name; bytes = bytes } in
+    let given : IsGiven s.calls (PutOf p) = heard_given s.calls s.net t.caller.name t.moments (net_given s k.valued) h.carried heard.0 heard.1 heard.2 value.0 (PutOf p) heard.3 in
+    let own = own_put given.1.name given.1.call p given.3 in
+    let at = k.listed.apart given.0 j given.1 b given.2 gb own.0 in
+    ap (λ (c : CallRec). bytes_written c.call) (sym (same_call s.calls given.0 j given.1 b at given.2 gb)) ∙ own.1
+
+-- what is known of a world that is reached
+known : (key : List ℕ) (s : State) → IsReached s → AllTell s → (ds : List Deed) × IsKnownRun key s ds
+known key s reached tell =
+    let k = runs key s reached tell in
+    (k.0, record { run = k.1; listed = listed s reached; carries = carried s reached; placed = placed s reached; recorded = recorded s reached; valued = valued s reached tell })
+
+pub legal : (s : State) → IsReached s → AllTell s → IsLegal s.calls
+legal s reached tell = record {
+  agreement = λ a b ca cb same.
+    let k = known (key_of a.call) s reached tell in
+    let x = contains_get s.calls a ca in
+    let y = contains_get s.calls b cb in
+    agree (key_of a.call) s k.0 x.0 y.0 a b k.1 x.1 y.1 refl (sym same);
+  once = λ a b ca cb same.
+    let k = known (key_of a.call) s reached tell in
+    let x = contains_get s.calls a ca in
+    let y = contains_get s.calls b cb in
+    take_effect_once (key_of a.call) s k.0 x.0 y.0 a b k.1 x.1 y.1 refl (sym same);
+  order = λ a b ca cb same.
+    let k = known (key_of a.call) s reached tell in
+    let x = contains_get s.calls a ca in
+    let y = contains_get s.calls b cb in
+    keeps_order (key_of a.call) s k.0 x.0 y.0 a b k.1.run k.1.listed k.1.carries k.1.placed x.1 y.1 refl (sym same);
+  sources = λ a ca.
+    let k = known (key_of a.call) s reached tell in
+    let x = contains_get s.calls a ca in
+    reads_a_write (key_of a.call) s k.0 x.0 a k.1 x.1 refl;
+  values = λ a b ca cb same.
+    let k = known (key_of a.call) s reached tell in
+    let x = contains_get s.calls a ca in
+    let y = contains_get s.calls b cb in
+    returns_written (key_of a.call) s k.0 x.0 y.0 a b k.1 x.1 y.1 refl;
+}

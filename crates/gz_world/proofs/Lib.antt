@@ -2,6 +2,7 @@ pub mod Acting
 pub mod Agreeing
 pub mod Carrying
 pub mod CastOrder
+pub mod CastRuns
 pub mod Currents
 pub mod Elements
 pub mod Finishing
@@ -33,3 +34,5 @@ pub mod Running
 pub mod Sending
 pub mod Telling
 pub mod Turning
+pub mod Values
+pub mod Valuing

@@ -120,7 +120,7 @@ answered_tale cfg tick None c past t after runs caller answer told e = record { 
 answered_tale cfg tick (Some a) c past t after runs caller answer told e = record { caller = caller ∙ e.caller; answer = answer; told = told }
 
 -- the newest of some tales is that of the call with its name
-newest : (cfg : Config) (session : ℕ) (c : CallRec) (t : Tale) (ts : List Tale) → AreTold cfg session (t ∷ ts) → IsAmong cfg c (t ∷ ts) → c.name ≡ t.caller.name → IsTaleOf cfg c ts t
+pub newest : (cfg : Config) (session : ℕ) (c : CallRec) (t : Tale) (ts : List Tale) → AreTold cfg session (t ∷ ts) → IsAmong cfg c (t ∷ ts) → c.name ≡ t.caller.name → IsTaleOf cfg c ts t
 newest cfg session c t ts told h name = elim h [
     inl e ↦ e
   | inr e ↦ (let r = among_name cfg session c ts told.2 e in

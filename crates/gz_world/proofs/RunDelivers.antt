@@ -30,11 +30,11 @@ both_tell None p R some h = cc
 both_tell (Some before) None R some h = absurd h
 both_tell (Some before) (Some after) R some h = (before, (after, (refl, (refl, h))))
 
-same_told : (a b : Told) → Some a ≡ Some b → a ≡ b
+pub same_told : (a b : Told) → Some a ≡ Some b → a ≡ b
 same_told a b e = cc
 
 -- the replies of a request with one more
-more_replies : (r : RequestAt) (tick i t : ℕ) (reply one : Reply) → slice_get (with_reply tick reply r).replies i ≡ Some (t, one) → (slice_get r.replies i ≡ Some (t, one)) ⊎ (reply ≡ one)
+pub more_replies : (r : RequestAt) (tick i t : ℕ) (reply one : Reply) → slice_get (with_reply tick reply r).replies i ≡ Some (t, one) → (slice_get r.replies i ≡ Some (t, one)) ⊎ (reply ≡ one)
 more_replies r tick i t reply one e = elim (get_of_two r.replies ((tick, reply) ∷ []) i (t, one) e) [
     inl k ↦ inl k
   | inr k ↦ inr (ap (λ (x : ℕ × Reply). x.1) (get_one (tick, reply) (t, one) k.0 k.1.1).1)

@@ -52,19 +52,25 @@ same_request : (a b : RequestAt) → Some a ≡ Some b → a ≡ b
 same_request a b e = cc
 
 -- the request that a running call is told of is the one that it awaits
-told_request : (old new : State) (n : ℕ) (r marked : RequestAt) (moment : Asked → Moment) (by : TurnBy) (effect : Effect) → TakesTurn old n r moment by marked effect new → AreCarried old → IsRequestOf old.net by.tale.caller.name by.asked r
+pub told_request : (old new : State) (n : ℕ) (r marked : RequestAt) (moment : Asked → Moment) (by : TurnBy) (effect : Effect) → TakesTurn old n r moment by marked effect new → AreCarried old → IsRequestOf old.net by.tale.caller.name by.asked r
 told_request old new n r marked moment by effect t carries =
     let mine : TalesCarried old.net (by.tale ∷ by.earlier) = subst (TalesCarried old.net) t.tales (carries r.name.session) in
     let k = awaited_carried old.net by.tale.caller.name by.tale.moments by.asked.site by.asked mine.0 t.awaited.awaits in
     let same = same_request k.0 r (sym k.1.there ∙ ap (numbered old.net) t.awaited.number_is ∙ t.request) in
     subst (λ (q : RequestAt). IsRequestOf old.net by.tale.caller.name by.asked q) same k.1
 
+-- the reply that it is told of is one of that request
+pub handed_moment : (old new : State) (n which : ℕ) (r : RequestAt) (reply : ℕ × Reply) (by : TurnBy) (effect : Effect) → numbered r.replies which ≡ Some reply → TakesTurn old n r (λ a. Handed a reply.1) by (with_handed (tick_of old) which r) effect new → AreCarried old
+    → MomentCarried old.net by.tale.caller.name (Handed by.asked reply.1)
+handed_moment old new n which r reply by effect there t carries =
+    let has : HasReply r reply.1 = record { place = which - 1; tick = reply.0; there = (numbered_place r.replies which reply there).1 } in
+    (r, (told_request old new n r (with_handed (tick_of old) which r) (λ a. Handed a reply.1) by effect t carries, has))
+
 hand_run : (key : List ℕ) (old new : State) (ds : List Deed) (n which : ℕ) (r : RequestAt) (reply : ℕ × Reply) (by : TurnBy) (effect : Effect) → numbered r.replies which ≡ Some reply → TakesTurn old n r (λ a. Handed a reply.1) by (with_handed (tick_of old) which r) effect new
     → AreListed old → AreCarried old → ArePlaced old → IsRun key old ds → (more : List Deed) × IsRun key new more
 hand_run key old new ds n which r reply by effect there t listed carries placed run =
     let name = by.tale.caller.name in
-    let has : HasReply r reply.1 = record { place = which - 1; tick = reply.0; there = (numbered_place r.replies which reply there).1 } in
-    let moment : MomentCarried old.net name (Handed by.asked reply.1) = (r, (told_request old new n r (with_handed (tick_of old) which r) (λ a. Handed a reply.1) by effect t carries, has)) in
+    let moment = handed_moment old new n which r reply by effect there t carries in
     let told : AreTold old.cfg r.name.session (by.tale ∷ by.earlier) = subst (AreTold old.cfg r.name.session) t.tales (listed.told r.name.session) in
     turn_run key old new ds n r (with_handed (tick_of old) which r) (λ a. Handed a reply.1) by effect t (handed_alike (tick_of old) which r)
       (λ same. handed_stands key old.net (after_deeds unused ds) name by.asked reply.1 run.requests (awaited_key old.cfg by.tale.caller by.earlier by.tale.moments by.asked.site by.asked told.0.allowed t.awaited.awaits ∙ same) moment)

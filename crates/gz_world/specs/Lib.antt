@@ -1,3 +1,4 @@
+pub mod Agreed
 pub mod Audit
 pub mod Bridge
 pub mod Carried
@@ -16,4 +17,5 @@ pub mod States
 pub mod Steps
 pub mod Told
 pub mod Turns
+pub mod Valued
 pub mod Weights

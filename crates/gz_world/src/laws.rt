@@ -8,6 +8,8 @@ ghost use Rattle.gz_world.specs.Listed.{AreListed};
 ghost use Rattle.gz_world.specs.Carried.{AreCarried};
 ghost use Rattle.gz_world.specs.Placed.{ArePlaced};
 ghost use Rattle.gz_world.specs.Recorded.{AreRecorded};
+ghost use Rattle.gz_world.specs.Valued.{AreValued};
+ghost use Rattle.gz_history.specs.Legal.{IsLegal};
 
 /// Of every world that is reached: the names of the calls differ, each call is that of a tale of its session, each
 /// moment of a tale was allowed when it came, and its answer, which is the call's, has its cause in what the call was
@@ -24,4 +26,17 @@ pub fn world_laws()
 /// machine of agreement.
 pub fn object_runs()
     ensures { (key : List ℕ) (s : State) → IsReached s → AllTell s → (ds : List Deed) × IsRun key s ds }
+{}
+
+/// In a world that is reached and whose sites tell what they hold, every value that a row has was given by a put of
+/// the history.
+pub fn values_are_given()
+    ensures { (s : State) → IsReached s → AllTell s → AreValued s }
+{}
+
+/// The history of a world that is reached and whose sites tell what they hold is legal: two answers that name one
+/// version of an object name one put, each put is at one version, the versions keep the order of calls that ended
+/// before others began, and a call that reads returns the bytes that the put of its version was given.
+pub fn legal()
+    ensures { (s : State) → IsReached s → AllTell s → IsLegal s.calls }
 {}

@@ -1,5 +1,4 @@
 use Rattle.gz_world.proofs.Running.{runs}
-use Rattle.gz_world.proofs.Legality.{agree, reads_a_write}
 use Rattle.gz_world.proofs.laws.object_runs.Goals as goal
 
 pub returns : goal.returns
