@@ -1,6 +1,7 @@
 pub mod Acting
 pub mod CastOrder
 pub mod Elements
+pub mod Faults
 pub mod Finishing
 pub mod Lists
 pub mod Members

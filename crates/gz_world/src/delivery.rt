@@ -6,7 +6,7 @@ ghost use Rattle.gz_model.specs.declared.casts.Cast.{Cast};
 ghost use Rattle.gz_world.specs.Audit.{with_casts, is_known};
 ghost use Rattle.gz_world.specs.States.{RequestAt, request_of, numbered, with_reply};
 ghost use Rattle.gz_world.specs.Steps.{Answers, IsReplyTo, casts_in, quiet};
-ghost use Rattle.gz_world.specs.Deliveries.{HasRoomAt, casts_written, read_reply, write_reply, AreTheSame, WasDelivered, IsSameTold};
+ghost use Rattle.gz_world.specs.Deliveries.{IsCounted, IsCountedFor, HasRoomAt, casts_written, read_reply, write_reply, AreTheSame, WasDelivered, IsSameTold};
 ghost use Rattle.gz_world.specs.Fits.{Fits, IsFitting};
 ghost use Rattle.gz_world.specs.Turns.{IsSmall};
 ghost use Rattle.gz_world.specs.Weights.{capped, reply_weight};
@@ -73,6 +73,7 @@ fn read<S: Site>(alloc: Global, sites: &mut Vec<S>, casts: &mut Casts, site: Sit
     ensures err { OnErr result (casts.new.list.items ≡ casts.old.list.items) }
     ensures len { length sites.new.items ≡ length sites.old.items }
     ensures others { OthersStay sites.old.items site sites.new.items }
+    ensures fault { IfOk result (λ reply. IsCounted S.faults sites.old.items site sites.new.items reply) }
 {
     match read_at(alloc, sites, site.index(), key) {
         Ok(read) => audit_read(alloc, casts, site, key, read_reply(read)),
@@ -115,6 +116,7 @@ fn write<S: Site>(
     ensures err { OnErr result (casts.new.list.items ≡ casts.old.list.items) }
     ensures len { length sites.new.items ≡ length sites.old.items }
     ensures others { OthersStay sites.old.items site sites.new.items }
+    ensures fault { IfOk result (λ reply. IsCounted S.faults sites.old.items site sites.new.items reply) }
 {
     let fresh = casts_of(alloc, site, key, row)?;
     casts.prepare(fresh.as_slice())?;
@@ -135,6 +137,7 @@ fn perform<S: Site>(alloc: Global, sites: &mut Vec<S>, casts: &mut Casts, site: 
     ensures err { OnErr result (casts.new.list.items ≡ casts.old.list.items) }
     ensures len { length sites.new.items ≡ length sites.old.items }
     ensures others { OthersStay sites.old.items site sites.new.items }
+    ensures fault { IfOk result (λ reply. IsCounted S.faults sites.old.items site sites.new.items reply) }
 {
     match op {
         Op::ReadRow { key } => read(alloc, sites, casts, site, key),
@@ -152,6 +155,7 @@ fn performed<S: Site>(alloc: Global, sites: &mut Vec<S>, casts: &mut Casts, requ
     ensures err { OnErr result (casts.new.list.items ≡ casts.old.list.items) }
     ensures len { length sites.new.items ≡ length sites.old.items }
     ensures others { OthersStay sites.old.items request.now.site sites.new.items }
+    ensures fault { IfOk result (λ reply. IsCounted S.faults sites.old.items request.now.site sites.new.items reply) }
 {
     perform(alloc, sites, casts, request.site, &request.op)
 }
@@ -196,6 +200,7 @@ impl<S: Site> World<S> {
         requires there { IsSome (numbered (map request_of self.old.net.items) n) }
         ensures ok { IfOk result (λ effect. WasDelivered S.told self.old self.new n effect) }
         ensures err { OnErr result (IsSameTold S.told self.old self.new) }
+        ensures fault { IfOk result (λ effect. IsCountedFor S.faults self.old n self.new) }
     {
         let tick = self.next_tick();
         let at = n as usize - 1;

@@ -4,8 +4,8 @@ use Rattle.gz_world.specs.Told.{IsToldOf}
 use Rattle.gz_world.proofs.Performing.{fits_journal}
 use Rattle.gz_world.proofs.world.World.enter.Goals as goal
 
-pub returns : goal.returns
-returns g c =
+pub returns-clause-told : goal.returns-clause-told
+returns-clause-told g c =
     let old = c.args.self.now in
     let n : length c.push_reserved.new.self.items ≡ length old.journal.items + 1 = ap length c.push_reserved.ensures.items ∙ length-append old.journal.items (c.entry_of-entry.result ∷ []) in
     (c.entry_of-entry.result, (
