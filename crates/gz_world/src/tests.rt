@@ -105,7 +105,14 @@ fn a_put_and_a_get_over_three_sites(rt: HostRuntime) -> Result<(), Fail> {
     assert_eq!(rt; (first.begin, first.end), (2, Some(14)));
     assert_eq!(rt; first.answer, Some(Answer::Ok { version }));
     assert_eq!(rt; (second.begin, second.end), (15, Some(21)));
-    assert_eq!(rt; second.answer, Some(Answer::Bytes { version, name, bytes }));
+    assert_eq!(rt;
+        second.answer,
+        Some(Answer::Bytes {
+            version,
+            name,
+            bytes
+        })
+    );
     assert_eq!(rt; world.journal.len(), 21);
     Ok(())
 }
@@ -127,7 +134,9 @@ fn two_sites_are_too_few(rt: HostRuntime) -> Result<(), Fail> {
 fn four_million_events_are_the_most(rt: HostRuntime) -> Result<(), Fail> {
     let mut world = three_sites(rt.alloc())?;
     crash_often(&mut world, Session(1), 4_000_000)?;
-    let next = world.apply(Event::Crash { session: Session(1) });
+    let next = world.apply(Event::Crash {
+        session: Session(1),
+    });
     assert_eq!(rt; next, Err(ApplyError::Full));
     Ok(())
 }
