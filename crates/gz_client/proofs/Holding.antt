@@ -21,7 +21,7 @@ use Rattle.gz_round.specs.Awaiting.{IsSiteOf, has_number, is_numbered}
 use Rattle.gz_round.specs.Following.{Ready, Turned}
 use Rattle.gz_round.proofs.Numbers.{numbered_sent, numbered_handed, numbered_gave_up, numbered_none}
 use Rattle.gz_client.specs.declared.client.Client.{Client}
-use Rattle.gz_client.specs.Tales.{Holds, HoldsRun, AreTold, AreOver, IsTold, IsAwaited, CanBeTold, Extends, going_on}
+use Rattle.gz_client.specs.Tales.{Holds, HoldsRun, AreTold, AreOver, IsTold, IsAwaited, CanBeTold, Extends, IsRunning, IsLive, IsLiveAtIn, IsLiveAtWhile, going_on}
 
 -- after an event of the newest call
 pub turned_holds : (c : Config) (session : ℕ) (w : Caller) (ts : List Tale) (run : Run) (ms : List Moment) (answer : Option Answer) (calls next : ℕ) → IsConfig c → calls ≡ length ts + 1 → w.name ≡ record { session = session; seq = length ts + 1 } → AreTold c session ts → AreOver ts →
@@ -115,3 +115,26 @@ turned_extends client run new first turn moment next t ts kept e kept_is h numbe
       subst (λ (r : Option Run). Holds (record { config = client.config; session = client.session; calls = client.calls; run = r }) (first + length turn.send) (turned first turn moment [] t ∷ ts)) (sym kept_is)
           (turned_holds client.config client.session t.caller ts new (sent_from first turn.send (moment ∷ t.moments)) turn.answer client.calls (first + length turn.send) h.sizes (omega arith) told.1 told.2 k.over after ended),
     )
+
+idle_when : (c : Config) (next : ℕ) (run : Option Run) (ts : List Tale) → HoldsRun c next run ts → (IsRunning ts → ⊥) → run ≡ None
+idle_when c next None ts h none = refl
+idle_when c next (Some run) [] h none = absurd h
+idle_when c next (Some run) (t ∷ ts) h none = absurd (none h.0)
+
+-- a client of which no call runs keeps none
+pub idle_from : (client : Client) (next : ℕ) (ts : List Tale) → Holds client next ts → (IsRunning ts → ⊥) → client.run ≡ None
+idle_from client next ts h none = idle_when client.config next client.run ts h.run_is none
+
+-- a client may be told of a request that its running call awaits
+pub can_be_told : (client : Client) (n first next : ℕ) (ts : List Tale) → Holds client next ts → IsLive client.config ts n → next ≤ first → CanBeTold client n first
+can_be_told client n first next [] h live l = absurd live
+can_be_told client n first next (t ∷ ts) h live l = (next, t, ts, live.0, h, live.1, l)
+
+is_live_at : (c : Config) (t : Tale) (ts : List Tale) (i n : ℕ) (answer : Option Answer) → t.answer ≡ answer → IsLiveAtWhile c t i (Some n) answer → IsLive c (t ∷ ts) n
+is_live_at c t ts i n None e h = (h.0.0, record { running = e; inside = h.0.1; awaits = h.0.2; number_is = h.0.3 })
+is_live_at c t ts i n (Some answer) e h = absurd (none-some n (sym h))
+
+-- a number that is told is awaited
+pub live_at_means : (c : Config) (ts : List Tale) (i n : ℕ) → IsLiveAtIn c ts i (Some n) → IsLive c ts n
+live_at_means c [] i n h = absurd (none-some n (sym h))
+live_at_means c (t ∷ ts) i n h = is_live_at c t ts i n t.answer refl h

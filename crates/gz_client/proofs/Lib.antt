@@ -2,3 +2,4 @@ pub mod Holding
 pub mod Live
 pub mod Exactly
 mod LiveRequests
+mod Driving

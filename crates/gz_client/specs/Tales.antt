@@ -13,6 +13,7 @@ use Rattle.gz_round.specs.Sites.{site_now}
 use Rattle.gz_round.specs.Sending.{AreAllowed}
 use Rattle.gz_round.specs.Counting.{IsGoing}
 use Rattle.gz_round.specs.Causes.{HasCause}
+pub use Rattle.gz_round.specs.Numbering.{awaits_number}
 use Rattle.gz_round.specs.Numbering.{AreNumbered, IsLiveAt, live_where}
 use Rattle.gz_round.specs.Standing.{IsWaiting, Runs}
 use Rattle.gz_client.specs.declared.client.Client.{Client}
@@ -62,19 +63,24 @@ abbrev pub IsRunning : List Tale → Type 0
 IsRunning [] = ⊥
 IsRunning (t ∷ ts) = t.answer ≡ None
 
--- a call that was answered awaits nothing
-abbrev pub live_while : Config → Tale → Option Answer → ℕ
-live_while c t None = live_where c (λ m. true) t.moments
-live_while c t (Some answer) = 0
+-- how many of a call's awaited requests have a number that passes a test; a call that was answered awaits nothing
+abbrev pub live_in : Config → (ℕ → Bool) → Tale → Option Answer → ℕ
+live_in c p t None = live_where c p t.moments
+live_in c p t (Some answer) = 0
+
+-- how many requests the running call awaits under such numbers, if one runs
+abbrev pub live : Config → (ℕ → Bool) → List Tale → ℕ
+live c p [] = 0
+live c p (t ∷ ts) = live_in c p t t.answer
+
+-- the running call awaits a request under this number
+abbrev pub IsLive : Config → List Tale → ℕ → Type 0
+IsLive c [] n = ⊥
+IsLive c (t ∷ ts) n = (a : Asked) × IsAwaited c t a n
 
 abbrev pub IsLiveAtWhile : Config → Tale → ℕ → Option ℕ → Option Answer → Type 0
 IsLiveAtWhile c t i n None = IsLiveAt c t.moments i n
 IsLiveAtWhile c t i n (Some answer) = n ≡ None
-
--- how many requests the running call awaits, if one runs
-abbrev pub live_count : Config → List Tale → ℕ
-live_count c [] = 0
-live_count c (t ∷ ts) = live_while c t t.answer
 
 -- the i-th lowest number of the requests that are awaited, none where there are no more
 abbrev pub IsLiveAtIn : Config → List Tale → ℕ → Option ℕ → Type 0
@@ -106,3 +112,7 @@ Extends old new n first moment turn =
 abbrev pub going_on : Run → Option Answer → Option Run
 going_on run None = Some run
 going_on run (Some answer) = None
+
+-- the client stands for at most so many tales, and its requests have numbers below `first`
+abbrev pub IsHeld : Client → ℕ → ℕ → Type 0
+IsHeld client calls first = (next : ℕ) × (ts : List Tale) × Holds client next ts × (next ≤ first) × (length ts ≤ calls)

@@ -51,20 +51,20 @@ clients_after : {S : Type 0} (old new : World S) (tales : ℕ → List Tale) (se
 clients_after old new tales session m after ts fits turn i k h =
     let o = turn.opened in
     elim (cases_eq i (session - 1)) [
-      inl e ↦
-        let place : i + 1 ≡ session = omega (arith, e, o) in
-        let there : slice_get (slice_set old.clients.items (session - 1) after) i ≡ Some after = subst (λ j. slice_get (slice_set old.clients.items (session - 1) after) j ≡ Some after) (sym e) (get_set_same old.clients.items (session - 1) m after turn.member) in
-        let both : Some after ≡ Some k = sym there ∙ h in
-        let same : after ≡ k = cc in
-        subst (λ n. StandsFor old.cfg (length (map request_of new.net.items) + 1) new.calls.items n k (with_tales tales session ts n)) (sym place)
+      | inl e ↦
+          let place : i + 1 ≡ session = omega (arith, e, o) in
+          let there : slice_get (slice_set old.clients.items (session - 1) after) i ≡ Some after = subst (λ j. slice_get (slice_set old.clients.items (session - 1) after) j ≡ Some after) (sym e) (get_set_same old.clients.items (session - 1) m after turn.member) in
+          let both : Some after ≡ Some k = sym there ∙ h in
+          let same : after ≡ k = cc in
+          subst (λ n. StandsFor old.cfg (length (map request_of new.net.items) + 1) new.calls.items n k (with_tales tales session ts n)) (sym place)
           (subst (λ q. StandsFor old.cfg (length (map request_of new.net.items) + 1) new.calls.items session k q) (sym (tales_same tales session ts))
-            (subst (λ q. StandsFor old.cfg (length (map request_of new.net.items) + 1) new.calls.items session q ts) same turn.stands))
-    | inr ne ↦
-        let there : slice_get old.clients.items i ≡ Some k = sym (get_set_other old.clients.items (session - 1) i after ne) ∙ h in
-        let apart : i + 1 ≢ session = λ e. ne (omega (arith, e)) in
-        let l = turn.longer in
-        let more : length (map request_of old.net.items) + 1 ≤ length (map request_of new.net.items) + 1 = omega (arith, l) in
-        subst (λ q. StandsFor old.cfg (length (map request_of new.net.items) + 1) new.calls.items (i + 1) k q) (sym (tales_other tales session (i + 1) ts apart))
+          (subst (λ q. StandsFor old.cfg (length (map request_of new.net.items) + 1) new.calls.items session q ts) same turn.stands))
+      | inr ne ↦
+          let there : slice_get old.clients.items i ≡ Some k = sym (get_set_other old.clients.items (session - 1) i after ne) ∙ h in
+          let apart : i + 1 ≢ session = λ e. ne (omega (arith, e)) in
+          let l = turn.longer in
+          let more : length (map request_of old.net.items) + 1 ≤ length (map request_of new.net.items) + 1 = omega (arith, l) in
+          subst (λ q. StandsFor old.cfg (length (map request_of new.net.items) + 1) new.calls.items (i + 1) k q) (sym (tales_other tales session (i + 1) ts apart))
           (stands_more old.cfg (length (map request_of old.net.items) + 1) (length (map request_of new.net.items) + 1) old.calls.items new.calls.items (i + 1) k (tales (i + 1)) more turn.names (fits.clients i k there))
     ]
 
@@ -86,16 +86,16 @@ fits_turn old new tales session m after ts fits small turn =
       sites = omega (arith, n, sites, enough);
       requests = subst (λ k. ArePlaced k (length new.clients.items) (map request_of new.net.items)) (sym n) (subst (λ k. ArePlaced old.cfg.n k (map request_of new.net.items)) (sym members) turn.requests);
       clients = λ i k h. subst (λ c. StandsFor c (length (map request_of new.net.items) + 1) new.calls.items (i + 1) k (with_tales tales session ts (i + 1))) (sym cfg)
-        (clients_after old new tales session m after ts fits turn i k (subst (λ xs. slice_get xs i ≡ Some k) turn.clients h));
+          (clients_after old new tales session m after ts fits turn i k (subst (λ xs. slice_get xs i ≡ Some k) turn.clients h));
       unopened = λ k l.
-        let apart : k ≢ session = λ e. absurd (omega (arith, e, l, members, below, opened)) in
-        let far : length old.clients.items < k = omega (arith, l, members) in
-        tales_other tales session k ts apart ∙ fits.unopened k far;
+          let apart : k ≢ session = λ e. absurd (omega (arith, e, l, members, below, opened)) in
+          let far : length old.clients.items < k = omega (arith, l, members) in
+          tales_other tales session k ts apart ∙ fits.unopened k far;
       zeroth = let apart : 0 ≢ session = λ e. absurd (omega (arith, e, opened)) in tales_other tales session 0 ts apart ∙ fits.zeroth;
       few = λ k. elim (cases_eq k session) [
-          inl e ↦ subst (λ q. length (with_tales tales session ts q) ≤ length old.journal.items + 1) (sym e) (subst (λ q. length q ≤ length old.journal.items + 1) (sym (tales_same tales session ts)) turn.few)
+        | inl e ↦ subst (λ q. length (with_tales tales session ts q) ≤ length old.journal.items + 1) (sym e) (subst (λ q. length q ≤ length old.journal.items + 1) (sym (tales_same tales session ts)) turn.few)
         | inr ne ↦ subst (λ q. length q ≤ length old.journal.items + 1) (sym (tales_other tales session k ts ne)) (let f = few k in omega (arith, f))
-        ];
+      ];
       weighs = turn.weighs;
       opened = omega (arith, members, was);
       bounded = omega (arith, events);
@@ -186,36 +186,41 @@ told_turn told old new tales n r marked moment m last c client turn effect fits 
         last_is = (answered tick turn.answer c, (turned first turn (moment a) closing t, (earlier, (subst (λ xs. slice_get xs last ≡ Some (answered tick turn.answer c)) (sym b.calls) (get_set_same old.calls.items last c (answered tick turn.answer c) b.record_is), (refl, answered_name tick turn.answer c ∙ name)))));
       };
       requests = subst (ArePlaced old.cfg.n (length old.clients.items)) (sym b.net)
-        (placed_append old.cfg.n (length old.clients.items) (slice_set (map request_of old.net.items) (n - 1) marked) (sent_requests c.name tick turn.send)
+          (placed_append old.cfg.n (length old.clients.items) (slice_set (map request_of old.net.items) (n - 1) marked) (sent_requests c.name tick turn.send)
           (placed_set old.cfg.n (length old.clients.items) (map request_of old.net.items) (n - 1) marked fits.requests
-            (record { opened = subst (λ (k : Name). 1 ≤ k.session) (sym name_same) placed.opened; session = subst (λ (k : Name). k.session ≤ length old.clients.items) (sym name_same) placed.session; site = subst (λ k. k < old.cfg.n) (sym site_same) placed.site }))
+          (record { opened = subst (λ (k : Name). 1 ≤ k.session) (sym name_same) placed.opened; session = subst (λ (k : Name). k.session ≤ length old.clients.items) (sym name_same) placed.session; site = subst (λ k. k < old.cfg.n) (sym site_same) placed.site }))
           (placed_sent old.cfg.n (length old.clients.items) c.name tick turn.send (omega (arith, own, opened)) (omega (arith, own, within)) sent));
       longer = omega (arith, grown);
       weighs = omega (arith, grown, heavy, weighed, held);
       rest = b.rest;
       few = omega (arith, count, few);
-    } in
-    (record { tale = t; earlier = earlier; asked = a; turn = turn; closing = closing },
-    (with_tales tales session ts,
-    (fits_turn old new tales session m after ts fits small of,
-    record {
-      request = b.request;
-      tales = is;
-      awaited = subst (λ k. IsAwaited k t a n) s.config_is f.1.1.1.1;
-      closing = x.1;
-      moves = record {
-        sessions = ap length b.clients ∙ length-set old.clients.items (session - 1) after;
-        crashed = λ k. ap (λ xs. crashed_in xs k) b.clients ∙ crashed_stays old.clients.items (session - 1) m after b.member refl k;
-        tales = λ k. refl;
-        told = told_by;
-      };
-      calls = (last, (c, (b.record_is, (name, b.calls))));
-      net = subst (λ k. map request_of new.net.items ≡ slice_set (map request_of old.net.items) (n - 1) marked ++ sent_requests k tick turn.send) name b.net;
-      held = b.held;
-      sites = untouched_sites told old new tales (with_tales tales session ts) b.rest;
-      frame = untouched_frame told old new tales (with_tales tales session ts) b.rest;
-      effect_is = b.effect_is;
-    })))
+    } in (
+      record { tale = t; earlier = earlier; asked = a; turn = turn; closing = closing },
+      (
+        with_tales tales session ts,
+        (
+          fits_turn old new tales session m after ts fits small of,
+          record {
+            request = b.request;
+            tales = is;
+            awaited = subst (λ k. IsAwaited k t a n) s.config_is f.1.1.1.1;
+            closing = x.1;
+            moves = record {
+              sessions = ap length b.clients ∙ length-set old.clients.items (session - 1) after;
+              crashed = λ k. ap (λ xs. crashed_in xs k) b.clients ∙ crashed_stays old.clients.items (session - 1) m after b.member refl k;
+              tales = λ k. refl;
+              told = told_by;
+            };
+            calls = (last, (c, (b.record_is, (name, b.calls))));
+            net = subst (λ k. map request_of new.net.items ≡ slice_set (map request_of old.net.items) (n - 1) marked ++ sent_requests k tick turn.send) name b.net;
+            held = b.held;
+            sites = untouched_sites told old new tales (with_tales tales session ts) b.rest;
+            frame = untouched_frame told old new tales (with_tales tales session ts) b.rest;
+            effect_is = b.effect_is;
+          },
+        ),
+      ),
+    )
 
 -- a session begins a call
 pub begun_turn : {S : Type 0} (told : S → Option Told) (old new : World S) (tales : ℕ → List Tale) (session : ℕ) (call : Call) (effect : Effect) → Fits tales old → IsSmall old → Began old new session call effect
@@ -262,26 +267,32 @@ begun_turn told old new tales session call effect fits small began =
         last_is = (rec, (begun session call first turn ts, (ts, (subst (λ xs. slice_get xs (length old.calls.items) ≡ Some rec) (sym b.calls) (get_last old.calls.items rec), (refl, named)))));
       };
       requests = subst (ArePlaced old.cfg.n (length old.clients.items)) (sym b.net)
-        (placed_append old.cfg.n (length old.clients.items) (map request_of old.net.items) outs fits.requests
+          (placed_append old.cfg.n (length old.clients.items) (map request_of old.net.items) outs fits.requests
           (placed_sent old.cfg.n (length old.clients.items) name tick turn.send (omega (arith, own, opened)) (omega (arith, own, below, opened)) sent));
       longer = omega (arith, grown);
       weighs = omega (arith, grown, heavy, weighed, held);
       rest = b.rest;
       few = omega (arith, few);
-    } in
-    (with_tales tales session more,
-    (fits_turn old new tales session m after more fits small of,
-    (turn, record {
-      moves = record {
-        sessions = ap length b.clients ∙ length-set old.clients.items (session - 1) after;
-        crashed = λ k. ap (λ xs. crashed_in xs k) b.clients ∙ crashed_stays old.clients.items (session - 1) m after b.member refl k;
-        tales = λ k. refl;
-        told = told_by;
-      };
-      calls = subst (λ (k : Name). new.calls.items ≡ old.calls.items ++ record { name = k; call = call; begin = tick; end = end_at tick turn.answer; answer = turn.answer } ∷ []) named b.calls;
-      net = subst (λ (k : Name). map request_of new.net.items ≡ map request_of old.net.items ++ sent_requests k tick turn.send) named b.net;
-      held = b.held;
-      sites = untouched_sites told old new tales (with_tales tales session more) b.rest;
-      frame = untouched_frame told old new tales (with_tales tales session more) b.rest;
-      effect_is = b.effect_is;
-    })))
+    } in (
+      with_tales tales session more,
+      (
+        fits_turn old new tales session m after more fits small of,
+        (
+          turn,
+          record {
+            moves = record {
+              sessions = ap length b.clients ∙ length-set old.clients.items (session - 1) after;
+              crashed = λ k. ap (λ xs. crashed_in xs k) b.clients ∙ crashed_stays old.clients.items (session - 1) m after b.member refl k;
+              tales = λ k. refl;
+              told = told_by;
+            };
+            calls = subst (λ (k : Name). new.calls.items ≡ old.calls.items ++ record { name = k; call = call; begin = tick; end = end_at tick turn.answer; answer = turn.answer } ∷ []) named b.calls;
+            net = subst (λ (k : Name). map request_of new.net.items ≡ map request_of old.net.items ++ sent_requests k tick turn.send) named b.net;
+            held = b.held;
+            sites = untouched_sites told old new tales (with_tales tales session more) b.rest;
+            frame = untouched_frame told old new tales (with_tales tales session more) b.rest;
+            effect_is = b.effect_is;
+          },
+        ),
+      ),
+    )

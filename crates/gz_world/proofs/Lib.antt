@@ -5,6 +5,7 @@ pub mod CastOrder
 pub mod CastRuns
 pub mod Currents
 pub mod Elements
+pub mod Faults
 pub mod Finishing
 pub mod Growing
 pub mod Guarding

@@ -49,8 +49,11 @@ none_crashed xs zero e = refl
 none_crashed xs (suc n) e = ap (λ ys. crashed_in ys (suc n)) e ∙ ap (λ o. unwrap_or (option_map (λ (k : Member). k.crashed) o) false) (numbered_suc [] n)
 
 pub reached_opened : {S : Type 0} (told : S → Option Told) (cfg : Config) (sites : List S) (w : World S) → IsConfig cfg → cfg.n ≤ length sites → IsOpened cfg sites w → AreEmpty told sites → IsReachedBy told w
-reached_opened told cfg sites w config enough o empty =
-    (no_tales_yet, (fits_opened cfg sites w config enough o, opened (state_of told no_tales_yet w) (record {
+reached_opened told cfg sites w config enough o empty = (
+  no_tales_yet,
+  (
+    fits_opened cfg sites w config enough o,
+    opened (state_of told no_tales_yet w) (record {
       config = subst IsConfig (sym o.cfg_is) config;
       sites = λ i. subst (λ xs. IfSome (told_at told xs i) IsEmpty) (sym o.sites_are) (empty i);
       sessions = ap length o.clients;
@@ -61,4 +64,6 @@ reached_opened told cfg sites w config enough o empty =
       casts = o.casts;
       calls = o.calls;
       held = o.held;
-    })))
+    }),
+  ),
+)

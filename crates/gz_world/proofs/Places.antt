@@ -29,8 +29,8 @@ get_of_two [] ys i x h = inr (i, (omega arith, h))
 get_of_two (z ∷ zs) ys zero x h = inl h
 get_of_two (z ∷ zs) ys (suc i) x h =
     elim (get_of_two zs ys i x h) [
-      inl e ↦ inl e
-    | inr e ↦ let p = e.1.0 in inr (e.0, (omega (arith, p), e.1.1))
+      | inl e ↦ inl e
+      | inr e ↦ let p = e.1.0 in inr (e.0, (omega (arith, p), e.1.1))
     ]
 
 -- the element that was put at the end

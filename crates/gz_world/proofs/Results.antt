@@ -6,6 +6,10 @@ pub if_ok_map : {T E : Type 0} (r : Result T E) (P Q : T → Type 0) → ((x : T
 if_ok_map (Ok x) P Q f h = f x h
 if_ok_map (Err e) P Q f h = h
 
+pub if_ok_any : {T E : Type 0} (r : Result T E) (P : T → Type 0) → ((x : T) → P x) → IfOk r P
+if_ok_any (Ok x) P f = f x
+if_ok_any (Err e) P f = tt
+
 pub on_ok_map : {T E : Type 0} (r : Result T E) (P Q : Type 0) → (P → Q) → OnOk r P → OnOk r Q
 on_ok_map (Ok x) P Q f h = f h
 on_ok_map (Err e) P Q f h = h

@@ -42,12 +42,12 @@ answered_name tick (Some a) c = refl
 pub names_answered : (calls : List CallRec) (last : ℕ) (c : CallRec) (tick : ℕ) (o : _) → slice_get calls last ≡ Some c → NamesStay calls (slice_set calls last (answered tick o c))
 names_answered calls last c tick o at i d h =
     elim (cases_eq i last) [
-      inl e ↦
-        let h' : slice_get calls last ≡ Some d = subst (λ k. slice_get calls k ≡ Some d) e h in
-        let same : Some c ≡ Some d = sym at ∙ h' in
-        let cd : c ≡ d = cc in
-        (answered tick o c, (subst (λ k. slice_get (slice_set calls last (answered tick o c)) k ≡ Some (answered tick o c)) (sym e) (get_set_same calls last c (answered tick o c) at), answered_name tick o c ∙ ap (λ (k : CallRec). k.name) cd))
-    | inr ne ↦ (d, (get_set_other calls last i (answered tick o c) ne ∙ h, refl))
+      | inl e ↦
+          let h' : slice_get calls last ≡ Some d = subst (λ k. slice_get calls k ≡ Some d) e h in
+          let same : Some c ≡ Some d = sym at ∙ h' in
+          let cd : c ≡ d = cc in
+          (answered tick o c, (subst (λ k. slice_get (slice_set calls last (answered tick o c)) k ≡ Some (answered tick o c)) (sym e) (get_set_same calls last c (answered tick o c) at), answered_name tick o c ∙ ap (λ (k : CallRec). k.name) cd))
+      | inr ne ↦ (d, (get_set_other calls last i (answered tick o c) ne ∙ h, refl))
     ]
 
 last_more : (old new : List CallRec) (o : Option ℕ) (ts : List Tale) → NamesStay old new → IsLast old o ts → IsLast new o ts
@@ -89,8 +89,8 @@ placed_at n sessions (x ∷ xs) (suc at) y p q r h = placed_at n sessions xs at 
 pub placed_set : (n sessions : ℕ) (xs : List RequestAt) (at : ℕ) (y : RequestAt) → ArePlaced n sessions xs → IsPlaced n sessions y → ArePlaced n sessions (slice_set xs at y)
 placed_set n sessions xs at y p q i r h =
     elim (cases_eq i at) [
-      inl e ↦ placed_at n sessions xs at y p q r (subst (λ k. slice_get (slice_set xs at y) k ≡ Some r) e h)
-    | inr ne ↦ p i r (sym (get_set_other xs at i y ne) ∙ h)
+      | inl e ↦ placed_at n sessions xs at y p q r (subst (λ k. slice_get (slice_set xs at y) k ≡ Some r) e h)
+      | inr ne ↦ p i r (sym (get_set_other xs at i y ne) ∙ h)
     ]
 
 pub placed_sent : (n sessions : ℕ) (name : Name) (tick : ℕ) (outs : List Out) → 1 ≤ name.session → name.session ≤ sessions → ((j : ℕ) (o : Out) → slice_get outs j ≡ Some o → o.site < n) → ArePlaced n sessions (sent_requests name tick outs)
@@ -126,9 +126,9 @@ outs_heavy (o ∷ os) = let h = outs_heavy os in let k = op_heavy o.op in let e 
 crashed_there : (xs : List Member) (at : ℕ) (m y : Member) → slice_get xs at ≡ Some m → y.crashed ≡ m.crashed → (i : ℕ) → option_map (λ (k : Member). k.crashed) (slice_get (slice_set xs at y) i) ≡ option_map (λ (k : Member). k.crashed) (slice_get xs i)
 crashed_there xs at m y here same i =
     elim (cases_eq i at) [
-      inl e ↦ subst (λ k. option_map (λ (k : Member). k.crashed) (slice_get (slice_set xs at y) k) ≡ option_map (λ (k : Member). k.crashed) (slice_get xs k)) (sym e)
-        (ap (option_map (λ (k : Member). k.crashed)) (get_set_same xs at m y here) ∙ ap Some same ∙ sym (ap (option_map (λ (k : Member). k.crashed)) here))
-    | inr ne ↦ ap (option_map (λ (k : Member). k.crashed)) (get_set_other xs at i y ne)
+      | inl e ↦ subst (λ k. option_map (λ (k : Member). k.crashed) (slice_get (slice_set xs at y) k) ≡ option_map (λ (k : Member). k.crashed) (slice_get xs k)) (sym e)
+          (ap (option_map (λ (k : Member). k.crashed)) (get_set_same xs at m y here) ∙ ap Some same ∙ sym (ap (option_map (λ (k : Member). k.crashed)) here))
+      | inr ne ↦ ap (option_map (λ (k : Member). k.crashed)) (get_set_other xs at i y ne)
     ]
 
 pub crashed_stays : (xs : List Member) (at : ℕ) (m y : Member) → slice_get xs at ≡ Some m → y.crashed ≡ m.crashed → (n : ℕ) → crashed_in (slice_set xs at y) n ≡ crashed_in xs n

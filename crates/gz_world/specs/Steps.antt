@@ -120,8 +120,12 @@ pub record SessionMoves (old : State) (session : ℕ) (ts : List Tale) (new : St
 pub record BeginsBy (old : State) (session : ℕ) (call : Call) (turn : Turn) (effect : Effect) (new : State) : Type 0 where
   pub moves : SessionMoves old session (begun session call (next_of old) turn (old.tales session) ∷ old.tales session) new
   pub calls : new.calls ≡ old.calls ++ record {
-      name = record { session = session; seq = length (old.tales session) + 1 }; call = call; begin = tick_of old;
-      end = end_at (tick_of old) turn.answer; answer = turn.answer } ∷ []
+    name = record { session = session; seq = length (old.tales session) + 1 };
+    call = call;
+    begin = tick_of old;
+    end = end_at (tick_of old) turn.answer;
+    answer = turn.answer;
+  } ∷ []
   pub net : new.net ≡ old.net ++ sent_requests (record { session = session; seq = length (old.tales session) + 1 }) (tick_of old) turn.send
   pub held : new.held ≡ capped (old.held + call_bytes call + outs_weight turn.send)
   pub sites : SitesStay old new

@@ -1,13 +1,14 @@
 //! One event of the world.
-ghost use Rattle.std.specs.Prelude.{◌≡◌, ℕ, ◌+◌, ◌<◌, ◌≤◌, ◌⊎◌, ◌↔◌, List, length, IfOk, OnErr, Ok, Err, Some, None, IsTrue, false, vec_len, vec_capacity};
+ghost use Rattle.std.specs.Prelude.{◌≡◌, ℕ, ◌+◌, ◌<◌, ◌≤◌, ◌⊎◌, ◌↔◌, List, length, IfOk, OnErr, Ok, Err, Some, None, IsTrue, true, false, vec_len, vec_capacity};
 ghost use Rattle.gz_round.specs.History.{Tale};
 ghost use Rattle.gz_world.specs.declared.events.Effect.{Effect};
 ghost use Rattle.gz_world.specs.declared.events.Entry.{Entry};
 ghost use Rattle.gz_world.specs.declared.events.Event.{Event};
 ghost use Rattle.gz_client.specs.Lowest.{IsLowestLive};
-ghost use Rattle.gz_client.specs.Tales.{live_count, IsLiveAtIn};
+ghost use Rattle.gz_client.specs.Tales.{live, IsLiveAtIn};
 ghost use Rattle.gz_world.specs.Bridge.{state_of};
 ghost use Rattle.gz_world.specs.Counting.{IsFull};
+ghost use Rattle.gz_world.specs.Deliveries.{IsCountedFor};
 ghost use Rattle.gz_world.specs.Fits.{FitsBy, Fits, IsFitting, IsBounded};
 ghost use Rattle.gz_world.specs.Refusals.{refusal_of};
 ghost use Rattle.gz_world.specs.Steps.{last_name, name_at, last_call, IsLowestOf, IsEntryOf};
@@ -82,7 +83,7 @@ impl<S: Site> World<S> {
 
     /// How many requests of a session are live. Takes no memory.
     pub fn live_count(&self, session: Session) -> u32
-        ensures { (events : ℕ) (tales : ℕ → List Tale) → FitsBy events tales self.now → result ≡ live_count self.now.cfg (tales session) }
+        ensures { (events : ℕ) (tales : ℕ → List Tale) → FitsBy events tales self.now → result ≡ live self.now.cfg (λ m. true) (tales session) }
     {
         match self.member(session) {
             Some(member) => member.client.live_count(),
@@ -120,6 +121,7 @@ impl<S: Site> World<S> {
         ensures acts { IfOk result (λ effect. ActsBy S.told self.old event.now self.new effect) }
         ensures err { OnErr result (StaysBy S.told self.old self.new) }
         ensures journal { self.new.journal ≡ self.old.journal }
+        ensures fault { IfOk result (λ effect. (n : ℕ) → event.now ≡ Event.Deliver n → IsCountedFor S.faults self.old n self.new) }
     {
         match event {
             Event::OpenSession => self.open_session(),
@@ -139,6 +141,7 @@ impl<S: Site> World<S> {
         ensures acts { IfOk result (λ effect. ActsBy S.told self.old event.now self.new effect) }
         ensures err { OnErr result (StaysBy S.told self.old self.new) }
         ensures journal { self.new.journal ≡ self.old.journal }
+        ensures fault { IfOk result (λ effect. (n : ℕ) → event.now ≡ Event.Deliver n → IsCountedFor S.faults self.old n self.new) }
     {
         match self.refusal(event) {
             Some(why) => Ok(quiet(Outcome::Skipped { why }, self.session_of(event))),
@@ -150,7 +153,9 @@ impl<S: Site> World<S> {
     fn enter(&mut self, event: Event, effect: Effect) -> Applied
         requires room { vec_len self.old.journal < vec_capacity self.old.journal }
         requires events { length self.old.journal.items < 4000000 }
-        ensures { (entry : Entry) × (RecordedBy S.told self.old event effect self.new entry × IsToldOf (length self.new.journal.items) entry effect result) }
+        ensures told { (entry : Entry) × (RecordedBy S.told self.old event effect self.new entry × IsToldOf (length self.new.journal.items) entry effect result) }
+        ensures net { self.new.net ≡ self.old.net }
+        ensures sites { self.new.sites ≡ self.old.sites }
     {
         let tick = self.next_tick();
         let entry = self.entry_of(event, &effect);
@@ -181,6 +186,7 @@ impl<S: Site> World<S> {
         requires bounded { IsBounded event }
         ensures step { IfOk result (λ applied. StepsBy S.told self.old event self.new applied) }
         ensures err { OnErr result (StaysBy S.told self.old self.new) }
+        ensures fault { IfOk result (λ applied. (n : ℕ) → event ≡ Event.Deliver n → IsCountedFor S.faults self.old n self.new) }
     {
         self.journal.reserve(1)?;
         let effect = self.act(&event)?;
@@ -195,6 +201,9 @@ impl<S: Site> World<S> {
         ensures fits { IsFitting self.new }
         ensures step { IfOk result (λ applied. StepsBy S.told self.old event self.new applied) }
         ensures err { OnErr result (StaysBy S.told self.old self.new) }
+
+        // A reply that tells of a fault is kept only where the site counted one.
+        ensures fault { IfOk result (λ applied. (n : ℕ) → event ≡ Event.Deliver n → IsCountedFor S.faults self.old n self.new) }
 
         // Full comes exactly at the bounds; want of memory comes first, once it came.
         ensures full { (result ≡ Err ApplyError.Full) ↔ ((self.old.spent ≡ false) × IsFull self.old) }

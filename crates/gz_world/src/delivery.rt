@@ -6,7 +6,7 @@ ghost use Rattle.gz_model.specs.declared.casts.Cast.{Cast};
 ghost use Rattle.gz_world.specs.Audit.{with_casts, is_known};
 ghost use Rattle.gz_world.specs.States.{RequestAt, request_of, numbered, with_reply};
 ghost use Rattle.gz_world.specs.Steps.{Answers, IsReplyTo, casts_in, quiet};
-ghost use Rattle.gz_world.specs.Deliveries.{HasRoomAt, casts_written, read_reply, write_reply, AreTheSame, WasDelivered, IsSameTold};
+ghost use Rattle.gz_world.specs.Deliveries.{IsCounted, IsCountedFor, HasRoomAt, casts_written, read_reply, write_reply, AreTheSame, WasDelivered, IsSameTold};
 ghost use Rattle.gz_world.specs.Fits.{Fits, IsFitting};
 ghost use Rattle.gz_world.specs.Turns.{IsSmall};
 ghost use Rattle.gz_world.specs.Weights.{capped, reply_weight};
@@ -33,7 +33,12 @@ fn read_reply(read: RowRead) -> Reply
 }
 
 /// The votes that the reply to a read shows.
-fn casts_read(alloc: Global, site: SiteId, key: &Key, reply: &Reply) -> Result<Vec<Cast>, AllocError>
+fn casts_read(
+    alloc: Global,
+    site: SiteId,
+    key: &Key,
+    reply: &Reply,
+) -> Result<Vec<Cast>, AllocError>
     ensures { IfOk result (λ casts. casts.items ≡ casts_in site (Op.ReadRow key.now) reply.now) }
 {
     match reply {
@@ -53,7 +58,13 @@ fn add_casts(casts: &mut Casts, fresh: Vec<Cast>) -> Result<(), AllocError>
 }
 
 /// Keeps the votes that the reply to a read shows.
-fn audit_read(alloc: Global, casts: &mut Casts, site: SiteId, key: &Key, reply: Reply) -> Result<Reply, AllocError>
+fn audit_read(
+    alloc: Global,
+    casts: &mut Casts,
+    site: SiteId,
+    key: &Key,
+    reply: Reply,
+) -> Result<Reply, AllocError>
     ensures reply { IfOk result (λ r. r ≡ reply) }
     ensures ok { OnOk result (casts.new.list.items ≡ with_casts casts.old.list.items (casts_in site (Op.ReadRow key.now) reply)) }
     ensures err { OnErr result (casts.new.list.items ≡ casts.old.list.items) }
@@ -64,7 +75,13 @@ fn audit_read(alloc: Global, casts: &mut Casts, site: SiteId, key: &Key, reply: 
 }
 
 /// Reads a row at a site.
-fn read<S: Site>(alloc: Global, sites: &mut Vec<S>, casts: &mut Casts, site: SiteId, key: &Key) -> Result<Reply, AllocError>
+fn read<S: Site>(
+    alloc: Global,
+    sites: &mut Vec<S>,
+    casts: &mut Casts,
+    site: SiteId,
+    key: &Key,
+) -> Result<Reply, AllocError>
     requires { site < length sites.old.items }
     ensures kind { IfOk result (λ reply. IsReplyTo (Op.ReadRow key.now) reply) }
     ensures step { IfOk result (λ reply. TellsAt S.told sites.old.items site sites.new.items (λ old new. Answers old (Op.ReadRow key.now) reply new)) }
@@ -73,6 +90,7 @@ fn read<S: Site>(alloc: Global, sites: &mut Vec<S>, casts: &mut Casts, site: Sit
     ensures err { OnErr result (casts.new.list.items ≡ casts.old.list.items) }
     ensures len { length sites.new.items ≡ length sites.old.items }
     ensures others { OthersStay sites.old.items site sites.new.items }
+    ensures fault { IfOk result (λ reply. IsCounted S.faults sites.old.items site sites.new.items reply) }
 {
     match read_at(alloc, sites, site.index(), key) {
         Ok(read) => audit_read(alloc, casts, site, key, read_reply(read)),
@@ -115,6 +133,7 @@ fn write<S: Site>(
     ensures err { OnErr result (casts.new.list.items ≡ casts.old.list.items) }
     ensures len { length sites.new.items ≡ length sites.old.items }
     ensures others { OthersStay sites.old.items site sites.new.items }
+    ensures fault { IfOk result (λ reply. IsCounted S.faults sites.old.items site sites.new.items reply) }
 {
     let fresh = casts_of(alloc, site, key, row)?;
     casts.prepare(fresh.as_slice())?;
@@ -126,7 +145,13 @@ fn write<S: Site>(
 }
 
 /// Performs an operation at a site. Memory is taken before the site is changed.
-fn perform<S: Site>(alloc: Global, sites: &mut Vec<S>, casts: &mut Casts, site: SiteId, op: &Op) -> Result<Reply, AllocError>
+fn perform<S: Site>(
+    alloc: Global,
+    sites: &mut Vec<S>,
+    casts: &mut Casts,
+    site: SiteId,
+    op: &Op,
+) -> Result<Reply, AllocError>
     requires { site < length sites.old.items }
     ensures kind { IfOk result (λ reply. IsReplyTo op.now reply) }
     ensures step { IfOk result (λ reply. TellsAt S.told sites.old.items site sites.new.items (λ old new. Answers old op.now reply new)) }
@@ -135,15 +160,26 @@ fn perform<S: Site>(alloc: Global, sites: &mut Vec<S>, casts: &mut Casts, site: 
     ensures err { OnErr result (casts.new.list.items ≡ casts.old.list.items) }
     ensures len { length sites.new.items ≡ length sites.old.items }
     ensures others { OthersStay sites.old.items site sites.new.items }
+    ensures fault { IfOk result (λ reply. IsCounted S.faults sites.old.items site sites.new.items reply) }
 {
     match op {
         Op::ReadRow { key } => read(alloc, sites, casts, site, key),
-        Op::WriteRow { key, expect, row, .. } => write(alloc, sites, casts, site, key, *expect, row),
+        Op::WriteRow {
+            key,
+            expect,
+            row,
+            ..
+        } => write(alloc, sites, casts, site, key, *expect, row),
     }
 }
 
 /// Performs a request at its site.
-fn performed<S: Site>(alloc: Global, sites: &mut Vec<S>, casts: &mut Casts, request: &Request) -> Result<Reply, AllocError>
+fn performed<S: Site>(
+    alloc: Global,
+    sites: &mut Vec<S>,
+    casts: &mut Casts,
+    request: &Request,
+) -> Result<Reply, AllocError>
     requires { request.now.site < length sites.old.items }
     ensures kind { IfOk result (λ reply. IsReplyTo request.now.op reply) }
     ensures step { IfOk result (λ reply. TellsAt S.told sites.old.items request.now.site sites.new.items (λ old new. Answers old request.now.op reply new)) }
@@ -152,6 +188,7 @@ fn performed<S: Site>(alloc: Global, sites: &mut Vec<S>, casts: &mut Casts, requ
     ensures err { OnErr result (casts.new.list.items ≡ casts.old.list.items) }
     ensures len { length sites.new.items ≡ length sites.old.items }
     ensures others { OthersStay sites.old.items request.now.site sites.new.items }
+    ensures fault { IfOk result (λ reply. IsCounted S.faults sites.old.items request.now.site sites.new.items reply) }
 {
     perform(alloc, sites, casts, request.site, &request.op)
 }
@@ -196,6 +233,7 @@ impl<S: Site> World<S> {
         requires there { IsSome (numbered (map request_of self.old.net.items) n) }
         ensures ok { IfOk result (λ effect. WasDelivered S.told self.old self.new n effect) }
         ensures err { OnErr result (IsSameTold S.told self.old self.new) }
+        ensures fault { IfOk result (λ effect. IsCountedFor S.faults self.old n self.new) }
     {
         let tick = self.next_tick();
         let at = n as usize - 1;

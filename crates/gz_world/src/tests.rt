@@ -61,6 +61,17 @@ fn settle(world: &mut World<MemSite>, session: Session) -> Result<(), Fail>
     Ok(())
 }
 
+/// Crashes a session that isn't there, so many times.
+fn crash_often(world: &mut World<MemSite>, session: Session, count: u32) -> Result<(), Fail>
+    requires { IsFitting world.old }
+    ensures { IsFitting world.new }
+{
+    for _ in 0..count {
+        apply(world, Event::Crash { session })?;
+    }
+    Ok(())
+}
+
 fn key_of(alloc: Global, byte: u8) -> Result<Key, Fail> {
     match Key::new(Vec::from_slice(alloc, &[byte])?) {
         Some(key) => Ok(key),
@@ -94,7 +105,14 @@ fn a_put_and_a_get_over_three_sites(rt: HostRuntime) -> Result<(), Fail> {
     assert_eq!(rt; (first.begin, first.end), (2, Some(14)));
     assert_eq!(rt; first.answer, Some(Answer::Ok { version }));
     assert_eq!(rt; (second.begin, second.end), (15, Some(21)));
-    assert_eq!(rt; second.answer, Some(Answer::Bytes { version, name, bytes }));
+    assert_eq!(rt;
+        second.answer,
+        Some(Answer::Bytes {
+            version,
+            name,
+            bytes
+        })
+    );
     assert_eq!(rt; world.journal.len(), 21);
     Ok(())
 }
@@ -110,4 +128,15 @@ fn two_sites_are_too_few(rt: HostRuntime) -> Result<(), Fail> {
             Ok(())
         }
     }
+}
+
+#[test]
+fn four_million_events_are_the_most(rt: HostRuntime) -> Result<(), Fail> {
+    let mut world = three_sites(rt.alloc())?;
+    crash_often(&mut world, Session(1), 4_000_000)?;
+    let next = world.apply(Event::Crash {
+        session: Session(1),
+    });
+    assert_eq!(rt; next, Err(ApplyError::Full));
+    Ok(())
 }

@@ -10,7 +10,7 @@ invariant_of-self c =
     let w : (q : Cast) → listed_in (c.get_mut.follows.lender true).entries q ≡ cond (same_cast c.args.cast q) (Some true) (listed_in c.args.self.now.index.entries q) = λ q. grind (arith, common_steps) in
     record {
       tied = λ q. ap (λ xs. is_listed xs q) c.push_reserved.ensures.items
-        ∙ tied_added c.args.self.now.list.items c.args.self.now.index.entries (c.get_mut.follows.lender true).entries c.args.cast w c.args.self.now.tied q;
+          ∙ tied_added c.args.self.now.list.items c.args.self.now.index.entries (c.get_mut.follows.lender true).entries c.args.cast w c.args.self.now.tied q;
     }
 
 pub invariant_of-self-else-not-listed : goal.invariant_of-self-else-not-listed
