@@ -1,7 +1,7 @@
 -- A delivery keeps the run of each object.
 use Rattle.std.proofs.Common.{◌≡◌, ◌≢◌, ℕ, zero, suc, ◌+◌, ◌-◌, ◌<◌, ◌≤◌, ◌⊎◌, inl, inr, List, [], ◌∷◌, ◌++◌, Some, None, Bool, true, false, length, refl, ap, sym, ◌∙◌, subst, arith}
 use Rattle.std.proofs.lemmas.Bool.{cases_eq}
-use Rattle.std.specs.Prelude.{Option, IsSome, slice_get, slice_set}
+use Rattle.std.specs.Prelude.{Option, IsSome, ◌||◌, slice_get, slice_set}
 use Rattle.gz_core.specs.Names.{Name}
 use Rattle.gz_core.specs.Calls.{key_of}
 use Rattle.gz_core.specs.declared.configuration.Config.{Config}
@@ -11,14 +11,16 @@ use Rattle.gz_site.specs.Told.{Told, Tells}
 use Rattle.gz_history.specs.Answers.{shows}
 use Rattle.gz_history.specs.Legal.{IsBefore}
 use Rattle.gz_history.specs.declared.record.CallRec.{CallRec}
-use Rattle.gz_ledger.specs.Histories.{Seen, Write, IsIn}
-use Rattle.gz_ledger.specs.Deeds.{Store, Asked as AskedOf, Deed, after_deeds, AreDeeds, late_rows, sent_after, writes_of}
+use Rattle.gz_model.specs.Casts.{has_cast}
+use Rattle.gz_ledger.specs.Histories.{Seen, Write, IsIn, cast}
+use Rattle.gz_ledger.specs.Deeds.{Store, Asked as AskedOf, Deed, after_deeds, AreDeeds, late_rows, seen_after, sent_after, writes_of}
 use Rattle.gz_world.specs.declared.events.Effect.{Effect}
 use Rattle.gz_world.specs.Heard.{unused, SeenStands, AskedHere, CleanOp}
 use Rattle.gz_world.specs.Reached.{AllTell}
 use Rattle.gz_world.specs.Runs.{SiteStands, key_asked, RequestStands, IsSentBy, IsShownAt, IsRowIn, IsSince, IsRun}
 use Rattle.gz_world.specs.States.{RequestAt, State, tick_of, numbered, with_reply}
-use Rattle.gz_world.specs.Steps.{Answers, DeliversBy}
+use Rattle.gz_world.specs.Steps.{Answers, DeliversBy, casts_in}
+use Rattle.gz_world.proofs.CastRuns.{or_comm, fold_has}
 use Rattle.gz_world.proofs.Growing.{GoesOn}
 use Rattle.gz_world.proofs.Places.{get_of_two, get_one}
 use Rattle.gz_world.proofs.RunSites.{IsDone, site_done}
@@ -76,6 +78,9 @@ deliver_run key old new ds n r reply effect d tells run =
               (reply_stands (after_deeds unused ds) (after_deeds unused more) r (tick_of old) reply (request_more (after_deeds unused ds) (after_deeds unused more) r done.replies keep (run.requests n r d.request own)) (done.seen own)))
         | inr e ↦ request_more (after_deeds unused ds) (after_deeds unused more) q done.replies keep (run.requests m q e is)
         ];
+      casts = λ v b x i.
+        ap (λ cs. has_cast cs key v b x i) d.casts ∙ fold_has (casts_in r.site r.op reply) old.casts key v b x i ∙ ap (λ t. t || has_cast (casts_in r.site r.op reply) key v b x i) (run.casts v b x i)
+        ∙ or_comm (cast (seen_after unused ds) v b x i) (has_cast (casts_in r.site r.op reply) key v b x i) ∙ sym (done.casts v b x i);
       sent = λ q i. subst (IsSentBy key q.call q.act) (sym (d.sessions.tales q.call.session)) (run.sent q (subst (λ xs. IsIn q (writes_of xs)) done.asked i));
       calls = λ j b there is.
         let since = run.calls j b (subst (λ cs. slice_get cs j ≡ Some b) d.sessions.calls there) is in

@@ -18,9 +18,10 @@ use Rattle.gz_client.specs.Tales.{AreTold}
 use Rattle.gz_history.specs.Answers.{shows, IsPut}
 use Rattle.gz_history.specs.Legal.{IsBefore}
 use Rattle.gz_history.specs.declared.record.CallRec.{CallRec}
-use Rattle.gz_ledger.specs.Histories.{Seen, Write, IsIn, IsProposed, VotesFor}
+use Rattle.gz_model.specs.Casts.{has_cast}
+use Rattle.gz_ledger.specs.Histories.{Seen, Write, IsIn, IsProposed, VotesFor, cast}
 use Rattle.gz_ledger.specs.Agreements.{HasQuorums}
-use Rattle.gz_ledger.specs.Deeds.{Store, Answered, Asked as AskedOf, Deed, after_deeds, AreDeeds, late_rows, sent_after, AreCurrentDeeds}
+use Rattle.gz_ledger.specs.Deeds.{Store, Answered, Asked as AskedOf, Deed, after_deeds, AreDeeds, rows_of, late_rows, sent_after, AreCurrentDeeds}
 use Rattle.gz_world.specs.Carried.{MomentsCarried}
 use Rattle.gz_world.specs.Heard.{unused, entry_of, heard_of, SeenStands, SentStep, Keeps, AskedHere, CleanOp}
 use Rattle.gz_world.specs.Placed.{ArePlaced}
@@ -103,6 +104,7 @@ sent_run key old new ds more w first tick outs ms cfg stay net has sent calls ru
         | inr k ↦ (let e = k.1.1.1 in
             subst (RequestStands (after_deeds unused more)) e (fresh_stands (after_deeds unused more) w.name tick k.1.0 (has.here k.0 k.1.0 k.1.1.0 (ap (λ (x : RequestAt). key_asked x.op) e ∙ is))))
         ];
+      casts = λ v b x i. ap (λ cs. has_cast cs key v b x i) stay.casts ∙ run.casts v b x i ∙ sym (ap (λ rs. cast (rows_of rs) v b x i) only.replies);
       sent = sent;
       calls = calls;
     }

@@ -1,7 +1,7 @@
 -- What a site does to an object is a deed of the object's run, or none.
 use Rattle.std.proofs.Common.{◌≡◌, ◌≢◌, ℕ, zero, suc, ◌+◌, ◌<◌, ◌≤◌, ◌⊎◌, inl, inr, List, [], ◌∷◌, ◌++◌, Some, None, Bool, true, false, cond, refl, ap, sym, ◌∙◌, subst, arith}
-use Rattle.std.specs.Prelude.{Option, IsSome, if◌then◌else◌, option_map}
-use Rattle.gz_core.specs.Names.{Name}
+use Rattle.std.specs.Prelude.{Option, IsSome, ◌==◌, ◌&&◌, ◌||◌, if◌then◌else◌, option_map}
+use Rattle.gz_core.specs.Names.{Name, BallotAt}
 use Rattle.gz_core.specs.Rows.{RowAt, empty_row}
 use Rattle.gz_core.specs.Slots.{slots}
 use Rattle.gz_core.specs.declared.configuration.Config.{Config}
@@ -14,14 +14,16 @@ use Rattle.gz_round.specs.declared.hearing.Seen.{Seen as SeenRow}
 use Rattle.gz_round.specs.Sites.{seen_in, written_by, seen_under, can_stand}
 use Rattle.gz_site.specs.Told.{Told, Tells, same_key, etag_of as etag_told}
 use Rattle.gz_site.specs.Steps.{RowStored}
-use Rattle.gz_ledger.specs.Acceptors.{Acceptor}
-use Rattle.gz_ledger.specs.Histories.{Seen, Write, IsIn}
-use Rattle.gz_ledger.specs.Deeds.{Store, Stored, Answered, Asked as AskedOf, Deed, Reads, Elsewhere, etag_of, acceptor_of, answer_of, after_deeds, AreDeeds, CanWrite, late_rows, AreCurrentDeeds}
+use Rattle.gz_model.specs.Casts.{has_cast}
+use Rattle.gz_ledger.specs.Acceptors.{Acceptor, slot_votes}
+use Rattle.gz_ledger.specs.Histories.{Seen, Write, IsIn, cast}
+use Rattle.gz_ledger.specs.Deeds.{Store, Stored, Answered, Asked as AskedOf, Deed, Reads, Elsewhere, etag_of, acceptor_of, answer_of, after_deeds, AreDeeds, CanWrite, late_rows, seen_after, AreCurrentDeeds}
 use Rattle.gz_ledger.specs.Deeds.{Written as WrittenBy, Failed as FailedBy}
 use Rattle.gz_ledger.proofs.Tags.{site_same, site_other}
 use Rattle.gz_world.specs.Heard.{unused, IsClean, SeenStands, IsAskedOf, AskedHere, CleanOp}
 use Rattle.gz_world.specs.Runs.{stored_of, IsCleanStored, SiteStands, key_asked, IsRowIn}
-use Rattle.gz_world.specs.Steps.{Answers}
+use Rattle.gz_world.specs.Steps.{Answers, casts_in}
+use Rattle.gz_world.proofs.CastRuns.{and_false, row_casts, other_casts}
 use Rattle.gz_world.proofs.Growing.{GoesOn}
 use Rattle.gz_world.proofs.Keys.{same_key-refl, key_cases}
 
@@ -39,12 +41,13 @@ pub record IsDone (c : Config) (key : List ℕ) (ds more : List Deed) (site : �
   pub replies : (r : Answered) → IsIn r (after_deeds unused ds).replies → IsIn r (after_deeds unused more).replies
   pub asked : (after_deeds unused more).asked ≡ (after_deeds unused ds).asked
   pub seen : key_asked op ≡ key → SeenStands (after_deeds unused more) site (seen_in (written_by op) reply)
+  pub casts : (v : ℕ) (b : BallotAt) (x : Name) (i : ℕ) → cast (seen_after unused more) v b x i ≡ (has_cast (casts_in site op reply) key v b x i || cast (seen_after unused ds) v b x i)
   pub along : GoAlong c ds more (λ rows. key_asked op ≡ key → IsRowIn site (seen_in (written_by op) reply) rows)
 
 -- nothing was done
 idle : (c : Config) (key : List ℕ) (ds : List Deed) (site : ℕ) (op : Op) (reply : Reply) (told : Told) → AreDeeds c unused ds → SiteStands key told (after_deeds unused ds) site
-    → (key_asked op ≡ key → SeenStands (after_deeds unused ds) site (seen_in (written_by op) reply)) → ((rows : List Seen) → key_asked op ≡ key → IsRowIn site (seen_in (written_by op) reply) rows) → IsDone c key ds ds site op reply told
-idle c key ds site op reply told are here seen rows = record {
+    → (key_asked op ≡ key → SeenStands (after_deeds unused ds) site (seen_in (written_by op) reply)) → ((rows : List Seen) → key_asked op ≡ key → IsRowIn site (seen_in (written_by op) reply) rows) → ((v : ℕ) (b : BallotAt) (x : Name) (i : ℕ) → has_cast (casts_in site op reply) key v b x i ≡ false) → IsDone c key ds ds site op reply told
+idle c key ds site op reply told are here seen rows none = record {
   deeds = are;
   here = here;
   stored = λ i apart. refl;
@@ -52,6 +55,7 @@ idle c key ds site op reply told are here seen rows = record {
   replies = λ r h. h;
   asked = refl;
   seen = seen;
+  casts = λ v b x i. sym (ap (λ t. t || cast (seen_after unused ds) v b x i) (none v b x i));
   along = λ call early late split current. (record { later = late; split = split; current = current; rows = λ e h. h }, rows (late_rows unused late early));
 }
 
@@ -72,8 +76,8 @@ blank_clean = record { floor = refl; rises = tt }
 read_done : (c : Config) (key : List ℕ) (ds : List Deed) (site : ℕ) (op : Op) (reply : Reply) (told : Told) (o : Option Stored) → AreDeeds c unused ds → SiteStands key told (after_deeds unused ds) site → (after_deeds unused ds).stored site ≡ o
     → ((st : Store) → (let r : Answered = record { site = site; etag = etag_of o; row = acceptor_of o } in IsIn r st.replies) → SeenStands st site (seen_in (written_by op) reply))
     → ((rows : List Seen) → (let e : Seen = record { site = site; row = acceptor_of o } in IsIn e rows) → IsRowIn site (seen_in (written_by op) reply) rows)
-    → IsDone c key ds (Reads site ∷ ds) site op reply told
-read_done c key ds site op reply told o are here is seen rows = record {
+    → ((v : ℕ) (b : BallotAt) (x : Name) (i : ℕ) → has_cast (casts_in site op reply) key v b x i ≡ ((site == i) && slot_votes (acceptor_of o v) b x)) → IsDone c key ds (Reads site ∷ ds) site op reply told
+read_done c key ds site op reply told o are here is seen rows votes = record {
   deeds = (are, tt);
   here = record { stored = here.stored; used = here.used; clean = here.clean };
   stored = λ i apart. refl;
@@ -81,6 +85,7 @@ read_done c key ds site op reply told o are here is seen rows = record {
   replies = λ r h. inr h;
   asked = refl;
   seen = λ _. seen (after_deeds unused (Reads site ∷ ds)) (inl (λ i. record { site = site; etag = etag_of (sym is i); row = acceptor_of (sym is i) }));
+  casts = λ v b x i. ap (λ (k : Option Stored). ((site == i) && slot_votes (acceptor_of k v) b x) || cast (seen_after unused ds) v b x i) is ∙ ap (λ t. t || cast (seen_after unused ds) v b x i) (sym (votes v b x i));
   along = λ call early late split current. (
     record { later = Reads site ∷ late; split = ap (λ (ks : List Deed). Reads site ∷ ks) split; current = (current, tt); rows = λ e h. inr h },
     λ _. rows (late_rows unused (Reads site ∷ late) early)
@@ -150,6 +155,7 @@ failed_done c key k ds qa site etag name expect step row before after are here c
       replies = λ r h. h;
       asked = refl;
       seen = λ _. tt;
+      casts = λ v b x i. refl;
       along = λ call early late split current. (record { later = FailedBy qa etag ∷ late; split = ap (λ (ks : List Deed). FailedBy qa etag ∷ ks) split; current = (current, tt); rows = λ e h. h }, λ _. tt);
     }
 
@@ -169,15 +175,18 @@ written_done c key k ds qa site etag name expect step row before after are here 
       replies = λ r h. inr h;
       asked = refl;
       seen = λ _. under_stands (after_deeds unused (WrittenBy qa etag ∷ ds)) site etag row (can_stand row) clean (inl (λ i. record { site = sym at i; etag = Some etag; row = sym w.1.1 i }));
+      casts = λ v b x i.
+        ap (λ s. ((s == i) && slot_votes (qa.write.after v) b x) || cast (seen_after unused ds) v b x i) at ∙ ap (λ (a : Acceptor). ((site == i) && slot_votes (a v) b x) || cast (seen_after unused ds) v b x i) w.1.1
+        ∙ ap (λ t. t || cast (seen_after unused ds) v b x i) (sym (row_casts site k key row v b x i same clean));
       along = λ call early late split current. (
         record { later = WrittenBy qa etag ∷ late; split = ap (λ (ks : List Deed). WrittenBy qa etag ∷ ks) split; current = (current, tt); rows = λ e h. inr h },
         λ _. under_in site etag row (can_stand row) (late_rows unused (WrittenBy qa etag ∷ late) early) (inl (λ i. record { site = sym at i; row = sym w.1.1 i })));
     }
 
 -- a write of another object uses a tag
-elsewhere_done : (c : Config) (key other : List ℕ) (ds : List Deed) (site etag : ℕ) (op : Op) (reply : Reply) (row : RowAt) (before after : Told) → AreDeeds c unused ds → SiteStands key before (after_deeds unused ds) site → same_key other key ≡ false → (key_asked op ≡ key → ⊥) → RowStored before other etag row after
+elsewhere_done : (c : Config) (key other : List ℕ) (ds : List Deed) (site etag : ℕ) (op : Op) (reply : Reply) (row : RowAt) (before after : Told) → AreDeeds c unused ds → SiteStands key before (after_deeds unused ds) site → same_key other key ≡ false → (key_asked op ≡ key → ⊥) → ((v : ℕ) (b : BallotAt) (x : Name) (i : ℕ) → has_cast (casts_in site op reply) key v b x i ≡ false) → RowStored before other etag row after
     → IsDone c key ds (Elsewhere site etag ∷ ds) site op reply after
-elsewhere_done c key other ds site etag op reply row before after are here apart none done =
+elsewhere_done c key other ds site etag op reply row before after are here apart none plain done =
     let is : after.rows key ≡ before.rows key = done.rows key ∙ ap (λ b. cond b (Some (etag, row)) (before.rows key)) apart in
     let u = here.used in
     let above = done.above in
@@ -193,6 +202,7 @@ elsewhere_done c key other ds site etag op reply row before after are here apart
       replies = λ r h. h;
       asked = refl;
       seen = λ same. absurd (none same);
+      casts = λ v b x i. sym (ap (λ t. t || cast (seen_after unused ds) v b x i) (plain v b x i));
       along = λ call early late split current. (record { later = Elsewhere site etag ∷ late; split = ap (λ (ks : List Deed). Elsewhere site etag ∷ ks) split; current = (current, tt); rows = λ e h. h }, λ same. absurd (none same));
     }
 
@@ -206,14 +216,14 @@ read_at c key k ds site (Row etag row) before after are here same ans =
     let clean = clean_kept key before (after_deeds unused ds) site (Some (etag, row)) here is in
     (Reads site ∷ ds, read_done c key ds site (ReadRow k) (Row etag row) after (stored_of (Some (etag, row))) are (subst (λ t. SiteStands key t (after_deeds unused ds) site) (sym ans.1) here)
       (stored_same key before (after_deeds unused ds) site (Some (etag, row)) here is)
-      (λ st i. under_stands st site etag row (can_stand row) clean i) (λ rows i. under_in site etag row (can_stand row) rows i))
+      (λ st i. under_stands st site etag row (can_stand row) clean i) (λ rows i. under_in site etag row (can_stand row) rows i) (λ v b x i. row_casts site k key row v b x i same clean))
 read_at c key k ds site NoRow before after are here same ans =
     let is = at_key key k before None same ans.0 in
     (Reads site ∷ ds, read_done c key ds site (ReadRow k) NoRow after (stored_of None) are (subst (λ t. SiteStands key t (after_deeds unused ds) site) (sym ans.1) here)
-      (stored_same key before (after_deeds unused ds) site None here is) (λ st i. (blank_clean, i)) (λ rows i. i))
+      (stored_same key before (after_deeds unused ds) site None here is) (λ st i. (blank_clean, i)) (λ rows i. i) (λ v b x i. sym (and_false (site == i))))
 read_at c key k ds site (Written etag) before after are here same ans = absurd ans
 read_at c key k ds site Changed before after are here same ans = absurd ans
-read_at c key k ds site Failed before after are here same ans = (ds, idle c key ds site (ReadRow k) Failed after are (subst (λ t. SiteStands key t (after_deeds unused ds) site) (sym ans) here) (λ _. tt) (λ rows _. tt))
+read_at c key k ds site Failed before after are here same ans = (ds, idle c key ds site (ReadRow k) Failed after are (subst (λ t. SiteStands key t (after_deeds unused ds) site) (sym ans) here) (λ _. tt) (λ rows _. tt) (λ v b x i. refl))
 
 -- a write of the object
 write_at : (c : Config) (key k : List ℕ) (ds : List Deed) (site : ℕ) (name : Name) (expect : Option ℕ) (step : RowStep) (row : RowAt) (reply : Reply) (before after : Told) → AreDeeds c unused ds → SiteStands key before (after_deeds unused ds) site → k ≡ key
@@ -224,40 +234,40 @@ write_at c key k ds site name expect step row (Written etag) before after are he
     let q = asked.0 in
     (WrittenBy q.0 etag ∷ ds, written_done c key k ds q.0 site etag name expect step row before after are here asked.1 q.1.0 q.1.1 same ans.0 ans.1)
 write_at c key k ds site name expect step row Changed before after are here same asked ans =
-    (ds, idle c key ds site (WriteRow k expect step row) Changed after are (subst (λ t. SiteStands key t (after_deeds unused ds) site) (sym ans.1) here) (λ _. tt) (λ rows _. tt))
+    (ds, idle c key ds site (WriteRow k expect step row) Changed after are (subst (λ t. SiteStands key t (after_deeds unused ds) site) (sym ans.1) here) (λ _. tt) (λ rows _. tt) (λ v b x i. refl))
 write_at c key k ds site name expect step row Failed before after are here same asked (inl ans) =
-    (ds, idle c key ds site (WriteRow k expect step row) Failed after are (subst (λ t. SiteStands key t (after_deeds unused ds) site) (sym ans) here) (λ _. tt) (λ rows _. tt))
+    (ds, idle c key ds site (WriteRow k expect step row) Failed after are (subst (λ t. SiteStands key t (after_deeds unused ds) site) (sym ans) here) (λ _. tt) (λ rows _. tt) (λ v b x i. refl))
 write_at c key k ds site name expect step row Failed before after are here same asked (inr ans) =
     let q = asked.0 in
     (FailedBy q.0 ans.0 ∷ ds, failed_done c key k ds q.0 site ans.0 name expect step row before after are here asked.1 q.1.0 q.1.1 same ans.1 ans.2)
 
 -- a request of another object
-other_idle : (c : Config) (key : List ℕ) (ds : List Deed) (site : ℕ) (op : Op) (reply : Reply) (before after : Told) → AreDeeds c unused ds → SiteStands key before (after_deeds unused ds) site → (key_asked op ≡ key → ⊥) → after ≡ before → (more : List Deed) × IsDone c key ds more site op reply after
-other_idle c key ds site op reply before after are here none same =
-    (ds, idle c key ds site op reply after are (subst (λ t. SiteStands key t (after_deeds unused ds) site) (sym same) here) (λ e. absurd (none e)) (λ rows e. absurd (none e)))
+other_idle : (c : Config) (key : List ℕ) (ds : List Deed) (site : ℕ) (op : Op) (reply : Reply) (before after : Told) → AreDeeds c unused ds → SiteStands key before (after_deeds unused ds) site → (key_asked op ≡ key → ⊥) → ((v : ℕ) (b : BallotAt) (x : Name) (i : ℕ) → has_cast (casts_in site op reply) key v b x i ≡ false) → after ≡ before → (more : List Deed) × IsDone c key ds more site op reply after
+other_idle c key ds site op reply before after are here none plain same =
+    (ds, idle c key ds site op reply after are (subst (λ t. SiteStands key t (after_deeds unused ds) site) (sym same) here) (λ e. absurd (none e)) (λ rows e. absurd (none e)) plain)
 
-read_other : (c : Config) (key k : List ℕ) (ds : List Deed) (site : ℕ) (reply : Reply) (before after : Told) → AreDeeds c unused ds → SiteStands key before (after_deeds unused ds) site → (k ≡ key → ⊥) → Answers before (ReadRow k) reply after → (more : List Deed) × IsDone c key ds more site (ReadRow k) reply after
-read_other c key k ds site (Row etag row) before after are here none ans = other_idle c key ds site (ReadRow k) (Row etag row) before after are here none ans.1
-read_other c key k ds site NoRow before after are here none ans = other_idle c key ds site (ReadRow k) NoRow before after are here none ans.1
-read_other c key k ds site (Written etag) before after are here none ans = absurd ans
-read_other c key k ds site Changed before after are here none ans = absurd ans
-read_other c key k ds site Failed before after are here none ans = other_idle c key ds site (ReadRow k) Failed before after are here none ans
+read_other : (c : Config) (key k : List ℕ) (ds : List Deed) (site : ℕ) (reply : Reply) (before after : Told) → AreDeeds c unused ds → SiteStands key before (after_deeds unused ds) site → (k ≡ key → ⊥) → same_key k key ≡ false → Answers before (ReadRow k) reply after → (more : List Deed) × IsDone c key ds more site (ReadRow k) reply after
+read_other c key k ds site (Row etag row) before after are here none apart ans = other_idle c key ds site (ReadRow k) (Row etag row) before after are here none (λ v b x i. other_casts site k key row v b x i apart) ans.1
+read_other c key k ds site NoRow before after are here none apart ans = other_idle c key ds site (ReadRow k) NoRow before after are here none (λ v b x i. refl) ans.1
+read_other c key k ds site (Written etag) before after are here none apart ans = absurd ans
+read_other c key k ds site Changed before after are here none apart ans = absurd ans
+read_other c key k ds site Failed before after are here none apart ans = other_idle c key ds site (ReadRow k) Failed before after are here none (λ v b x i. refl) ans
 
 write_other : (c : Config) (key k : List ℕ) (ds : List Deed) (site : ℕ) (expect : Option ℕ) (step : RowStep) (row : RowAt) (reply : Reply) (before after : Told) → AreDeeds c unused ds → SiteStands key before (after_deeds unused ds) site → (k ≡ key → ⊥) → same_key k key ≡ false → Answers before (WriteRow k expect step row) reply after
     → (more : List Deed) × IsDone c key ds more site (WriteRow k expect step row) reply after
 write_other c key k ds site expect step row (Row etag shown) before after are here none apart ans = absurd ans
 write_other c key k ds site expect step row NoRow before after are here none apart ans = absurd ans
-write_other c key k ds site expect step row (Written etag) before after are here none apart ans = (Elsewhere site etag ∷ ds, elsewhere_done c key k ds site etag (WriteRow k expect step row) (Written etag) row before after are here apart none ans.1)
-write_other c key k ds site expect step row Changed before after are here none apart ans = other_idle c key ds site (WriteRow k expect step row) Changed before after are here none ans.1
-write_other c key k ds site expect step row Failed before after are here none apart (inl ans) = other_idle c key ds site (WriteRow k expect step row) Failed before after are here none ans
-write_other c key k ds site expect step row Failed before after are here none apart (inr ans) = (Elsewhere site ans.0 ∷ ds, elsewhere_done c key k ds site ans.0 (WriteRow k expect step row) Failed row before after are here apart none ans.2)
+write_other c key k ds site expect step row (Written etag) before after are here none apart ans = (Elsewhere site etag ∷ ds, elsewhere_done c key k ds site etag (WriteRow k expect step row) (Written etag) row before after are here apart none (λ v b x i. other_casts site k key row v b x i apart) ans.1)
+write_other c key k ds site expect step row Changed before after are here none apart ans = other_idle c key ds site (WriteRow k expect step row) Changed before after are here none (λ v b x i. refl) ans.1
+write_other c key k ds site expect step row Failed before after are here none apart (inl ans) = other_idle c key ds site (WriteRow k expect step row) Failed before after are here none (λ v b x i. refl) ans
+write_other c key k ds site expect step row Failed before after are here none apart (inr ans) = (Elsewhere site ans.0 ∷ ds, elsewhere_done c key k ds site ans.0 (WriteRow k expect step row) Failed row before after are here apart none (λ v b x i. refl) ans.2)
 
 -- what a site does at a request
 pub site_done : (c : Config) (key : List ℕ) (ds : List Deed) (site : ℕ) (name : Name) (op : Op) (reply : Reply) (before after : Told) → AreDeeds c unused ds → SiteStands key before (after_deeds unused ds) site
     → (key_asked op ≡ key → AskedHere name site op (after_deeds unused ds) × CleanOp op) → Answers before op reply after → (more : List Deed) × IsDone c key ds more site op reply after
 site_done c key ds site name (ReadRow k) reply before after are here asked ans = elim (key_cases k key) [
     inl same ↦ read_at c key k ds site reply before after are here same ans
-  | inr apart ↦ read_other c key k ds site reply before after are here apart.0 ans
+  | inr apart ↦ read_other c key k ds site reply before after are here apart.0 apart.1 ans
   ]
 site_done c key ds site name (WriteRow k expect step row) reply before after are here asked ans = elim (key_cases k key) [
     inl same ↦ write_at c key k ds site name expect step row reply before after are here same (asked same) ans

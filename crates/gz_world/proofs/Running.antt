@@ -10,6 +10,7 @@ use Rattle.gz_round.specs.History.{Asked, Moment, Handed, GaveUp, Caller, Tale}
 use Rattle.gz_client.specs.Tales.{AreTold}
 use Rattle.gz_site.specs.Told.{Told, Tells, IsEmpty}
 use Rattle.gz_history.specs.declared.record.CallRec.{CallRec}
+use Rattle.gz_model.specs.Casts.{has_cast}
 use Rattle.gz_ledger.specs.Histories.{IsIn, Write}
 use Rattle.gz_ledger.specs.Deeds.{Deed, after_deeds, AreDeeds, sent_after, late_rows}
 use Rattle.gz_world.specs.declared.events.Effect.{Effect}
@@ -35,11 +36,12 @@ use Rattle.gz_world.proofs.RunTools.{since_on}
 use Rattle.gz_world.proofs.RunTurns.{turn_run}
 
 -- nothing that the run reads has changed
-same_run : (key : List ℕ) (old new : State) (ds : List Deed) → new.cfg ≡ old.cfg → ((i : ℕ) → new.sites i ≡ old.sites i) → ((n : ℕ) → new.tales n ≡ old.tales n) → new.net ≡ old.net → new.calls ≡ old.calls → IsRun key old ds → (more : List Deed) × IsRun key new more
-same_run key old new ds cfg sites tales net calls run = (ds, record {
+same_run : (key : List ℕ) (old new : State) (ds : List Deed) → new.cfg ≡ old.cfg → ((i : ℕ) → new.sites i ≡ old.sites i) → ((n : ℕ) → new.tales n ≡ old.tales n) → new.net ≡ old.net → new.calls ≡ old.calls → new.casts ≡ old.casts → IsRun key old ds → (more : List Deed) × IsRun key new more
+same_run key old new ds cfg sites tales net calls casts run = (ds, record {
   deeds = subst (λ c. AreDeeds c unused ds) (sym cfg) run.deeds;
   sites = λ i told is. run.sites i told (sym (sites i) ∙ is);
   requests = λ n r there is. run.requests n r (subst (λ xs. numbered xs n ≡ Some r) net there) is;
+  casts = λ v b x i. ap (λ cs. has_cast cs key v b x i) casts ∙ run.casts v b x i;
   sent = λ q i. subst (IsSentBy key q.call q.act) (sym (tales q.call.session)) (run.sent q i);
   calls = λ j b there is.
     let since = run.calls j b (subst (λ xs. slice_get xs j ≡ Some b) calls there) is in
@@ -83,18 +85,18 @@ give_up_run key old new ds n r by effect t listed carries placed run =
       (r, told_request old new n r (with_given_up (tick_of old) r) (λ a. GaveUp a) by effect t carries) listed carries placed run
 
 does_run : (key : List ℕ) (old new : State) (ds : List Deed) (event : Event) (effect : Effect) → Does old event effect new → AllTell old → AreListed old → AreCarried old → ArePlaced old → IsRun key old ds → (more : List Deed) × IsRun key new more
-does_run key old new ds events.OpenSession effect d tell l c p run = same_run key old new ds d.frame.cfg d.sites.sites d.tales d.net d.calls run
+does_run key old new ds events.OpenSession effect d tell l c p run = same_run key old new ds d.frame.cfg d.sites.sites d.tales d.net d.calls d.sites.casts run
 does_run key old new ds (events.Begin session call) effect d tell l c p run = begin_run key old new ds session call d.0 effect d.1 l c p run
 does_run key old new ds (events.Deliver n) effect d tell l c p run = deliver_run key old new ds n d.0 d.1.0 effect d.1.1 (tell d.0.site (p.requests n d.0 d.1.1.request).site) run
 does_run key old new ds (events.Reply n which) effect d tell l c p run = hand_run key old new ds n which d.0 d.1.0 d.1.1.0 effect d.1.1.1.0 d.1.1.1.1 l c p run
 does_run key old new ds (events.GiveUp n) effect d tell l c p run = give_up_run key old new ds n d.0 d.1.0 effect d.1.1 l c p run
-does_run key old new ds (events.Crash session) effect d tell l c p run = same_run key old new ds d.frame.cfg d.sites.sites d.tales d.net d.calls run
+does_run key old new ds (events.Crash session) effect d tell l c p run = same_run key old new ds d.frame.cfg d.sites.sites d.tales d.net d.calls d.sites.casts run
 
 acts_run : (key : List ℕ) (old new : State) (ds : List Deed) (event : Event) (effect : Effect) → Acts old event effect new → AllTell old → AreListed old → AreCarried old → ArePlaced old → IsRun key old ds → (more : List Deed) × IsRun key new more
 acts_run key old new ds event effect acts tell l c p run =
     elim (refusal_of old event) as (λ o. MatchOption o (Does old event effect new) (λ why. Skips old event why effect new) → (more : List Deed) × IsRun key new more) [
       None ↦ λ d. does_run key old new ds event effect d tell l c p run
-    | Some why ↦ λ k. same_run key old new ds k.same.frame.cfg k.same.sites.sites k.same.sessions.tales k.same.net k.same.sessions.calls run
+    | Some why ↦ λ k. same_run key old new ds k.same.frame.cfg k.same.sites.sites k.same.sessions.tales k.same.net k.same.sessions.calls k.same.sites.casts run
     ] acts
 
 -- a site that tells has always told
@@ -142,7 +144,7 @@ step_run key old new ds event step tell l c p run =
     let mid = step.1.0 in
     let records = step.1.1.1.1 in
     let k = acts_run key old mid ds event step.0 step.1.1.1.0 tell l c p run in
-    same_run key mid new k.0 records.cfg records.sites.sites records.sessions.tales records.net records.sessions.calls k.1
+    same_run key mid new k.0 records.cfg records.sites.sites records.sessions.tales records.net records.sessions.calls records.sites.casts k.1
 
 -- a site that holds nothing
 empty_site : (key : List ℕ) (o : Option Told) (told : Told) → IfSome o IsEmpty → o ≡ Some told → IsEmpty told
@@ -156,6 +158,7 @@ opening_run key s o = record {
     let empty = empty_site key (s.sites i) told (o.sites i) is in
     record { stored = sym (ap stored_of (empty.rows key)); used = sym empty.top; clean = subst IsCleanStored (sym (empty.rows key)) tt };
   requests = λ n r there is. let bad : numbered [] n ≡ Some r = subst (λ xs. numbered xs n ≡ Some r) o.net there in let k = (numbered_place [] n r bad).1 in cc;
+  casts = λ v b x i. ap (λ cs. has_cast cs key v b x i) o.casts;
   sent = λ q i. absurd i;
   calls = λ j b there is. let bad : slice_get [] j ≡ Some b = subst (λ xs. slice_get xs j ≡ Some b) o.calls there in cc;
 }

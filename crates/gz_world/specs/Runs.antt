@@ -1,6 +1,6 @@
 -- What happens to one object in a world is a run of the machine of agreement: deeds at sites that keep tagged rows.
 use Rattle.std.specs.Prelude.{ℕ, ◌≡◌, ◌⊎◌, List, [], ◌∷◌, ◌++◌, Option, Some, None, slice_get}
-use Rattle.gz_core.specs.Names.{Name}
+use Rattle.gz_core.specs.Names.{Name, BallotAt}
 use Rattle.gz_core.specs.Calls.{key_of}
 use Rattle.gz_core.specs.Rows.{RowAt}
 use Rattle.gz_core.specs.Slots.{Act, slots}
@@ -15,7 +15,8 @@ use Rattle.gz_site.specs.Told.{Told}
 use Rattle.gz_history.specs.Answers.{shows, IsPut}
 use Rattle.gz_history.specs.Legal.{IsBefore}
 use Rattle.gz_history.specs.declared.record.CallRec.{CallRec}
-use Rattle.gz_ledger.specs.Histories.{Seen, Write, IsIn, IsShown, VotesFor}
+use Rattle.gz_model.specs.Casts.{has_cast}
+use Rattle.gz_ledger.specs.Histories.{Seen, Write, IsIn, IsShown, VotesFor, cast}
 use Rattle.gz_ledger.specs.Deeds.{Store, Stored, Deed, after_deeds, AreDeeds, late_rows, seen_after, sent_after, AreCurrentDeeds}
 use Rattle.gz_world.specs.States.{RequestAt, State, numbered}
 use Rattle.gz_world.specs.Heard.{unused, IsClean, SeenStands, SentStep, AskedHere, CleanOp}
@@ -84,5 +85,6 @@ pub record IsRun (key : List ℕ) (s : State) (ds : List Deed) : Type 0 where
   pub deeds : AreDeeds s.cfg unused ds
   pub sites : (i : ℕ) (told : Told) → s.sites i ≡ Some told → SiteStands key told (after_deeds unused ds) i
   pub requests : (n : ℕ) (r : RequestAt) → numbered s.net n ≡ Some r → key_asked r.op ≡ key → RequestStands (after_deeds unused ds) r
+  pub casts : (v : ℕ) (b : BallotAt) (x : Name) (i : ℕ) → has_cast s.casts key v b x i ≡ cast (seen_after unused ds) v b x i
   pub sent : (q : Write) → IsIn q (sent_after unused ds) → IsSentBy key q.call q.act (s.tales q.call.session)
   pub calls : (i : ℕ) (b : CallRec) → slice_get s.calls i ≡ Some b → key_of b.call ≡ key → IsSince s key ds b
