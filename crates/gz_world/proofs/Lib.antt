@@ -1,5 +1,6 @@
 pub mod Acting
 pub mod Agreeing
+pub mod Agreement
 pub mod Carrying
 pub mod CastOrder
 pub mod CastRuns

@@ -9,6 +9,7 @@ ghost use Rattle.gz_world.specs.Carried.{AreCarried};
 ghost use Rattle.gz_world.specs.Placed.{ArePlaced};
 ghost use Rattle.gz_world.specs.Recorded.{AreRecorded};
 ghost use Rattle.gz_world.specs.Valued.{AreValued};
+ghost use Rattle.gz_world.specs.Agreed.{AreAgreed};
 ghost use Rattle.gz_history.specs.Legal.{IsLegal};
 
 /// Of every world that is reached: the names of the calls differ, each call is that of a tale of its session, each
@@ -26,6 +27,13 @@ pub fn world_laws()
 /// machine of agreement.
 pub fn object_runs()
     ensures { (key : List ℕ) (s : State) → IsReached s → AllTell s → (ds : List Deed) × IsRun key s ds }
+{}
+
+/// Agreement on each object, in a world that is reached and whose sites tell what they hold: each classic vote is
+/// safe, a vote at a version tells that a value is chosen at the one before, one value is chosen at a version, and a
+/// value at one version; what is shown to a call is chosen, and what is chosen is backed by the rows of a quorum.
+pub fn agreement()
+    ensures { (key : List ℕ) (s : State) → IsReached s → AllTell s → AreAgreed key s }
 {}
 
 /// In a world that is reached and whose sites tell what they hold, every value that a row has was given by a put of
