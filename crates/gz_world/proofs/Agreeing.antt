@@ -1,10 +1,9 @@
 -- What the answers of two calls of one object have in common: the versions that they show are those of one order.
-use Rattle.std.proofs.Common.{◌≡◌, ◌≢◌, ℕ, zero, suc, ◌+◌, ◌<◌, ◌≤◌, ◌⊎◌, inl, inr, List, [], ◌∷◌, ◌++◌, Some, None, Bool, true, false, length, refl, ap, sym, ◌∙◌, subst, arith}
-use Rattle.std.proofs.lemmas.Bool.{cases_eq, cases_lt}
+use Rattle.std.proofs.Common.{◌≡◌, ℕ, ◌<◌, ◌≤◌, inl, inr, List, [], ◌∷◌, ◌++◌, Some, None, Bool, true, false, refl, ap, sym, ◌∙◌, subst, arith}
+use Rattle.gz_world.proofs.Hearing.{le_means}
 use Rattle.std.proofs.lemmas.Bool.Decides.{nat_tests}
 use Rattle.std.specs.Prelude.{Option, ◌==◌, ◌&&◌, nat_le, slice_get}
 use Rattle.gz_core.specs.Names.{Name}
-use Rattle.gz_core.specs.Values.{name_of}
 use Rattle.gz_core.specs.Calls.{key_of, own_value}
 use Rattle.gz_core.specs.Rows.{RowAt}
 use Rattle.gz_core.specs.Slots.{Act, act_of}
@@ -18,7 +17,7 @@ use Rattle.gz_core.specs.declared.requests.RowStep.TheVariants.{FastVote, Promis
 use Rattle.gz_core.specs.declared.requests.Op.{Op}
 use Rattle.gz_core.specs.declared.requests.Op.TheVariants.{ReadRow, WriteRow}
 use Rattle.gz_pick.specs.Looks.{row_top}
-use Rattle.gz_round.specs.History.{Asked, Moment, Sent, Handed, GaveUp, Rested, GaveIn, Caller, Tale}
+use Rattle.gz_round.specs.History.{Moment, Sent, Handed, GaveUp, Rested, GaveIn, Caller, Tale}
 use Rattle.gz_round.specs.Sites.{SiteNow, site_now}
 use Rattle.gz_round.specs.Causes.{is_blank}
 use Rattle.gz_round.specs.Shown.{heard_at, IsShown as IsShownTo}
@@ -33,13 +32,13 @@ use Rattle.gz_ledger.specs.Deeds.{Deed, after_deeds, AreDeeds, ledger_of, late_r
 use Rattle.gz_ledger.proofs.Shown.{current_more}
 use Rattle.gz_ledger.proofs.Stores.{store_agreed, store_latest, store_above}
 use Rattle.gz_world.specs.Heard.{unused, heard_of, MomentsStand, IsStepOf, SentStep}
-use Rattle.gz_world.specs.Listed.{IsTaleOf, AreListed}
+use Rattle.gz_world.specs.Listed.{AreListed}
 use Rattle.gz_world.specs.Carried.{AreCarried}
 use Rattle.gz_world.specs.Placed.{ArePlaced}
-use Rattle.gz_world.specs.Runs.{IsSentBy, IsShownAt, IsSince, IsRun}
+use Rattle.gz_world.specs.Runs.{IsSentBy, IsShownAt, IsRun}
 use Rattle.gz_world.specs.States.{State}
 use Rattle.gz_world.proofs.Currents.{current_heard}
-use Rattle.gz_world.proofs.RunAnswers.{HasTale, call_tale, tale_shown, call_told, IsTold}
+use Rattle.gz_world.proofs.RunAnswers.{call_tale, tale_shown, IsTold, same_version}
 use Rattle.gz_world.proofs.RunSends.{heard_in_rows}
 
 -- the run of an object agrees
@@ -103,17 +102,14 @@ read_above : (c : Config) (early late : List Deed) (v w : ℕ) → HasQuorums c 
 read_above c early late v w q are (inl z) h = omega (arith, z)
 read_above c early late v w q are (inr k) h = store_latest c unused late early v w k.0 q are k.1 h
 
-le_means : (a b : ℕ) → nat_le a b ≡ true → a ≤ b
-le_means a b h = grind (arith, nat_tests)
-
 blank_low : (r : RowAt) → is_blank r ≡ true → row_top r ≤ 0
 blank_low r h = zero_low (row_top r) (r.floor == 0) h
   where
     zero_low : (n : ℕ) (b : Bool) → ((n == 0) && b) ≡ true → n ≤ 0
     zero_low n b h = elim (n == 0) as (λ t. (n == 0) ≡ t → (t && b) ≡ true → n ≤ 0) [
-        true ↦ λ e k. grind (arith, nat_tests)
+      | true ↦ λ e k. grind (arith, nat_tests)
       | false ↦ λ e k. cc
-      ] refl h
+    ] refl h
 
 -- a call that reads is no write
 no_write : (name : Name) (call : Call) → own_value name call ≡ None → IsWrite call → ⊥
@@ -127,9 +123,6 @@ stands_shows (Get key) answer = refl
 -- the place of a call's answer in the order, after what had been shown when it began
 abbrev IsPlacedAbove : Call → ℕ → ℕ → Type 0
 IsPlacedAbove call v w = (v ≤ w) × (IsWrite call → v < w)
-
-same_version : (u v : ℕ) → Some u ≡ Some v → u ≡ v
-same_version u v e = cc
 
 answer_above : (c : Config) (t : Tale) (early late : List Deed) (v w : ℕ) (answer : Option Answer) → HasQuorums c → AreDeeds c unused (late ++ early) → ((q : Write) → IsIn q (sent_after unused early) → q.call ≡ t.caller.name → ⊥) → AreCurrentDeeds c unused t.caller.name late early
     → MomentsStand (after_deeds unused (late ++ early)) t.moments → ((e : Seen) → IsIn e (heard_of t.moments) → IsIn e (late_rows unused late early)) → ((x : Name) → IsShown c (seen_after unused (late ++ early)) w x → 1 ≤ w)
@@ -167,10 +160,10 @@ keeps_order key s ds i j a b run listed carries placed ga gb ka kb v w before sa
     let call : t.caller.call ≡ b.call = ap (λ (w : Caller). w.call) is.caller in
     let told : IsAnswered s.cfg t b.answer = subst (IsAnswered s.cfg t) is.answer is.told.answered in
     let heard : (e : Seen) → IsIn e (heard_of t.moments) → IsIn e (late_rows unused late early)
-      = heard_in_rows s.cfg key s.net t.caller h.past t.moments (late_rows unused late early) (ap key_of call ∙ kb) is.told.allowed h.carried (λ n k tick r reply at own named e. since.heard n k tick r reply at own (named ∙ name) e) in
+    = heard_in_rows s.cfg key s.net t.caller h.past t.moments (late_rows unused late early) (ap key_of call ∙ kb) is.told.allowed h.carried (λ n k tick r reply at own named e. since.heard n k tick r reply at own (named ∙ name) e) in
     let k = answer_above s.cfg t early late v w b.answer placed.config.quorums (subst (λ xs. AreDeeds s.cfg unused xs) since.split run.deeds)
-      (λ q found same. since.unsent q found (same ∙ name)) (subst (λ x. AreCurrentDeeds s.cfg unused x late early) (sym name) since.current)
-      (subst (λ (xs : List Deed). MomentsStand (after_deeds unused xs) t.moments) since.split h.stands) heard
-      (λ x shown. shown_positive key s ds w x listed placed run (subst (λ (xs : List Deed). IsShown s.cfg (seen_after unused xs) w x) (sym since.split) shown))
-      (since.ended i v a ga ka before sa) told (sym (stands_shows b.call b.answer) ∙ sb) in
+    (λ q found same. since.unsent q found (same ∙ name)) (subst (λ x. AreCurrentDeeds s.cfg unused x late early) (sym name) since.current)
+    (subst (λ (xs : List Deed). MomentsStand (after_deeds unused xs) t.moments) since.split h.stands) heard
+    (λ x shown. shown_positive key s ds w x listed placed run (subst (λ (xs : List Deed). IsShown s.cfg (seen_after unused xs) w x) (sym since.split) shown))
+    (since.ended i v a ga ka before sa) told (sym (stands_shows b.call b.answer) ∙ sb) in
     (k.0, λ write. k.1 (subst IsWrite (sym call) write))

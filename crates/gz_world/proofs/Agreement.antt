@@ -1,10 +1,8 @@
 -- Agreement on each object, in a world that is reached.
-use Rattle.std.proofs.Common.{◌≡◌, ◌≢◌, ℕ, zero, suc, ◌+◌, ◌<◌, ◌≤◌, ◌⊎◌, inl, inr, List, [], ◌∷◌, ◌++◌, Some, None, Bool, true, false, refl, ap, sym, ◌∙◌, subst, arith}
-use Rattle.std.specs.Prelude.{Option, IsSome, not, ◌==◌, ◌&&◌, ◌||◌, slice_get}
-use Rattle.gz_core.specs.Names.{Name, BallotAt, fast, is_below, same_ballot, same_name}
-use Rattle.gz_core.specs.Calls.{key_of}
-use Rattle.gz_core.specs.Configurations.{need}
-use Rattle.gz_core.specs.Counts.{count_sites}
+use Rattle.std.proofs.Common.{◌≡◌, ℕ, suc, ◌+◌, ◌<◌, inl, inr, List, [], ◌∷◌, Some, None, Bool, true, false, refl, ap, sym, ◌∙◌, subst, arith}
+use Rattle.std.proofs.lemmas.Bool.{and_parts, or_cases, or_left, or_right, and_from}
+use Rattle.std.specs.Prelude.{Option, IsSome, not, ◌==◌, ◌&&◌, ◌||◌}
+use Rattle.gz_core.specs.Names.{Name, BallotAt, same_ballot, same_name}
 use Rattle.gz_core.specs.Rows.{RowAt}
 use Rattle.gz_core.specs.Slots.{Act, VotesClassic}
 use Rattle.gz_core.specs.declared.configuration.Config.{Config}
@@ -20,12 +18,11 @@ use Rattle.gz_model.specs.Casts.{is_at, is_vote, has_cast, IsChosen}
 use Rattle.gz_model.specs.Choosing.{IsSafe}
 use Rattle.gz_model.specs.declared.casts.Cast.{Cast}
 use Rattle.gz_ledger.specs.Acceptors.{Acceptor, slot_votes, slot_voted, slot_lets, slot_backs}
-use Rattle.gz_ledger.specs.Agreements.{IsAgreed}
 use Rattle.gz_ledger.specs.Histories.{Seen, Write, IsIn, cast, cast_in, IsShown, IsChosenAt}
 use Rattle.gz_ledger.specs.Ledgers.{votes, voted, stands, backs}
-use Rattle.gz_ledger.specs.Deeds.{Store, Stored, Deed, acceptor_of, after_deeds, ledger_of, seen_after, sent_after, writes_of}
+use Rattle.gz_ledger.specs.Deeds.{Deed, acceptor_of, after_deeds, ledger_of, seen_after, sent_after}
 use Rattle.gz_ledger.proofs.Shown.{cast_found, cast_from, cast_in_found, cast_in_from}
-use Rattle.gz_world.specs.Agreed.{acceptor_kept, acceptor_told, acceptor_at, has_ballot, has_voted, has_voted_in, stands_for, IsShownTo, IsShownIn, IsShownToCall, IsSentIn, AreAgreed}
+use Rattle.gz_world.specs.Agreed.{acceptor_kept, acceptor_told, acceptor_at, has_ballot, has_voted, has_voted_in, stands_for, IsShownTo, IsShownToCall, IsSentIn, AreAgreed}
 use Rattle.gz_world.specs.Carried.{TalesCarried, AreCarried}
 use Rattle.gz_world.specs.Heard.{unused}
 use Rattle.gz_world.specs.Listed.{IsAmong, AreListed}
@@ -35,7 +32,6 @@ use Rattle.gz_world.specs.Runs.{stored_of, IsRun}
 use Rattle.gz_world.specs.States.{State}
 use Rattle.gz_world.proofs.Agreeing.{agreed, same_name_of, no_name_of, named_shown}
 use Rattle.gz_world.proofs.Carrying.{carried}
-use Rattle.gz_world.proofs.Hearing.{both_parts, one_part, left_part, right_part, two_parts}
 use Rattle.gz_world.proofs.Keeping.{moments_stand, sent_asked}
 use Rattle.gz_world.proofs.Listing.{listed}
 use Rattle.gz_world.proofs.Placing.{placed}
@@ -63,22 +59,24 @@ both_ways false false f g = refl
 -- a vote of a ballot is for some value
 ballot_found : (casts : List Cast) (key : List ℕ) (v : ℕ) (b : BallotAt) (i : ℕ) → has_ballot casts key v b i ≡ true → (x : Name) × (has_cast casts key v b x i ≡ true)
 ballot_found [] key v b i h = cc
-ballot_found (c ∷ casts) key v b i h = elim (one_part ((c.site == i) && (is_at c key v && same_ballot c.ballot b)) (has_ballot casts key v b i) h) [
-    inl e ↦ (let p = both_parts (c.site == i) (is_at c key v && same_ballot c.ballot b) e in
-      let q = both_parts (is_at c key v) (same_ballot c.ballot b) p.1 in
-      (c.name, left_part ((c.site == i) && is_vote c key v b c.name) (has_cast casts key v b c.name i)
-        (two_parts (c.site == i) (is_vote c key v b c.name) p.0 (two_parts (is_at c key v && same_ballot c.ballot b) (same_name c.name c.name) p.1 (name_refl c.name)))))
-  | inr e ↦ (let r = ballot_found casts key v b i e in (r.0, right_part ((c.site == i) && is_vote c key v b r.0) (has_cast casts key v b r.0 i) r.1))
-  ]
+ballot_found (c ∷ casts) key v b i h = elim (or_cases ((c.site == i) && (is_at c key v && same_ballot c.ballot b)) (has_ballot casts key v b i) h) [
+  | inl e ↦ (let p = and_parts (c.site == i) (is_at c key v && same_ballot c.ballot b) e in
+      let q = and_parts (is_at c key v) (same_ballot c.ballot b) p.1 in (
+        c.name,
+        or_left ((c.site == i) && is_vote c key v b c.name) (has_cast casts key v b c.name i)
+            (and_from (c.site == i) (is_vote c key v b c.name) p.0 (and_from (is_at c key v && same_ballot c.ballot b) (same_name c.name c.name) p.1 (name_refl c.name))),
+      ))
+  | inr e ↦ (let r = ballot_found casts key v b i e in (r.0, or_right ((c.site == i) && is_vote c key v b r.0) (has_cast casts key v b r.0 i) r.1))
+]
 
 ballot_from : (casts : List Cast) (key : List ℕ) (v : ℕ) (b : BallotAt) (x : Name) (i : ℕ) → has_cast casts key v b x i ≡ true → has_ballot casts key v b i ≡ true
 ballot_from [] key v b x i h = cc
-ballot_from (c ∷ casts) key v b x i h = elim (one_part ((c.site == i) && is_vote c key v b x) (has_cast casts key v b x i) h) [
-    inl e ↦ (let p = both_parts (c.site == i) (is_vote c key v b x) e in
-      let q = both_parts (is_at c key v && same_ballot c.ballot b) (same_name c.name x) p.1 in
-      left_part ((c.site == i) && (is_at c key v && same_ballot c.ballot b)) (has_ballot casts key v b i) (two_parts (c.site == i) (is_at c key v && same_ballot c.ballot b) p.0 q.0))
-  | inr e ↦ right_part ((c.site == i) && (is_at c key v && same_ballot c.ballot b)) (has_ballot casts key v b i) (ballot_from casts key v b x i e)
-  ]
+ballot_from (c ∷ casts) key v b x i h = elim (or_cases ((c.site == i) && is_vote c key v b x) (has_cast casts key v b x i) h) [
+  | inl e ↦ (let p = and_parts (c.site == i) (is_vote c key v b x) e in
+      let q = and_parts (is_at c key v && same_ballot c.ballot b) (same_name c.name x) p.1 in
+      or_left ((c.site == i) && (is_at c key v && same_ballot c.ballot b)) (has_ballot casts key v b i) (and_from (c.site == i) (is_at c key v && same_ballot c.ballot b) p.0 q.0))
+  | inr e ↦ or_right ((c.site == i) && (is_at c key v && same_ballot c.ballot b)) (has_ballot casts key v b i) (ballot_from casts key v b x i e)
+]
 
 seen_ballot : (seen : List Seen) (v : ℕ) (b : BallotAt) (x : Name) (i : ℕ) → cast seen v b x i ≡ true → cast_in seen v b i ≡ true
 seen_ballot seen v b x i h = let c = cast_found seen v b x i h in subst (λ k. cast_in seen v b k ≡ true) c.site (cast_in_from seen v b x c.entry c.found c.vote)
@@ -91,8 +89,8 @@ ballot_seen seen v b i h =
 
 ballot_same : (key : List ℕ) (s : State) (ds : List Deed) (v : ℕ) (b : BallotAt) (i : ℕ) → IsRun key s ds → has_ballot s.casts key v b i ≡ cast_in (seen_after unused ds) v b i
 ballot_same key s ds v b i run = both_ways (has_ballot s.casts key v b i) (cast_in (seen_after unused ds) v b i)
-  (λ h. let k = ballot_found s.casts key v b i h in seen_ballot (seen_after unused ds) v b k.0 i (sym (run.casts v b k.0 i) ∙ k.1))
-  (λ h. let k = ballot_seen (seen_after unused ds) v b i h in ballot_from s.casts key v b k.0 i (run.casts v b k.0 i ∙ k.1))
+    (λ h. let k = ballot_found s.casts key v b i h in seen_ballot (seen_after unused ds) v b k.0 i (sym (run.casts v b k.0 i) ∙ k.1))
+    (λ h. let k = ballot_seen (seen_after unused ds) v b i h in ballot_from s.casts key v b k.0 i (run.casts v b k.0 i ∙ k.1))
 
 -- what is known of an object's run in a world whose sites tell
 pub record IsToldRun (key : List ℕ) (s : State) (ds : List Deed) : Type 0 where
@@ -160,8 +158,8 @@ shown_to_call c call v x (t ∷ ts) (inl h) show named =
     let name : t.caller.name ≡ call.name = ap (λ (w : Caller). w.name) h.caller in
     let own : names t.caller.name call.answer ≡ Some x = ap (λ (y : Name). names y call.answer) name ∙ named in
     elim (answer_tells c t call.answer v (subst (IsAnswered c t) h.answer h.told.answered) show) [
-      inl k ↦ absurd (no_name_of (names t.caller.name call.answer) x k.1 own)
-    | inr k ↦ inl (name, subst (λ (y : Name). IsShownToMoments c t.moments v y) (same_name_of (names t.caller.name call.answer) k.0 x k.1.1 own) k.1.0)
+      | inl k ↦ absurd (no_name_of (names t.caller.name call.answer) x k.1 own)
+      | inr k ↦ inl (name, subst (λ (y : Name). IsShownToMoments c t.moments v y) (same_name_of (names t.caller.name call.answer) k.0 x k.1.1 own) k.1.0)
     ]
 shown_to_call c call v x (t ∷ ts) (inr h) show named = inr (shown_to_call c call v x ts h show named)
 
@@ -171,23 +169,24 @@ are_agreed key s ds k =
     let a = agreed key s ds k.placed k.run in
     record {
       sent = λ session v b x h.
-        let q = sent_in key s ds session (VotesClassic v b x) (s.tales session) k.run (k.listed.told session) (k.carries session) h in
-        safe_same key s ds v b x k (a.safe q.0 v b x q.1.0 q.1.1);
+          let q = sent_in key s ds session (VotesClassic v b x) (s.tales session) k.run (k.listed.told session) (k.carries session) h in
+          safe_same key s ds v b x k (a.safe q.0 v b x q.1.0 q.1.1);
       standing = λ v i b x l classic h. safe_same key s ds v b x k (a.standing v b x i classic (sym (voted_same key s ds v b x i k l) ∙ h));
       chained = λ v i b x positive h.
-        let next : v + 1 ≡ suc v = omega arith in
-        let y = a.chained v b x i positive (subst (λ u. cast (seen_after unused ds) u b x i ≡ true) next (sym (k.run.casts (v + 1) b x i) ∙ h)) in
-        (y.0, seen_chosen key s ds v y.0 k.run y.1);
+          let next : v + 1 ≡ suc v = omega arith in
+          let y = a.chained v b x i positive (subst (λ u. cast (seen_after unused ds) u b x i ≡ true) next (sym (k.run.casts (v + 1) b x i) ∙ h)) in
+          (y.0, seen_chosen key s ds v y.0 k.run y.1);
       chosen = λ v x h. seen_chosen key s ds v x k.run (a.chosen v x (shown_in key s ds h.0 v x (s.tales h.0) k.run (k.listed.told h.0) (k.carries h.0) h.1)).0;
       one = λ v x y h g. a.one v x y (inl (chosen_seen key s ds v x k.run h)) (inl (chosen_seen key s ds v y k.run g));
       once = λ u v x h g. a.once u v x (inl (chosen_seen key s ds u x k.run h)) (inl (chosen_seen key s ds v x k.run g));
       backed = λ v x h.
-        let enough = a.backed v x (inl (chosen_seen key s ds v x k.run h)) in
-        let more = count_within s.cfg.n (backs l v x) (λ i. slot_backs (acceptor_at s key i v) x) (λ i below e. ap (λ (r : Acceptor). slot_backs (r v) x) (row_same key s ds i k below) ∙ e) in
-        omega (arith, enough, more);
+          let enough = a.backed v x (inl (chosen_seen key s ds v x k.run h)) in
+          let more = count_within s.cfg.n (backs l v x) (λ i. slot_backs (acceptor_at s key i v) x) (λ i below e. ap (λ (r : Acceptor). slot_backs (r v) x) (row_same key s ds i k below) ∙ e) in
+          omega (arith, enough, more);
       answers = λ i v call x at own show named. (
         shown_to_call s.cfg call v x (s.tales call.name.session) (k.listed.tales i call at) show named,
-        seen_chosen key s ds v x k.run (a.chosen v x (named_shown s.cfg ds call v x (call_told key s ds call v (call_tale key s ds i call k.run k.listed k.carries at own) show) named)).0);
+        seen_chosen key s ds v x k.run (a.chosen v x (named_shown s.cfg ds call v x (call_told key s ds call v (call_tale key s ds i call k.run k.listed k.carries at own) show) named)).0,
+      );
     }
 
 pub agreement : (key : List ℕ) (s : State) → IsReached s → AllTell s → AreAgreed key s

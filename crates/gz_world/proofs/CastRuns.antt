@@ -1,9 +1,10 @@
 -- The audit list has the votes that replies showed.
-use Rattle.std.proofs.Common.{◌≡◌, ◌≢◌, ℕ, zero, suc, ◌+◌, ◌<◌, ◌≤◌, ◌⊎◌, inl, inr, List, [], ◌∷◌, ◌++◌, Some, None, Bool, true, false, cond, refl, ap, sym, ◌∙◌, subst, arith}
+use Rattle.std.proofs.Common.{◌≡◌, ℕ, ◌≤◌, inl, inr, List, [], ◌∷◌, ◌++◌, Some, None, Bool, true, false, cond, refl, ap, sym, ◌∙◌, subst, arith}
+use Rattle.std.proofs.lemmas.Bool.{eqb-true, or_cases, or_left, or_right}
 use Rattle.std.proofs.lemmas.Bool.Decides.{nat_tests}
 use Rattle.std.proofs.lemmas.Map.Text.{is_eq-slice_cmp}
 use Rattle.std.proofs.lemmas.Slice.Eq.{bytes_eq-Decides}
-use Rattle.std.specs.Prelude.{Option, ◌==◌, ◌&&◌, ◌||◌, nat_lt, if◌then◌else◌}
+use Rattle.std.specs.Prelude.{◌==◌, ◌&&◌, ◌||◌, nat_lt, if◌then◌else◌}
 use Rattle.std.specs.Ordering.{nat_cmp, ordering_then, is_eq}
 use Rattle.std.specs.Str.{bytes_eq}
 use Rattle.std.specs.declared.cmp.Ordering.{Ordering}
@@ -15,12 +16,12 @@ use Rattle.gz_core.specs.Slots.{slots, slot_of}
 use Rattle.gz_core.specs.declared.rows.Column.{Column}
 use Rattle.gz_core.specs.declared.rows.Column.TheVariants.{Open, Decided}
 use Rattle.gz_site.specs.Told.{same_key}
-use Rattle.gz_model.specs.Casts.{is_at, is_vote, has_cast}
+use Rattle.gz_model.specs.Casts.{is_vote, has_cast}
 use Rattle.gz_model.specs.declared.casts.Cast.{Cast}
 use Rattle.gz_ledger.specs.Acceptors.{slot_votes}
-use Rattle.gz_world.specs.Audit.{same_cast, is_listed, with_cast, with_casts, cast_of, cast_at, casts_of}
+use Rattle.gz_world.specs.Audit.{same_cast, is_listed, with_cast, with_casts, cast_at, casts_of}
 use Rattle.gz_world.specs.Heard.{IsClean}
-use Rattle.gz_world.proofs.Hearing.{both_parts, one_part, left_part, right_part, slots_open}
+use Rattle.gz_world.proofs.Hearing.{slots_open}
 use Rattle.gz_world.proofs.Keys.{same_key-eq}
 
 or_false : (b : Bool) → (b || false) ≡ b
@@ -47,14 +48,11 @@ then_equal Less p e = cc
 then_equal Equal p e = (refl, e)
 then_equal Greater p e = cc
 
-same_number : (m n : ℕ) → (m == n) ≡ true → m ≡ n
-same_number m n h = grind (arith, nat_tests)
-
 number_equal : (m n : ℕ) → is_eq (nat_cmp m n) ≡ true → m ≡ n
 number_equal m n h =
     elim (nat_lt m n) as (λ t. is_eq (cond t Less (cond (m == n) Equal Greater)) ≡ true → m ≡ n) [
-      true ↦ λ e. cc
-    | false ↦ λ e. elim (m == n) as (λ t. (m == n) ≡ t → is_eq (cond t Equal Greater) ≡ true → m ≡ n) [ true ↦ λ k _. same_number m n k | false ↦ λ k q. cc ] refl e
+      | true ↦ λ e. cc
+      | false ↦ λ e. elim (m == n) as (λ t. (m == n) ≡ t → is_eq (cond t Equal Greater) ≡ true → m ≡ n) [ true ↦ λ k _. eqb-true m n k | false ↦ λ k q. cc ] refl e
     ] h
 
 same_means : (c d : Cast) → same_cast c d ≡ true → c ≡ d
@@ -84,19 +82,19 @@ has_append (c ∷ xs) ys key v b x i = ap (λ t. is_this c key v b x i || t) (ha
 
 listed_has : (xs : List Cast) (c : Cast) (key : List ℕ) (v : ℕ) (b : BallotAt) (x : Name) (i : ℕ) → is_listed xs c ≡ true → is_this c key v b x i ≡ true → has_cast xs key v b x i ≡ true
 listed_has [] c key v b x i h e = cc
-listed_has (d ∷ xs) c key v b x i h e = elim (one_part (same_cast c d) (is_listed xs c) h) [
-    inl k ↦ left_part (is_this d key v b x i) (has_cast xs key v b x i) (subst (λ (q : Cast). is_this q key v b x i ≡ true) (same_means c d k) e)
-  | inr k ↦ right_part (is_this d key v b x i) (has_cast xs key v b x i) (listed_has xs c key v b x i k e)
-  ]
+listed_has (d ∷ xs) c key v b x i h e = elim (or_cases (same_cast c d) (is_listed xs c) h) [
+  | inl k ↦ or_left (is_this d key v b x i) (has_cast xs key v b x i) (subst (λ (q : Cast). is_this q key v b x i ≡ true) (same_means c d k) e)
+  | inr k ↦ or_right (is_this d key v b x i) (has_cast xs key v b x i) (listed_has xs c key v b x i k e)
+]
 
 with_has : (xs : List Cast) (c : Cast) (key : List ℕ) (v : ℕ) (b : BallotAt) (x : Name) (i : ℕ) → has_cast (with_cast xs c) key v b x i ≡ (has_cast xs key v b x i || is_this c key v b x i)
 with_has xs c key v b x i =
     elim (is_listed xs c) as (λ t. is_listed xs c ≡ t → has_cast (if t then xs else xs ++ c ∷ []) key v b x i ≡ (has_cast xs key v b x i || is_this c key v b x i)) [
-      true ↦ λ e. elim (is_this c key v b x i) as (λ t. is_this c key v b x i ≡ t → has_cast xs key v b x i ≡ (has_cast xs key v b x i || t)) [
-          true ↦ λ k. (let h = listed_has xs c key v b x i e k in h ∙ sym (ap (λ t. t || true) h))
+      | true ↦ λ e. elim (is_this c key v b x i) as (λ t. is_this c key v b x i ≡ t → has_cast xs key v b x i ≡ (has_cast xs key v b x i || t)) [
+        | true ↦ λ k. (let h = listed_has xs c key v b x i e k in h ∙ sym (ap (λ t. t || true) h))
         | false ↦ λ k. sym (or_false (has_cast xs key v b x i))
-        ] refl
-    | false ↦ λ e. has_append xs (c ∷ []) key v b x i ∙ ap (λ t. has_cast xs key v b x i || t) (or_false (is_this c key v b x i))
+      ] refl
+      | false ↦ λ e. has_append xs (c ∷ []) key v b x i ∙ ap (λ t. has_cast xs key v b x i || t) (or_false (is_this c key v b x i))
     ] refl
 
 pub fold_has : (fresh xs : List Cast) (key : List ℕ) (v : ℕ) (b : BallotAt) (x : Name) (i : ℕ) → has_cast (with_casts xs fresh) key v b x i ≡ (has_cast xs key v b x i || has_cast fresh key v b x i)
@@ -123,36 +121,32 @@ no_vote : (site i v : ℕ) (b : BallotAt) (x : Name) (cs : List (ℕ × Column))
 no_vote site i v b x cs none = ap (λ o. (site == i) && slot_votes (slot_of o) b x) none ∙ and_false (site == i)
 
 -- a column without a vote
-plain_column : (site : ℕ) (k key : List ℕ) (bound u : ℕ) (column : Column) (cs : List (ℕ × Column)) → ((b : BallotAt) (x : Name) → slot_votes (slot_of (Some column)) b x ≡ false) → u ≡ u → Rises u cs → (v : ℕ) (b : BallotAt) (x : Name) (i : ℕ) → has_cast (votes_in site k cs) key v b x i ≡ ((site == i) && slot_votes (slot_of (column_in cs v)) b x)
+plain_column : (site : ℕ) (k key : List ℕ) (u : ℕ) (column : Column) (cs : List (ℕ × Column)) → ((b : BallotAt) (x : Name) → slot_votes (slot_of (Some column)) b x ≡ false) → Rises u cs → (v : ℕ) (b : BallotAt) (x : Name) (i : ℕ) → has_cast (votes_in site k cs) key v b x i ≡ ((site == i) && slot_votes (slot_of (column_in cs v)) b x)
     → has_cast (votes_in site k cs) key v b x i ≡ ((site == i) && slot_votes (slot_of (if u == v then Some column else column_in cs v)) b x)
-plain_column site k key bound u column cs plain _ rises v b x i more =
+plain_column site k key u column cs plain rises v b x i more =
     elim (u == v) as (λ t. (u == v) ≡ t → has_cast (votes_in site k cs) key v b x i ≡ ((site == i) && slot_votes (slot_of (if t then Some column else column_in cs v)) b x)) [
-      true ↦ λ e. (let le : v ≤ u = grind (arith, nat_tests) in
-        more ∙ no_vote site i v b x cs (none_below v u cs le rises) ∙ sym (ap (λ t. (site == i) && t) (plain b x) ∙ and_false (site == i)))
-    | false ↦ λ e. more
+      | true ↦ λ e. (let le : v ≤ u = grind (arith, nat_tests) in
+          more ∙ no_vote site i v b x cs (none_below v u cs le rises) ∙ sym (ap (λ t. (site == i) && t) (plain b x) ∙ and_false (site == i)))
+      | false ↦ λ e. more
     ] refl
 
-and_parts_true : (a b : Bool) → a ≡ true → (a && b) ≡ b
-and_parts_true true b e = refl
-and_parts_true false b e = cc
-
-pub same_bytes : (k key : List ℕ) → k ≡ key → bytes_eq k key ≡ true
+same_bytes : (k key : List ℕ) → k ≡ key → bytes_eq k key ≡ true
 same_bytes k key e = (bytes_eq-Decides k key).1 e
 
 columns_shown : (site : ℕ) (k key : List ℕ) (bound : ℕ) (cs : List (ℕ × Column)) → k ≡ key → IsShownBy site k key bound cs
 columns_shown site k key bound [] same rises v b x i = sym (and_false (site == i))
-columns_shown site k key bound ((u, Open promise None) ∷ cs) same rises v b x i = plain_column site k key bound u (Open promise None) cs (λ b x. refl) refl rises.1 v b x i (columns_shown site k key u cs same rises.1 v b x i)
+columns_shown site k key bound ((u, Open promise None) ∷ cs) same rises v b x i = plain_column site k key u (Open promise None) cs (λ b x. refl) rises.1 v b x i (columns_shown site k key u cs same rises.1 v b x i)
 columns_shown site k key bound ((u, Open promise (Some vote)) ∷ cs) same rises v b x i =
     let more = columns_shown site k key u cs same rises.1 v b x i in
     let sb = same_ballot vote.ballot b in
     let sn = same_name (name_of vote.value) x in
     elim (u == v) as (λ t. (u == v) ≡ t → (((site == i) && (t && bytes_eq k key && sb && sn)) || has_cast (votes_in site k cs) key v b x i) ≡ ((site == i) && slot_votes (slot_of (if t then Some (Open promise (Some vote)) else column_in cs v)) b x)) [
-      true ↦ λ e. (let le : v ≤ u = grind (arith, nat_tests) in
-        let rest = more ∙ no_vote site i v b x cs (none_below v u cs le rises.1) in
-        ap (λ t. ((site == i) && (true && bytes_eq k key && sb && sn)) || t) rest ∙ or_false ((site == i) && (true && bytes_eq k key && sb && sn)) ∙ ap (λ t. (site == i) && (true && t && sb && sn)) (same_bytes k key same))
-    | false ↦ λ e. ap (λ t. t || has_cast (votes_in site k cs) key v b x i) (and_false (site == i)) ∙ more
+      | true ↦ λ e. (let le : v ≤ u = grind (arith, nat_tests) in
+          let rest = more ∙ no_vote site i v b x cs (none_below v u cs le rises.1) in
+          ap (λ t. ((site == i) && (true && bytes_eq k key && sb && sn)) || t) rest ∙ or_false ((site == i) && (true && bytes_eq k key && sb && sn)) ∙ ap (λ t. (site == i) && (true && t && sb && sn)) (same_bytes k key same))
+      | false ↦ λ e. ap (λ t. t || has_cast (votes_in site k cs) key v b x i) (and_false (site == i)) ∙ more
     ] refl
-columns_shown site k key bound ((u, Decided value) ∷ cs) same rises v b x i = plain_column site k key bound u (Decided value) cs (λ b x. refl) refl rises.1 v b x i (columns_shown site k key u cs same rises.1 v b x i)
+columns_shown site k key bound ((u, Decided value) ∷ cs) same rises v b x i = plain_column site k key u (Decided value) cs (λ b x. refl) rises.1 v b x i (columns_shown site k key u cs same rises.1 v b x i)
 
 -- the votes of a row are those of its slots
 pub row_casts : (site : ℕ) (k key : List ℕ) (row : RowAt) (v : ℕ) (b : BallotAt) (x : Name) (i : ℕ) → k ≡ key → IsClean row → has_cast (casts_of site k row) key v b x i ≡ ((site == i) && slot_votes (slots row v) b x)

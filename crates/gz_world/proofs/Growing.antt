@@ -1,10 +1,9 @@
 -- What a client sends at one event grows the store of its object by deeds of the machine of agreement.
-use Rattle.std.proofs.Common.{◌≡◌, ℕ, zero, suc, ◌+◌, ◌<◌, ◌≤◌, ◌⊎◌, inl, inr, List, [], ◌∷◌, ◌++◌, Some, None, Bool, true, false, length, refl, ap, sym, ◌∙◌, subst, arith}
-use Rattle.std.proofs.lemmas.Bool.Decides.{nat_tests}
-use Rattle.std.specs.Prelude.{Option, nat_le, if◌then◌else◌, slice_get}
+use Rattle.std.proofs.Common.{◌≡◌, ℕ, zero, suc, ◌+◌, ◌⊎◌, inl, inr, List, [], ◌∷◌, ◌++◌, Some, refl, ap, sym, ◌∙◌, subst, arith}
+use Rattle.gz_accept.proofs.Making.{done_above}
+use Rattle.std.specs.Prelude.{slice_get}
 use Rattle.gz_core.specs.Names.{Name, BallotAt}
-use Rattle.gz_core.specs.Rows.{RowAt, Rises}
-use Rattle.gz_core.specs.Calls.{key_of}
+use Rattle.gz_core.specs.Rows.{RowAt}
 use Rattle.gz_core.specs.Slots.{Act, Promises, act_of, slots}
 use Rattle.gz_core.specs.declared.configuration.Config.{Config}
 use Rattle.gz_core.specs.declared.requests.RowStep.{RowStep}
@@ -12,23 +11,17 @@ use Rattle.gz_core.specs.declared.requests.RowStep.TheVariants.{FastVote, Promis
 use Rattle.gz_core.specs.declared.requests.Op.{Op}
 use Rattle.gz_core.specs.declared.requests.Op.TheVariants.{ReadRow, WriteRow}
 use Rattle.gz_core.specs.declared.requests.Out.{Out}
-use Rattle.gz_core.specs.Rows.{column_in}
-use Rattle.gz_core.specs.declared.rows.Column.{Column}
-use Rattle.gz_accept.specs.declared.answers.Step.{Step}
-use Rattle.gz_accept.specs.declared.answers.Step.TheVariants.{Done, Trimmed}
-use Rattle.gz_accept.specs.Steps.{answer_at, column_or_blank, decide_column}
+use Rattle.gz_accept.specs.Steps.{decide_column}
 use Rattle.gz_accept.proofs.Rising.{rises_with}
-use Rattle.gz_round.specs.History.{Asked, Moment, Sent, Caller, Tale, asked_of, sent_from}
-use Rattle.gz_round.specs.declared.hearing.Seen.{Seen as SeenRow}
+use Rattle.gz_round.specs.History.{Moment, Sent, Caller, Tale, asked_of, sent_from}
 use Rattle.gz_round.specs.Sites.{SiteNow, site_now}
-use Rattle.gz_round.specs.Sending.{AreAllowed, MaySend, MayAsk, MayMake, IsMade}
+use Rattle.gz_round.specs.Sending.{AreAllowed, MayAsk, MayMake, IsMade}
 use Rattle.gz_history.specs.Answers.{IsPut}
-use Rattle.gz_ledger.specs.Acceptors.{Acceptor}
-use Rattle.gz_ledger.specs.Histories.{Seen, Write, IsIn, IsCurrent, IsProposed, VotesFor}
+use Rattle.gz_ledger.specs.Histories.{Seen, Write, IsIn, IsProposed, VotesFor}
 use Rattle.gz_ledger.specs.Agreements.{HasQuorums}
-use Rattle.gz_ledger.specs.Deeds.{Store, Stored, Answered, Deed, Begins, Asked as AskedOf, CanBegin, AreDeeds, after_deeds, rows_of, writes_of, done, late_rows, sent_after, AreCurrentDeeds}
+use Rattle.gz_ledger.specs.Deeds.{Store, Deed, Begins, Asked as AskedOf, AreDeeds, after_deeds, writes_of, late_rows, sent_after, AreCurrentDeeds}
 use Rattle.gz_ledger.proofs.Shown.{current_more}
-use Rattle.gz_world.specs.Heard.{unused, IsClean, heard_of, MomentsStand, IsStepOf, SendsStep, SentStep, PastStep, Keeps, IsAskedOf, AskedHere, CleanOp}
+use Rattle.gz_world.specs.Heard.{unused, IsClean, heard_of, MomentsStand, IsStepOf, SentStep, PastStep, Keeps, AskedHere, CleanOp}
 use Rattle.gz_world.proofs.Hearing.{IsLastRow, heard_known, last_stands, stand_more}
 use Rattle.gz_world.proofs.Sending.{step_makes}
 use Rattle.gz_world.proofs.Guarding.{may_send}
@@ -46,14 +39,6 @@ only_itself st = record { stored = λ s. refl; used = λ s. refl; replies = refl
 
 pub only_then : (a b c : Store) → OnlyAsks a b → OnlyAsks b c → OnlyAsks a c
 only_then a b c p q = record { stored = λ s. q.stored s ∙ p.stored s; used = λ s. q.used s ∙ p.used s; replies = q.replies ∙ p.replies; asked = λ k h. q.asked k (p.asked k h) }
-
--- a step is done above the floor alone
-done_above : (row : RowAt) (v : ℕ) (answer : Column → Step) → answer_at row v answer ≡ Done → row.floor < v
-done_above row v answer h =
-    elim (nat_le v row.floor) as (λ b. nat_le v row.floor ≡ b → (if b then Trimmed row.floor else answer (column_or_blank (column_in row.columns v))) ≡ Done → row.floor < v) [
-      true ↦ λ e k. cc
-    | false ↦ λ e k. grind (arith, nat_tests)
-    ] refl h
 
 -- a clean row that a step changes is clean
 pub clean_made : (c : Config) (w : Caller) (past : List Tale) (ms : List Moment) (step : RowStep) (old new : RowAt) → MayMake c w past ms step → IsMade step old new → IsClean old → IsClean new
@@ -88,13 +73,16 @@ ask_on : (c : Config) (w : Caller) (past : List Tale) (ms : List Moment) (ds : L
 ask_on c w past ms ds step qa q are stands may own is = λ call early late split current heard. record {
   later = Begins (heard_of ms) qa ∷ late;
   split = ap (λ (ks : List Deed). Begins (heard_of ms) qa ∷ ks) split;
-  current = (current, λ same v votes.
-    let name : call ≡ w.name = sym same ∙ own in
-    let cast : VotesFor (act_of step) v w.name = subst (λ a. VotesFor a v w.name) is (subst (VotesFor qa.write.act v) name votes) in
-    elim (own_current c w past ms ds step v q are stands may cast) [
-      inl p ↦ inl (subst (λ (ks : List Deed). IsProposed (sent_after unused ks) v call) split (subst (IsProposed (sent_after unused ds) v) (sym name) p))
-    | inr k ↦ inr (current_more c (heard_of ms) (late_rows unused late early) v (heard name) k.1)
-    ]);
+  current = (
+    current,
+    λ same v votes.
+        let name : call ≡ w.name = sym same ∙ own in
+        let cast : VotesFor (act_of step) v w.name = subst (λ a. VotesFor a v w.name) is (subst (VotesFor qa.write.act v) name votes) in
+        elim (own_current c w past ms ds step v q are stands may cast) [
+          | inl p ↦ inl (subst (λ (ks : List Deed). IsProposed (sent_after unused ks) v call) split (subst (IsProposed (sent_after unused ds) v) (sym name) p))
+          | inr k ↦ inr (current_more c (heard_of ms) (late_rows unused late early) v (heard name) k.1)
+        ],
+  );
   rows = λ e h. h;
 }
 
@@ -158,40 +146,48 @@ write_from c w past ms ds step wr q quorums are stands may own is (inr h) = inl 
 
 ask_op : (c : Config) (w : Caller) (past : List Tale) (ms : List Moment) (ds : List Deed) (site : ℕ) (now : SiteNow) (op : Op) → HasQuorums c → AreDeeds c unused ds → Keeps w.name past ms (after_deeds unused ds) → AreAllowed c w past ms
     → IsLastRow (after_deeds unused ds) site now.row → MayAsk c w past ms now op → (more : List Deed) × Asks c w past ms ds site op more
-ask_op c w past ms ds site now (ReadRow key) quorums are keeps allowed last may = (ds, record {
-  are = are;
-  only = only_itself (after_deeds unused ds);
-  own = λ q h e. inr (keeps.own q h e);
-  asked = λ act h. read_asked c w past ms ds key act keeps h;
-  drawn = keeps.drawn;
-  others = keeps.others;
-  here = tt;
-  clean = tt;
-  from = λ q h. inl h;
-  on = same_on c w.name ms ds;
-})
+ask_op c w past ms ds site now (ReadRow key) quorums are keeps allowed last may = (
+  ds,
+  record {
+    are = are;
+    only = only_itself (after_deeds unused ds);
+    own = λ q h e. inr (keeps.own q h e);
+    asked = λ act h. read_asked c w past ms ds key act keeps h;
+    drawn = keeps.drawn;
+    others = keeps.others;
+    here = tt;
+    clean = tt;
+    from = λ q h. inl h;
+    on = same_on c w.name ms ds;
+  },
+)
 ask_op c w past ms ds site now (WriteRow key expect step row) quorums are keeps allowed last may =
     let m = may.1 in
     let known = last (record { etag = expect; row = m.before }) m.last in
     let wr : Write = record { call = w.name; site = site; before = slots m.before; act = act_of step; after = slots row } in
-    let qa : AskedOf = record { expect = expect; write = wr } in
-    (Begins (heard_of ms) qa ∷ ds, record {
-      are = (are, record {
-        known = λ e h. heard_known (after_deeds unused ds) ms e keeps.stands h;
-        shown = known.1;
-        makes = step_makes step m.before row m.made;
-        may = may_send c w past ms (after_deeds unused ds) step keeps allowed m.guard;
-      });
-      only = record { stored = λ s. refl; used = λ s. refl; replies = refl; asked = λ q h. inr h };
-      own = λ q h e. write_own c w past ms ds step wr q keeps refl h e;
-      asked = λ act h. write_asked c w past ms ds step wr act keeps refl refl h;
-      drawn = λ q v b h is. write_drawn c w past ms ds step wr q v b keeps m.guard refl refl h is;
-      others = λ q h e. write_others c w past ms ds wr q keeps refl h e;
-      here = (qa, ((slots m.before, refl), inl refl));
-      clean = clean_made c w past ms step m.before row m.guard m.made known.0;
-      from = λ q h. write_from c w past ms ds step wr q quorums are keeps.stands m.guard refl refl h;
-      on = ask_on c w past ms ds step qa quorums are keeps.stands m.guard refl refl;
-    })
+    let qa : AskedOf = record { expect = expect; write = wr } in (
+      Begins (heard_of ms) qa ∷ ds,
+      record {
+        are = (
+          are,
+          record {
+            known = λ e h. heard_known (after_deeds unused ds) ms e keeps.stands h;
+            shown = known.1;
+            makes = step_makes step m.before row m.made;
+            may = may_send c w past ms (after_deeds unused ds) step keeps allowed m.guard;
+          },
+        );
+        only = record { stored = λ s. refl; used = λ s. refl; replies = refl; asked = λ q h. inr h };
+        own = λ q h e. write_own c w past ms ds step wr q keeps refl h e;
+        asked = λ act h. write_asked c w past ms ds step wr act keeps refl refl h;
+        drawn = λ q v b h is. write_drawn c w past ms ds step wr q v b keeps m.guard refl refl h is;
+        others = λ q h e. write_others c w past ms ds wr q keeps refl h e;
+        here = (qa, ((slots m.before, refl), inl refl));
+        clean = clean_made c w past ms step m.before row m.guard m.made known.0;
+        from = λ q h. write_from c w past ms ds step wr q quorums are keeps.stands m.guard refl refl h;
+        on = ask_on c w past ms ds step qa quorums are keeps.stands m.guard refl refl;
+      },
+    )
 
 -- the deeds of the requests that are sent at one event
 pub record Sends (c : Config) (w : Caller) (past : List Tale) (first : ℕ) (outs : List Out) (ms : List Moment) (ds more : List Deed) : Type 0 where
@@ -220,9 +216,9 @@ on_then c name ms ds mid more f g = λ call early late split current own.
 -- a write of the call that voted for its own value before is of a put where that one was
 put_before : (c : Config) (w : Caller) (past : List Tale) (ms : List Moment) (site : ℕ) (op : Op) (ds mid : List Deed) (v : ℕ) (act : Act) → Asks c w past ms ds site op mid → IsProposed (sent_after unused mid) v w.name → IsProposed (sent_after unused ds) v w.name ⊎ IsPut w.call
 put_before c w past ms site op ds mid v act one p = elim (one.from p.write p.found) [
-    inl h ↦ inl (record { write = p.write; found = h; own = p.own; votes = p.votes })
+  | inl h ↦ inl (record { write = p.write; found = h; own = p.own; votes = p.votes })
   | inr h ↦ h.1.1 v p.votes
-  ]
+]
 
 sent_new : (c : Config) (w : Caller) (past : List Tale) (ms : List Moment) (site : ℕ) (op : Op) (ds mid : List Deed) → Asks c w past ms ds site op mid → (q : Write) → IsIn q (writes_of (after_deeds unused mid).asked) ⊎ ((q.call ≡ w.name) × IsOwnVote w mid q.act) → IsIn q (writes_of (after_deeds unused ds).asked) ⊎ ((q.call ≡ w.name) × IsOwnVote w ds q.act)
 sent_new c w past ms site op ds mid one q (inl h) = elim (one.from q h) [ inl e ↦ inl e | inr e ↦ inr (e.0, e.1.1) ]
@@ -238,12 +234,14 @@ sends c w past first (out ∷ outs) ms ds quorums are keeps allowed =
     let stands : MomentsStand (after_deeds unused k.0) (Sent a ∷ ms) = (tt, stand_more (after_deeds unused ds) (after_deeds unused k.0) ms (λ r h. subst (IsIn r) (sym one.only.replies) h) keeps.stands) in
     let now : Keeps w.name past (Sent a ∷ ms) (after_deeds unused k.0) = record { stands = stands; own = one.own; asked = one.asked; drawn = one.drawn; others = one.others } in
     let r = sends c w past (first + 1) outs (Sent a ∷ ms) k.0 quorums one.are now allowed in
-    let rest = r.1 in
-    (r.0, record {
-      are = rest.are;
-      only = only_then (after_deeds unused ds) (after_deeds unused k.0) (after_deeds unused r.0) one.only rest.only;
-      keeps = rest.keeps;
-      here = here_cons w.name (after_deeds unused r.0) out outs (here_more w.name out.site out.op (after_deeds unused k.0) (after_deeds unused r.0) rest.only one.here, one.clean) rest.here;
-      from = λ q h. sent_new c w past ms out.site out.op ds k.0 one q (rest.from q h);
-      on = on_then c w.name ms ds k.0 r.0 one.on rest.on;
-    })
+    let rest = r.1 in (
+      r.0,
+      record {
+        are = rest.are;
+        only = only_then (after_deeds unused ds) (after_deeds unused k.0) (after_deeds unused r.0) one.only rest.only;
+        keeps = rest.keeps;
+        here = here_cons w.name (after_deeds unused r.0) out outs (here_more w.name out.site out.op (after_deeds unused k.0) (after_deeds unused r.0) rest.only one.here, one.clean) rest.here;
+        from = λ q h. sent_new c w past ms out.site out.op ds k.0 one q (rest.from q h);
+        on = on_then c w.name ms ds k.0 r.0 one.on rest.on;
+      },
+    )

@@ -1,12 +1,13 @@
 -- The guards of a client are within those of the machine of agreement.
-use Rattle.std.proofs.Common.{◌≡◌, ◌≢◌, ℕ, zero, suc, ◌+◌, ◌<◌, ◌≤◌, ◌⊎◌, inl, inr, List, [], ◌∷◌, ◌++◌, Some, None, Bool, true, false, cond, length, refl, ap, sym, ◌∙◌, subst, arith}
+use Rattle.std.proofs.Common.{◌≡◌, ℕ, ◌<◌, ◌≤◌, ◌⊎◌, inl, inr, List, [], ◌∷◌, Some, None, true, false, refl, ap, sym, ◌∙◌, subst, arith}
+use Rattle.gz_core.proofs.Counting.{count_found}
 use Rattle.std.proofs.lemmas.Bool.Decides.{nat_tests}
 use Rattle.std.proofs.lemmas.Bool.{cases_lt}
-use Rattle.std.specs.Prelude.{Option, ◌==◌, max, nat_le, if◌then◌else◌, slice_get}
-use Rattle.gz_core.specs.Names.{Name, BallotAt, same_ballot}
+use Rattle.std.specs.Prelude.{◌==◌, max, nat_le, if◌then◌else◌}
+use Rattle.gz_core.specs.Names.{BallotAt}
 use Rattle.gz_core.specs.Values.{name_of}
-use Rattle.gz_core.specs.Rows.{RowAt, Rises, column_in}
-use Rattle.gz_core.specs.Slots.{Act, VotesFast, Promises, VotesClassic, Decides, Trims, act_of, slots, slot_of}
+use Rattle.gz_core.specs.Rows.{Rises, column_in}
+use Rattle.gz_core.specs.Slots.{Promises, act_of, slots, slot_of}
 use Rattle.gz_core.specs.declared.rows.Column.{Column}
 use Rattle.gz_core.specs.declared.rows.Column.TheVariants.{Open, Decided}
 use Rattle.gz_core.specs.declared.configuration.Config.{Config}
@@ -17,18 +18,18 @@ use Rattle.gz_pick.specs.Looks.{row_top, top_in, shows_value}
 use Rattle.gz_pick.specs.Choices.{pick_of}
 use Rattle.gz_pick.specs.declared.heard.Heard.{Heard}
 use Rattle.gz_pick.specs.declared.heard.Pick.TheVariants.{Forced, Free}
-use Rattle.gz_model.specs.Choosing.{Allows, IsHeardAt}
+use Rattle.gz_model.specs.Choosing.{Allows}
 use Rattle.gz_round.specs.History.{Moment, Caller, Tale}
 use Rattle.gz_round.specs.Sites.{some_heard}
-use Rattle.gz_round.specs.Shown.{IsGrounded as IsGroundedTo, heard_at}
-use Rattle.gz_round.specs.Rounds.{MayPromise, MayClassicVote, IsLeft, IsNamedAt, MayPropose}
+use Rattle.gz_round.specs.Shown.{IsGrounded as IsGroundedTo}
+use Rattle.gz_round.specs.Rounds.{MayPromise, IsLeft, MayPropose}
 use Rattle.gz_round.specs.Sending.{AreAllowed, MayMake}
 use Rattle.gz_ledger.specs.Acceptors.{HasValue}
-use Rattle.gz_ledger.specs.Histories.{Seen, Write, IsIn, IsVotedAt, IsPromised}
+use Rattle.gz_ledger.specs.Histories.{Write, IsIn, IsVotedAt}
 use Rattle.gz_ledger.specs.Guards.{IsGrounded, IsClear, May}
 use Rattle.gz_ledger.specs.Deeds.{Store, writes_of}
-use Rattle.gz_world.specs.Heard.{IsClean, heard_of, MomentsStand, SentStep, PastStep, Keeps}
-use Rattle.gz_world.proofs.Hearing.{shown_heard, next_heard, heard_found, count_found, slots_open}
+use Rattle.gz_world.specs.Heard.{heard_of, MomentsStand, SentStep, PastStep, Keeps}
+use Rattle.gz_world.proofs.Hearing.{shown_heard, next_heard, heard_found, slots_open, le_means}
 use Rattle.gz_world.proofs.Sending.{clear_heard, own_named}
 use Rattle.gz_world.proofs.Promising.{classic_not_fast, sent_promises, unused_past, last_version, promised_sent, sent_casts, promises_heard, vote_heard}
 
@@ -44,8 +45,8 @@ top_above bound [] rises h = absurd (omega arith)
 top_above bound (c ∷ cs) rises h =
     let b = rises.0 in
     elim (shows_value c.1) as (λ t. 1 ≤ (if t then max c.0 (top_in cs) else top_in cs) → bound < (if t then max c.0 (top_in cs) else top_in cs)) [
-      true ↦ λ k. omega (arith, b)
-    | false ↦ λ k. let r = top_above c.0 cs rises.1 k in omega (arith, b, r)
+      | true ↦ λ k. omega (arith, b)
+      | false ↦ λ k. let r = top_above c.0 cs rises.1 k in omega (arith, b, r)
     ] h
 
 -- the column of the greatest version with a value
@@ -53,34 +54,31 @@ top_column : (bound : ℕ) (cs : List (ℕ × Column)) → Rises bound cs → 1 
 top_column bound [] rises h = absurd (omega arith)
 top_column bound (c ∷ cs) rises h =
     elim (cases_lt (top_in cs) 1) [
-      inl none ↦
-        elim (shows_value c.1) as (λ t. shows_value c.1 ≡ t → 1 ≤ (if t then max c.0 (top_in cs) else top_in cs) → (column : Column) × ((column_in (c ∷ cs) (if t then max c.0 (top_in cs) else top_in cs) ≡ Some column) × (shows_value column ≡ true))) [
-          true ↦ λ e k.
-            let top : max c.0 (top_in cs) ≡ c.0 = omega (arith, none) in
-            let same : (c.0 == max c.0 (top_in cs)) ≡ true = subst (λ q. (c.0 == q) ≡ true) (sym top) (grind (arith, nat_tests)) in
-            (c.1, (ap (λ b. if b then Some c.1 else column_in cs (max c.0 (top_in cs))) same, e))
-        | false ↦ λ e k. absurd (omega (arith, none, k))
-        ] refl h
-    | inr some ↦
-        let r = top_column c.0 cs rises.1 some in
-        let above = top_above c.0 cs rises.1 some in
-        let other : (c.0 == top_in cs) ≡ false = grind (arith, nat_tests) in
-        let there : column_in (c ∷ cs) (top_in cs) ≡ Some r.0 = ap (λ b. if b then Some c.1 else column_in cs (top_in cs)) other ∙ r.1.0 in
-        elim (shows_value c.1) as (λ t. (column : Column) × ((column_in (c ∷ cs) (if t then max c.0 (top_in cs) else top_in cs) ≡ Some column) × (shows_value column ≡ true))) [
-          true ↦ let top : max c.0 (top_in cs) ≡ top_in cs = omega (arith, above) in (r.0, (ap (column_in (c ∷ cs)) top ∙ there, r.1.1))
-        | false ↦ (r.0, (there, r.1.1))
-        ]
+      | inl none ↦
+          elim (shows_value c.1) as (λ t. shows_value c.1 ≡ t → 1 ≤ (if t then max c.0 (top_in cs) else top_in cs) → (column : Column) × ((column_in (c ∷ cs) (if t then max c.0 (top_in cs) else top_in cs) ≡ Some column) × (shows_value column ≡ true))) [
+            | true ↦ λ e k.
+                let top : max c.0 (top_in cs) ≡ c.0 = omega (arith, none) in
+                let same : (c.0 == max c.0 (top_in cs)) ≡ true = subst (λ q. (c.0 == q) ≡ true) (sym top) (grind (arith, nat_tests)) in
+                (c.1, (ap (λ b. if b then Some c.1 else column_in cs (max c.0 (top_in cs))) same, e))
+            | false ↦ λ e k. absurd (omega (arith, none, k))
+          ] refl h
+      | inr some ↦
+          let r = top_column c.0 cs rises.1 some in
+          let above = top_above c.0 cs rises.1 some in
+          let other : (c.0 == top_in cs) ≡ false = grind (arith, nat_tests) in
+          let there : column_in (c ∷ cs) (top_in cs) ≡ Some r.0 = ap (λ b. if b then Some c.1 else column_in cs (top_in cs)) other ∙ r.1.0 in
+          elim (shows_value c.1) as (λ t. (column : Column) × ((column_in (c ∷ cs) (if t then max c.0 (top_in cs) else top_in cs) ≡ Some column) × (shows_value column ≡ true))) [
+            | true ↦ let top : max c.0 (top_in cs) ≡ top_in cs = omega (arith, above) in (r.0, (ap (column_in (c ∷ cs)) top ∙ there, r.1.1))
+            | false ↦ (r.0, (there, r.1.1))
+          ]
     ]
-
-le_means : (a b : ℕ) → nat_le a b ≡ true → a ≤ b
-le_means a b h = grind (arith, nat_tests)
 
 -- a ground that was heard
 grounded_heard : (c : Config) (st : Store) (ms : List Moment) (v : ℕ) → 1 ≤ v → MomentsStand st ms → IsGroundedTo c ms v → IsGrounded c (heard_of ms) v
 grounded_heard c st ms v above stands (inl n) = inl (next_heard c st ms v stands n)
 grounded_heard c st ms v above stands (inr k) =
     let f = count_found c.n (some_heard (λ r. nat_le v (row_top r)) ms) k in
-    let g = heard_found st (λ r. nat_le v (row_top r)) ms f.0 stands f.1.1 in
+    let g = heard_found st (λ r. nat_le v (row_top r)) ms f.0 stands f.2 in
     let le = le_means v (row_top g.0) g.1.1.0 in
     let t = top_column 0 g.0.columns g.1.0.rises (omega (arith, le, above)) in
     let s : slots g.0 (row_top g.0) ≡ slot_of (Some t.0) = slots_open g.0 (row_top g.0) g.1.0.floor ∙ ap slot_of t.1.0 in
@@ -92,10 +90,10 @@ fresh_ballot : (c : Config) (w : Caller) (past : List Tale) (ms : List Moment) (
 fresh_ballot c w past ms st v b keeps allowed may q u found is =
     let drawn = keeps.drawn q u b found is in
     elim (keeps.others q found (sym drawn ∙ may.session)) [
-      inl same ↦
-        let sent : SentStep ms (Promises u b) = subst (SentStep ms) is (keeps.own q found same) in
-        (same, elim may.own [ inl none ↦ (let e : true ≡ false = sym (sent_promises ms u b sent) ∙ none in cc) | inr last ↦ last_version c w past ms u v b allowed last sent ])
-    | inr before ↦ absurd (unused_past past u b may.unused (subst (PastStep past) is before))
+      | inl same ↦
+          let sent : SentStep ms (Promises u b) = subst (SentStep ms) is (keeps.own q found same) in
+          (same, elim may.own [ inl none ↦ (let e : true ≡ false = sym (sent_promises ms u b sent) ∙ none in cc) | inr last ↦ last_version c w past ms u v b allowed last sent ])
+      | inr before ↦ absurd (unused_past past u b may.unused (subst (PastStep past) is before))
     ]
 
 -- what the promises leave to the call

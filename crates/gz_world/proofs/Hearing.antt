@@ -1,12 +1,14 @@
 -- What is shown to a call, by what it heard, is shown by rows of acceptors.
-use Rattle.std.proofs.Common.{◌≡◌, ◌≢◌, ℕ, zero, suc, ◌+◌, ◌<◌, ◌≤◌, ◌⊎◌, inl, inr, List, [], ◌∷◌, ◌++◌, Some, None, Bool, true, false, cond, length, refl, ap, sym, ◌∙◌, subst, arith}
+use Rattle.std.proofs.Common.{◌≡◌, ℕ, ◌≤◌, inl, inr, List, [], ◌∷◌, Some, None, Bool, true, false, refl, ap, sym, ◌∙◌, subst, arith}
+use Rattle.gz_ledger.proofs.Stores.{rows_in}
+use Rattle.gz_core.proofs.Counting.{count_weaker, count_found}
+use Rattle.gz_core.proofs.Ballots.{name_means}
+use Rattle.std.proofs.lemmas.Bool.{and_parts, or_cases, or_left, or_right, and_from, eqb-true}
 use Rattle.std.proofs.lemmas.Bool.Decides.{nat_tests}
-use Rattle.std.specs.Prelude.{Option, ◌==◌, ◌&&◌, ◌||◌, nat_lt, nat_le, not, is_some, if◌then◌else◌}
-use Rattle.gz_core.specs.Names.{Name, BallotAt, same_ballot, same_name}
-use Rattle.gz_core.specs.Counts.{count_sites}
-use Rattle.gz_core.specs.Configurations.{need}
+use Rattle.std.specs.Prelude.{Option, ◌==◌, ◌&&◌, ◌||◌, nat_lt, nat_le, if◌then◌else◌}
+use Rattle.gz_core.specs.Names.{Name, BallotAt}
 use Rattle.gz_core.specs.Rows.{RowAt, column_in}
-use Rattle.gz_core.specs.Slots.{Slot, Gone, DecidedAs, OpenAt, slots, slot_of}
+use Rattle.gz_core.specs.Slots.{Gone, DecidedAs, slots, slot_of}
 use Rattle.gz_core.specs.declared.rows.Column.{Column}
 use Rattle.gz_core.specs.declared.rows.Column.TheVariants.{Open, Decided}
 use Rattle.gz_core.specs.declared.configuration.Config.{Config}
@@ -14,39 +16,13 @@ use Rattle.gz_pick.specs.Looks.{column_vote, column_decision}
 use Rattle.gz_pick.specs.Evidences.{votes_for, decides, is_for, is_named}
 use Rattle.gz_round.specs.History.{Asked, Moment, Sent, Handed, GaveUp, Rested, GaveIn, is_row_request}
 use Rattle.gz_round.specs.declared.hearing.Seen.{Seen as SeenRow}
-use Rattle.gz_round.specs.Sites.{SiteNow, site_now, after, after_reply, concerns, is_to, seen_in, written_by, is_changed, passes, heard_in, some_heard}
-use Rattle.gz_round.specs.Shown.{heard_at, IsShown as IsShownTo, IsNext as IsNextTo}
+use Rattle.gz_round.specs.Sites.{SiteNow, site_now, after, after_reply, is_to, seen_in, written_by, is_changed, passes, some_heard}
+use Rattle.gz_round.specs.Shown.{IsShown as IsShownTo, IsNext as IsNextTo}
 use Rattle.gz_ledger.specs.Acceptors.{slot_votes}
-use Rattle.gz_ledger.specs.Histories.{Seen, IsIn, cast, IsChosenAt, IsDecidedAt, IsShown}
+use Rattle.gz_ledger.specs.Histories.{Seen, IsIn, cast, IsShown}
 use Rattle.gz_ledger.specs.Guards.{IsNext}
 use Rattle.gz_ledger.specs.Deeds.{Store, Answered, rows_of}
-use Rattle.gz_world.specs.Heard.{IsClean, entry_of, heard_of, SeenStands, MomentStands, MomentsStand}
-
--- tests of two parts
-pub both_parts : (a b : Bool) → (a && b) ≡ true → (a ≡ true) × (b ≡ true)
-both_parts true true h = (refl, refl)
-both_parts true false h = cc
-both_parts false b h = cc
-
-pub one_part : (a b : Bool) → (a || b) ≡ true → (a ≡ true) ⊎ (b ≡ true)
-one_part true b h = inl refl
-one_part false b h = inr h
-
-pub left_part : (a b : Bool) → a ≡ true → (a || b) ≡ true
-left_part true b h = refl
-left_part false b h = cc
-
-pub right_part : (a b : Bool) → b ≡ true → (a || b) ≡ true
-right_part true b h = refl
-right_part false b h = h
-
-pub two_parts : (a b : Bool) → a ≡ true → b ≡ true → (a && b) ≡ true
-two_parts true true h k = refl
-two_parts true false h k = cc
-two_parts false b h k = cc
-
-same_number : (m n : ℕ) → (m == n) ≡ true → m ≡ n
-same_number m n h = grind (arith, nat_tests)
+use Rattle.gz_world.specs.Heard.{IsClean, entry_of, heard_of, SeenStands, MomentsStand}
 
 -- a vote of a row from which nothing was collected is one of its slots
 vote_slot : (b : BallotAt) (x : Name) (o : Option Column) → is_for b x (column_vote o) ≡ slot_votes (slot_of o) b x
@@ -61,52 +37,25 @@ slots_open row v e = ap (λ f. if nat_lt 0 f && nat_le v f then Gone else slot_o
 pub votes_slot : (row : RowAt) (v : ℕ) (b : BallotAt) (x : Name) → row.floor ≡ 0 → votes_for b x v (Some row) ≡ slot_votes (slots row v) b x
 votes_slot row v b x e = vote_slot b x (column_in row.columns v) ∙ sym (ap (λ s. slot_votes s b x) (slots_open row v e))
 
--- a name that is another's
-pub same_means : (x y : Name) → same_name x y ≡ true → x ≡ y
-same_means x y h =
-    let p = both_parts (x.session == y.session) (x.seq == y.seq) h in
-    let s = same_number x.session y.session p.0 in
-    let q = same_number x.seq y.seq p.1 in
-    λ i. record { session = s i; seq = q i }
-
 decided_slot : (x : Name) (o : Option Column) → is_named x (column_decision o) ≡ true → slot_of o ≡ DecidedAs x
 decided_slot x None h = cc
 decided_slot x (Some (Open promise vote)) h = cc
-decided_slot x (Some (Decided value)) h = ap DecidedAs (same_means _ x h)
+decided_slot x (Some (Decided value)) h = ap DecidedAs (name_means _ x h)
 
 pub decides_slot : (row : RowAt) (v : ℕ) (x : Name) → row.floor ≡ 0 → decides x v (Some row) ≡ true → slots row v ≡ DecidedAs x
 decides_slot row v x e h = slots_open row v e ∙ decided_slot x (column_in row.columns v) h
-
--- a count of sites that pass more is greater
-pub count_more : (n : ℕ) (p q : ℕ → Bool) → ((s : ℕ) → p s ≡ true → q s ≡ true) → count_sites n p ≤ count_sites n q
-count_more zero p q f = omega arith
-count_more (suc n) p q f =
-    let r = count_more n p q f in
-    elim (p n) as (λ b. p n ≡ b → cond b (suc (count_sites n p)) (count_sites n p) ≤ cond (q n) (suc (count_sites n q)) (count_sites n q)) [
-      true ↦ λ e. subst (λ b. suc (count_sites n p) ≤ cond b (suc (count_sites n q)) (count_sites n q)) (sym (f n e)) (omega (arith, r))
-    | false ↦ λ e. elim (q n) as (λ b. count_sites n p ≤ cond b (suc (count_sites n q)) (count_sites n q)) [ true ↦ omega (arith, r) | false ↦ r ]
-    ] refl
-
--- a count above 0 has a site that passes
-pub count_found : (n : ℕ) (p : ℕ → Bool) → 1 ≤ count_sites n p → (s : ℕ) × ((s < n) × (p s ≡ true))
-count_found zero p h = absurd (omega arith)
-count_found (suc n) p h =
-    elim (p n) as (λ b. p n ≡ b → 1 ≤ cond b (suc (count_sites n p)) (count_sites n p) → (s : ℕ) × ((s < suc n) × (p s ≡ true))) [
-      true ↦ λ e _. (n, (omega arith, e))
-    | false ↦ λ e l. let r = count_found n p l in let b = r.1.0 in (r.0, (omega (arith, b), r.1.1))
-    ] refl h
 
 -- whether the vote is among the rows, of one more that was heard
 entry_cast : (st : Store) (p : RowAt → Bool) (v : ℕ) (b : BallotAt) (x : Name) (f : (r : RowAt) → r.floor ≡ 0 → p r ≡ true → slot_votes (slots r v) b x ≡ true)
     (a : Asked) (o : Option SeenRow) (es : List Seen) (s : ℕ) (rest : Bool) → SeenStands st a.site o → (rest ≡ true → cast es v b x s ≡ true) → ((passes p o && is_to a s) || rest) ≡ true → cast (entry_of a.site o es) v b x s ≡ true
 entry_cast st p v b x f a None es s rest stands more h = more h
 entry_cast st p v b x f a (Some seen) es s rest stands more h =
-    elim (one_part (p seen.row && is_to a s) rest h) [
-      inl e ↦
-        let k = both_parts (p seen.row) (is_to a s) e in
-        let t = both_parts (is_row_request a.op) (a.site == s) k.1 in
-        left_part ((a.site == s) && slot_votes (slots seen.row v) b x) (cast es v b x s) (two_parts (a.site == s) (slot_votes (slots seen.row v) b x) t.1 (f seen.row stands.0.floor k.0))
-    | inr e ↦ right_part ((a.site == s) && slot_votes (slots seen.row v) b x) (cast es v b x s) (more e)
+    elim (or_cases (p seen.row && is_to a s) rest h) [
+      | inl e ↦
+          let k = and_parts (p seen.row) (is_to a s) e in
+          let t = and_parts (is_row_request a.op) (a.site == s) k.1 in
+          or_left ((a.site == s) && slot_votes (slots seen.row v) b x) (cast es v b x s) (and_from (a.site == s) (slot_votes (slots seen.row v) b x) t.1 (f seen.row stands.0.floor k.0))
+      | inr e ↦ or_right ((a.site == s) && slot_votes (slots seen.row v) b x) (cast es v b x s) (more e)
     ]
 
 pub heard_cast : (st : Store) (p : RowAt → Bool) (v : ℕ) (b : BallotAt) (x : Name) → ((r : RowAt) → r.floor ≡ 0 → p r ≡ true → slot_votes (slots r v) b x ≡ true) → (ms : List Moment) (s : ℕ) → MomentsStand st ms → some_heard p ms s ≡ true → cast (heard_of ms) v b x s ≡ true
@@ -123,13 +72,13 @@ entry_found : (st : Store) (p : RowAt → Bool) (a : Asked) (o : Option SeenRow)
     → (r : RowAt) × (IsClean r × ((p r ≡ true) × (let e : Seen = record { site = s; row = slots r } in IsIn e (entry_of a.site o es))))
 entry_found st p a None es s rest stands more h = more h
 entry_found st p a (Some seen) es s rest stands more h =
-    elim (one_part (p seen.row && is_to a s) rest h) [
-      inl e ↦
-        let k = both_parts (p seen.row) (is_to a s) e in
-        let t = both_parts (is_row_request a.op) (a.site == s) k.1 in
-        let n = same_number a.site s t.1 in
-        (seen.row, (stands.0, (k.0, inl (ap (λ q. let e : Seen = record { site = q; row = slots seen.row } in e) (sym n)))))
-    | inr e ↦ let m = more e in (m.0, (m.1.0, (m.1.1.0, inr m.1.1.1)))
+    elim (or_cases (p seen.row && is_to a s) rest h) [
+      | inl e ↦
+          let k = and_parts (p seen.row) (is_to a s) e in
+          let t = and_parts (is_row_request a.op) (a.site == s) k.1 in
+          let n = eqb-true a.site s t.1 in
+          (seen.row, (stands.0, (k.0, inl (ap (λ q. let e : Seen = record { site = q; row = slots seen.row } in e) (sym n)))))
+      | inr e ↦ let m = more e in (m.0, (m.1.0, (m.1.1.0, inr m.1.1.1)))
     ]
 
 pub heard_found : (st : Store) (p : RowAt → Bool) (ms : List Moment) (s : ℕ) → MomentsStand st ms → some_heard p ms s ≡ true → (r : RowAt) × (IsClean r × ((p r ≡ true) × (let e : Seen = record { site = s; row = slots r } in IsIn e (heard_of ms))))
@@ -143,29 +92,24 @@ heard_found st p (GaveIn ∷ ms) s stands h = heard_found st p ms s stands.1 h
 -- what is shown to a call
 pub shown_heard : (c : Config) (st : Store) (ms : List Moment) (v : ℕ) (x : Name) → MomentsStand st ms → IsShownTo c ms v x → IsShown c (heard_of ms) v x
 shown_heard c st ms v x stands (inl k) =
-    let more = count_more c.n (some_heard (λ r. votes_for k.0 x v (Some r)) ms) (cast (heard_of ms) v k.0 x) (λ s h. heard_cast st (λ r. votes_for k.0 x v (Some r)) v k.0 x (λ r e t. sym (votes_slot r v k.0 x e) ∙ t) ms s stands h) in
+    let more = count_weaker c.n (some_heard (λ r. votes_for k.0 x v (Some r)) ms) (cast (heard_of ms) v k.0 x) (λ s h. heard_cast st (λ r. votes_for k.0 x v (Some r)) v k.0 x (λ r e t. sym (votes_slot r v k.0 x e) ∙ t) ms s stands h) in
     let enough = k.1 in
     inl (k.0, omega (arith, more, enough))
 shown_heard c st ms v x stands (inr k) =
     let f = count_found c.n (some_heard (λ r. decides x v (Some r)) ms) k in
-    let g = heard_found st (λ r. decides x v (Some r)) ms f.0 stands f.1.1 in
+    let g = heard_found st (λ r. decides x v (Some r)) ms f.0 stands f.2 in
     inr (record { entry = record { site = f.0; row = slots g.0 }; found = g.1.1.1; decided = decides_slot g.0 v x g.1.0.floor g.1.1.0 })
 
 pub next_heard : (c : Config) (st : Store) (ms : List Moment) (v : ℕ) → MomentsStand st ms → IsNextTo c ms v → IsNext c (heard_of ms) v
 next_heard c st ms v stands (inl e) = inl e
 next_heard c st ms v stands (inr k) = let e = k.2 in inr (k.0, omega (arith, e), k.1, shown_heard c st ms k.0 k.1 stands k.3)
 
--- what was heard was shown by the store
-row_in : (r : Answered) (rs : List Answered) → IsIn r rs → (let e : Seen = record { site = r.site; row = r.row } in IsIn e (rows_of rs))
-row_in r [] h = h
-row_in r (q ∷ rs) (inl e) = inl (ap (λ (k : Answered). let e : Seen = record { site = k.site; row = k.row } in e) e)
-row_in r (q ∷ rs) (inr h) = inr (row_in r rs h)
-
 entry_known : (st : Store) (s : ℕ) (o : Option SeenRow) (es : List Seen) (e : Seen) → SeenStands st s o → (IsIn e es → IsIn e (rows_of st.replies)) → IsIn e (entry_of s o es) → IsIn e (rows_of st.replies)
 entry_known st s None es e stands more h = more h
-entry_known st s (Some seen) es e stands more (inl q) = subst (λ k. IsIn k (rows_of st.replies)) (sym q) (row_in (record { site = s; etag = seen.etag; row = slots seen.row }) st.replies stands.1)
+entry_known st s (Some seen) es e stands more (inl q) = subst (λ k. IsIn k (rows_of st.replies)) (sym q) (rows_in st.replies (record { site = s; etag = seen.etag; row = slots seen.row }) stands.1)
 entry_known st s (Some seen) es e stands more (inr h) = more h
 
+-- what was heard was shown by the store
 pub heard_known : (st : Store) (ms : List Moment) (e : Seen) → MomentsStand st ms → IsIn e (heard_of ms) → IsIn e (rows_of st.replies)
 heard_known st [] e stands h = absurd h
 heard_known st (Sent a ∷ ms) e stands h = heard_known st ms e stands.1 h
@@ -195,9 +139,9 @@ last_stands st [] s stands = λ k e. cc
 last_stands st (Sent a ∷ ms) s stands = chosen_last st s (is_to a s) (site_now ms s) (after (Sent a) (site_now ms s)) (λ _. sent_last st s a (site_now ms s) (last_stands st ms s stands.1)) (last_stands st ms s stands.1)
 last_stands st (Handed a reply ∷ ms) s stands =
     chosen_last st s (is_to a s) (site_now ms s) (after (Handed a reply) (site_now ms s))
-      (λ e. let t = both_parts (is_row_request a.op) (a.site == s) e in
-        reply_last st s (seen_in (written_by a.op) reply) (is_changed reply) (site_now ms s) (subst (λ q. SeenStands st q (seen_in (written_by a.op) reply)) (same_number a.site s t.1) stands.0) (last_stands st ms s stands.1))
-      (last_stands st ms s stands.1)
+    (λ e. let t = and_parts (is_row_request a.op) (a.site == s) e in
+    reply_last st s (seen_in (written_by a.op) reply) (is_changed reply) (site_now ms s) (subst (λ q. SeenStands st q (seen_in (written_by a.op) reply)) (eqb-true a.site s t.1) stands.0) (last_stands st ms s stands.1))
+    (last_stands st ms s stands.1)
 last_stands st (GaveUp a ∷ ms) s stands = chosen_last st s (is_to a s) (site_now ms s) (after (GaveUp a) (site_now ms s)) (λ _. last_stands st ms s stands.1) (last_stands st ms s stands.1)
 last_stands st (Rested ∷ ms) s stands = last_stands st ms s stands.1
 last_stands st (GaveIn ∷ ms) s stands = last_stands st ms s stands.1
@@ -215,3 +159,6 @@ stand_more st su (GaveUp a ∷ ms) f stands = (tt, stand_more st su ms f stands.
 stand_more st su (Rested ∷ ms) f stands = (tt, stand_more st su ms f stands.1)
 stand_more st su (GaveIn ∷ ms) f stands = (tt, stand_more st su ms f stands.1)
 
+-- a test on two numbers
+pub le_means : (a b : ℕ) → nat_le a b ≡ true → a ≤ b
+le_means a b h = grind (arith, nat_tests)

@@ -1,25 +1,23 @@
 -- What the run of an object knows of the newest call of a session: all that the guards of its requests need.
-use Rattle.std.proofs.Common.{◌≡◌, ◌≢◌, ℕ, zero, suc, ◌+◌, ◌<◌, ◌≤◌, ◌⊎◌, inl, inr, List, [], ◌∷◌, ◌++◌, Some, None, Bool, true, false, length, refl, ap, sym, ◌∙◌, subst, arith}
-use Rattle.std.specs.Prelude.{Option, slice_get}
+use Rattle.std.proofs.Common.{◌≡◌, ℕ, ◌+◌, ◌≤◌, ◌⊎◌, inl, inr, List, [], ◌∷◌, Some, length, refl, ap, sym, ◌∙◌, subst, arith}
 use Rattle.gz_core.specs.Names.{Name, BallotAt}
 use Rattle.gz_core.specs.Calls.{key_of}
-use Rattle.gz_core.specs.Slots.{Act, Promises, act_of}
-use Rattle.gz_core.specs.declared.calls.Call.{Call}
+use Rattle.gz_core.specs.Slots.{Act, Promises}
 use Rattle.gz_core.specs.declared.configuration.Config.{Config}
 use Rattle.gz_core.specs.declared.requests.Op.{Op}
 use Rattle.gz_core.specs.declared.requests.Op.TheVariants.{ReadRow, WriteRow}
 use Rattle.gz_core.specs.declared.requests.Reply.{Reply}
 use Rattle.gz_round.specs.History.{Asked, Moment, Sent, Handed, GaveUp, Rested, GaveIn, Caller, Tale}
-use Rattle.gz_round.specs.Sites.{SiteNow, site_now, after, seen_in, written_by, is_changed}
+use Rattle.gz_round.specs.Sites.{SiteNow, site_now, seen_in, written_by, is_changed}
 use Rattle.gz_round.specs.Sending.{AreAllowed, MayAsk}
-use Rattle.gz_client.specs.Tales.{IsTold, AreTold}
+use Rattle.gz_client.specs.Tales.{AreTold}
 use Rattle.gz_ledger.specs.Histories.{Write, IsIn}
-use Rattle.gz_ledger.specs.Deeds.{Store, Deed, Asked as AskedOf, after_deeds, writes_of}
+use Rattle.gz_ledger.specs.Deeds.{Store, Asked as AskedOf, writes_of}
 use Rattle.gz_ledger.proofs.Stores.{writes_in}
-use Rattle.gz_world.specs.Carried.{IsRequestOf, MomentCarried, MomentsCarried}
-use Rattle.gz_world.specs.Heard.{unused, SeenStands, MomentStands, MomentsStand, IsStepOf, SendsStep, SentStep, PastStep, Keeps, AskedHere}
-use Rattle.gz_world.specs.Runs.{key_asked, RequestStands, IsSender, IsSentBy, IsRun}
-use Rattle.gz_world.specs.States.{RequestAt, State, numbered}
+use Rattle.gz_world.specs.Carried.{MomentCarried, MomentsCarried}
+use Rattle.gz_world.specs.Heard.{SeenStands, MomentStands, MomentsStand, IsStepOf, SendsStep, SentStep, PastStep, Keeps, AskedHere}
+use Rattle.gz_world.specs.Runs.{key_asked, RequestStands, IsSender, IsSentBy}
+use Rattle.gz_world.specs.States.{RequestAt, numbered}
 use Rattle.gz_world.proofs.Carrying.{none_after, still_awaits, awaits_sent}
 use Rattle.gz_world.proofs.Growing.{step_drawn}
 
@@ -32,9 +30,9 @@ asks_key c w past ms now (WriteRow key expect step row) h = h.0
 pub awaited_key : (c : Config) (w : Caller) (past : List Tale) (ms : List Moment) (s : ℕ) (a : Asked) → AreAllowed c w past ms → (site_now ms s).awaits ≡ Some a → key_asked a.op ≡ key_of w.call
 awaited_key c w past [] s a allowed e = cc
 awaited_key c w past (Sent b ∷ ms) s a allowed e = elim (awaits_sent b ms s a e) [
-    inl same ↦ subst (λ (k : Asked). key_asked k.op ≡ key_of w.call) same (asks_key c w past ms (site_now ms b.site) b.op allowed.0.asks)
+  | inl same ↦ subst (λ (k : Asked). key_asked k.op ≡ key_of w.call) same (asks_key c w past ms (site_now ms b.site) b.op allowed.0.asks)
   | inr k ↦ awaited_key c w past ms s a allowed.1 k
-  ]
+]
 awaited_key c w past (Handed b reply ∷ ms) s a allowed e = awaited_key c w past ms s a allowed.1 (still_awaits (Handed b reply) ms s a (λ now. none_after (seen_in (written_by b.op) reply) (is_changed reply) now) e)
 awaited_key c w past (GaveUp b ∷ ms) s a allowed e = awaited_key c w past ms s a allowed.1 (still_awaits (GaveUp b) ms s a (λ now. refl) e)
 awaited_key c w past (Rested ∷ ms) s a allowed e = awaited_key c w past ms s a allowed.1 (still_awaits Rested ms s a (λ now. refl) e)
@@ -52,7 +50,7 @@ handed_stands key net st name a reply all is h =
     let has = h.1.1 in
     let stands = all a.number r req.there (ap key_asked req.op_is ∙ is) in
     subst (λ (o : Op). SeenStands st a.site (seen_in (written_by o) reply)) req.op_is
-      (subst (λ (s : ℕ). SeenStands st s (seen_in (written_by r.op) reply)) req.site_is (stands.replies has.place has.tick reply has.there))
+    (subst (λ (s : ℕ). SeenStands st s (seen_in (written_by r.op) reply)) req.site_is (stands.replies has.place has.tick reply has.there))
 
 -- what a call of the object heard was shown by the store
 pub moments_stand : (key : List ℕ) (net : List RequestAt) (st : Store) (c : Config) (w : Caller) (past : List Tale) (ms : List Moment) → AllStand key net st → key_of w.call ≡ key → AreAllowed c w past ms → MomentsCarried net w.name ms → MomentsStand st ms
@@ -171,9 +169,9 @@ keeps_fresh c key tales st session name told sent is =
     record {
       stands = tt;
       own = λ q i same.
-        let most = sent_most c session key q.call q.act (tales session) (told session) (here_sent key tales st session (tales session) sent refl q i (ap (λ (x : Name). x.session) same ∙ place)) in
-        let seq : q.call.seq ≡ name.seq = ap (λ (x : Name). x.seq) same in
-        absurd (omega (arith, most, seq, count));
+          let most = sent_most c session key q.call q.act (tales session) (told session) (here_sent key tales st session (tales session) sent refl q i (ap (λ (x : Name). x.session) same ∙ place)) in
+          let seq : q.call.seq ≡ name.seq = ap (λ (x : Name). x.seq) same in
+          absurd (omega (arith, most, seq, count));
       asked = λ act h. absurd h;
       drawn = all_drawn c key tales st told sent;
       others = λ q i same. inr (sent_past key q.call q.act (tales session) (here_sent key tales st session (tales session) sent refl q i (same ∙ place)));

@@ -1,12 +1,11 @@
 -- The history of a world that is reached is legal.
-use Rattle.std.proofs.Common.{◌≡◌, ◌≢◌, ℕ, zero, suc, ◌+◌, ◌<◌, ◌≤◌, ◌⊎◌, inl, inr, List, [], ◌∷◌, ◌++◌, Some, None, Bool, true, false, length, refl, ap, sym, ◌∙◌, subst, arith}
-use Rattle.std.proofs.lemmas.Bool.{cases_eq, cases_lt}
+use Rattle.std.proofs.Common.{◌≡◌, ℕ, ◌+◌, ◌<◌, ◌≤◌, inl, inr, List, [], ◌∷◌, ◌++◌, Some, None, true, false, length, refl, ap, sym, ◌∙◌, subst, arith}
+use Rattle.std.proofs.lemmas.Bool.{cases_eq, cases_lt, or_cases, or_left, or_right}
 use Rattle.std.proofs.lemmas.Option.{slice_get_read, get_or_from_slice_get}
 use Rattle.std.specs.Prelude.{Option, Contains, ◌==◌, slice_get}
 use Rattle.gz_core.specs.Names.{Name}
 use Rattle.gz_core.specs.Calls.{key_of, own_value}
 use Rattle.gz_core.specs.Puts.{PutData}
-use Rattle.gz_core.specs.declared.values.Value.{Value}
 use Rattle.gz_core.specs.declared.values.Value.TheVariants.{Put as PutOf}
 use Rattle.gz_round.specs.Shown.{IsValueHeard}
 use Rattle.gz_core.specs.Slots.{Act}
@@ -15,31 +14,30 @@ use Rattle.gz_core.specs.declared.calls.Answer.TheVariants.{Ok, Bytes, Absent, N
 use Rattle.gz_core.specs.declared.calls.Call.{Call}
 use Rattle.gz_core.specs.declared.calls.Call.TheVariants.{Put, Get}
 use Rattle.gz_core.specs.declared.configuration.Config.{Config}
-use Rattle.gz_round.specs.History.{Moment, Sent, Handed, GaveUp, Rested, GaveIn, Caller, Tale}
-use Rattle.gz_round.specs.Sent.{vote_by, of_sent, passes_sent, some_sent, voted, voted_at}
+use Rattle.gz_round.specs.History.{Moment, Caller, Tale}
+use Rattle.gz_round.specs.Sent.{vote_by, of_sent, passes_sent, voted, voted_at}
 use Rattle.gz_client.specs.Tales.{IsAnswered, AreTold}
 use Rattle.gz_history.specs.Answers.{shows, names, read_from, bytes_read, bytes_written, IsPut, MayTakeEffect}
-use Rattle.gz_history.specs.Legal.{IsBefore, IsBeforeEnd, Agree, TakeEffectOnce, KeepOrder, IsSource, ReadsAWrite, ReturnWritten, IsLegal}
+use Rattle.gz_history.specs.Legal.{IsBefore, IsBeforeEnd, Agree, TakeEffectOnce, ReadsAWrite, ReturnWritten, IsLegal}
 use Rattle.gz_history.specs.declared.record.CallRec.{CallRec}
-use Rattle.gz_ledger.specs.Histories.{Seen, Write, IsIn, IsShown, VotesFor, IsProposed}
-use Rattle.gz_ledger.specs.Deeds.{Deed, Reads, Begins, Written, Failed, Elsewhere, after_deeds, AreDeeds, ledger_of, seen_after, sent_after}
+use Rattle.gz_ledger.specs.Histories.{Seen, IsIn, IsShown, VotesFor}
+use Rattle.gz_ledger.specs.Deeds.{Deed, Reads, Begins, Written, Failed, Elsewhere, AreDeeds, seen_after}
 use Rattle.gz_ledger.proofs.Shown.{shown_more}
 use Rattle.gz_ledger.proofs.Stores.{store_agreed, early_deeds}
-use Rattle.gz_world.specs.Heard.{unused, SentStep}
+use Rattle.gz_world.specs.Heard.{unused}
 use Rattle.gz_world.specs.Carried.{AreCarried}
 use Rattle.gz_world.specs.Listed.{IsTaleOf, IsAmong, AreListed}
 use Rattle.gz_world.specs.Placed.{ArePlaced}
 use Rattle.gz_world.specs.Reached.{IsReached, AllTell}
 use Rattle.gz_world.specs.Recorded.{IsNamedIn, TalesRecorded, AreRecorded}
 use Rattle.gz_world.specs.Valued.{IsGiven, AreValued}
-use Rattle.gz_world.specs.Runs.{IsSender, IsSentBy, IsShownAt, IsSince, IsRun}
+use Rattle.gz_world.specs.Runs.{IsSender, IsSentBy, IsRun}
 use Rattle.gz_world.specs.States.{State}
-use Rattle.gz_world.proofs.Agreeing.{agreed, same_name_of, no_name_of, named_shown, shown_positive, keeps_order}
-use Rattle.gz_world.proofs.Hearing.{one_part, left_part, right_part}
+use Rattle.gz_world.proofs.Agreeing.{agreed, named_shown, shown_positive, keeps_order}
 use Rattle.gz_world.proofs.Keeping.{sent_most}
 use Rattle.gz_world.proofs.Listing.{among_name}
 use Rattle.gz_world.proofs.Places.{get_below}
-use Rattle.gz_world.proofs.RunAnswers.{HasTale, call_tale, call_told}
+use Rattle.gz_world.proofs.RunAnswers.{call_tale, call_told}
 use Rattle.gz_world.proofs.Sending.{sent_votes}
 use Rattle.gz_world.proofs.Carrying.{carried}
 use Rattle.gz_world.proofs.Listing.{listed}
@@ -109,10 +107,10 @@ any_vote (Some q) u h = refl
 
 voted_some : (x : Name) (ms : List Moment) (u : ℕ) → voted_at x ms u ≡ true → voted x ms ≡ true
 voted_some x [] u h = cc
-voted_some x (m ∷ ms) u h = elim (one_part (passes_sent (λ q. q == u) (of_sent (vote_by x) m)) (voted_at x ms u) h) [
-    inl e ↦ left_part (passes_sent (λ (q : ℕ). true) (of_sent (vote_by x) m)) (voted x ms) (any_vote (of_sent (vote_by x) m) u e)
-  | inr e ↦ right_part (passes_sent (λ (q : ℕ). true) (of_sent (vote_by x) m)) (voted x ms) (voted_some x ms u e)
-  ]
+voted_some x (m ∷ ms) u h = elim (or_cases (passes_sent (λ q. q == u) (of_sent (vote_by x) m)) (voted_at x ms u) h) [
+  | inl e ↦ or_left (passes_sent (λ (q : ℕ). true) (of_sent (vote_by x) m)) (voted x ms) (any_vote (of_sent (vote_by x) m) u e)
+  | inr e ↦ or_right (passes_sent (λ (q : ℕ). true) (of_sent (vote_by x) m)) (voted x ms) (voted_some x ms u e)
+]
 
 -- and does not answer that it took no effect
 effect_of : (c : Config) (t : Tale) (answer : Option Answer) → IsAnswered c t answer → voted t.caller.name t.moments ≡ true → MayTakeEffect answer
@@ -166,25 +164,25 @@ not_after key s ds i j v a b x k ga gb ka kb shows_it shown name before =
     let early = since.early in
     let late = since.late in
     elim (since.ended i v a ga ka before shows_it) [
-      inl z ↦ (let positive = shown_positive key s ds v x k.listed k.placed k.run shown in omega (arith, z, positive))
-    | inr h ↦ (let more : IsShown s.cfg (seen_after unused (late ++ early)) v h.0 = shown_more s.cfg (seen_after unused early) (seen_after unused (late ++ early)) v h.0 (early_seen late early) h.1 in
-        let same : h.0 ≡ x = (agreed key s ds k.placed k.run).one v h.0 x (subst (λ (xs : List Deed). IsShown s.cfg (seen_after unused xs) v h.0) (sym since.split) more) shown in
-        let before = early_deeds s.cfg unused late early (subst (λ xs. AreDeeds s.cfg unused xs) since.split k.run.deeds) in
-        let p = ((store_agreed s.cfg unused early k.placed.config.quorums before).chosen v h.0 h.1).1 in
-        since.unsent p.write p.found (p.own ∙ same ∙ sym name))
+      | inl z ↦ (let positive = shown_positive key s ds v x k.listed k.placed k.run shown in omega (arith, z, positive))
+      | inr h ↦ (let more : IsShown s.cfg (seen_after unused (late ++ early)) v h.0 = shown_more s.cfg (seen_after unused early) (seen_after unused (late ++ early)) v h.0 (early_seen late early) h.1 in
+          let same : h.0 ≡ x = (agreed key s ds k.placed k.run).one v h.0 x (subst (λ (xs : List Deed). IsShown s.cfg (seen_after unused xs) v h.0) (sym since.split) more) shown in
+          let before = early_deeds s.cfg unused late early (subst (λ xs. AreDeeds s.cfg unused xs) since.split k.run.deeds) in
+          let p = ((store_agreed s.cfg unused early k.placed.config.quorums before).chosen v h.0 h.1).1 in
+          since.unsent p.write p.found (p.own ∙ same ∙ sym name))
     ]
 
 began_before : (key : List ℕ) (s : State) (ds : List Deed) (i j v : ℕ) (a b : CallRec) (x own : Name) (o : Option ℕ) → IsKnownRun key s ds → slice_get s.calls i ≡ Some a → slice_get s.calls j ≡ Some b → key_of a.call ≡ key → key_of b.call ≡ key
     → shows a.answer ≡ Some v → IsShown s.cfg (seen_after unused ds) v x → b.name ≡ x → own_value own a.call ≡ None → IsPut b.call → a.end ≡ o → IsBeforeEnd b.begin o
 began_before key s ds i j v a b x own None k ga gb ka kb shows_it shown name reads put e = tt
 began_before key s ds i j v a b x own (Some end) k ga gb ka kb shows_it shown name reads put e = elim (cases_lt b.begin end) [
-    inl l ↦ l
+  | inl l ↦ l
   | inr ge ↦ elim (cases_eq end b.begin) [
-      inl same ↦ (let at = k.placed.apart i j a b ga gb (e ∙ ap Some same) in
+    | inl same ↦ (let at = k.placed.apart i j a b ga gb (e ∙ ap Some same) in
         absurd (no_put own a.call reads (subst (λ (c : CallRec). IsPut c.call) (sym (same_call s.calls i j a b at ga gb)) put)))
     | inr ne ↦ (let lt : end < b.begin = below end b.begin ge ne in absurd (not_after key s ds i j v a b x k ga gb ka kb shows_it shown name (subst (λ q. IsBefore q b.begin) (sym e) lt)))
-    ]
   ]
+]
   where
     below : (m n : ℕ) → m ≤ n → (m ≡ n → ⊥) → m < n
     below m n le ne = grind arith
@@ -209,14 +207,19 @@ reads_a_write key s ds i a k ga ka = λ x from.
     let own : a.call ≡ h.tale.caller.call = sym (ap (λ (w : Caller). w.call) h.is.caller) in
     let put : IsPut b.call = subst IsPut call (so.sender.put v (subst (VotesFor q.act v) (sym name) p.votes)) in
     let kb : key_of b.call ≡ key = sym (ap key_of call) ∙ so.sender.key_is in
-    let cast : VotesFor q.act v t.caller.name = subst (VotesFor q.act v) (sym (so.sender.name_is ∙ name)) p.votes in
-    (b, (get_contains s.calls n.0 b n.2, record {
-      name = name;
-      key = kb ∙ sym ka;
-      write = put;
-      began = began_before key s ds i n.0 v a b x h.tale.caller.name a.end k ga n.2 ka kb r.shows_it shown name (ap (own_value h.tale.caller.name) own ∙ r.reads) put refl;
-      effect = effect_of c t b.answer (subst (IsAnswered c t) so.is.answer so.is.told.answered) (voted_some t.caller.name t.moments v (sent_votes t.moments q.act v t.caller.name so.sender.sent cast));
-    }))
+    let cast : VotesFor q.act v t.caller.name = subst (VotesFor q.act v) (sym (so.sender.name_is ∙ name)) p.votes in (
+      b,
+      (
+        get_contains s.calls n.0 b n.2,
+        record {
+          name = name;
+          key = kb ∙ sym ka;
+          write = put;
+          began = began_before key s ds i n.0 v a b x h.tale.caller.name a.end k ga n.2 ka kb r.shows_it shown name (ap (own_value h.tale.caller.name) own ∙ r.reads) put refl;
+          effect = effect_of c t b.answer (subst (IsAnswered c t) so.is.answer so.is.told.answered) (voted_some t.caller.name t.moments v (sent_votes t.moments q.act v t.caller.name so.sender.sent cast));
+        },
+      ),
+    )
 
 -- the bytes that the answer of a call that reads gives were heard with the name
 read_value : (c : Config) (t : Tale) (answer : Option Answer) (x : Name) (bytes : List ℕ) → IsAnswered c t answer → read_from answer ≡ Some x → bytes_read answer ≡ Some bytes → (v : ℕ) × IsValueHeard t.moments v (PutOf (record { name = x; bytes = bytes }))
@@ -262,27 +265,27 @@ known key s reached tell =
 pub legal : (s : State) → IsReached s → AllTell s → IsLegal s.calls
 legal s reached tell = record {
   agreement = λ a b ca cb same.
-    let k = known (key_of a.call) s reached tell in
-    let x = contains_get s.calls a ca in
-    let y = contains_get s.calls b cb in
-    agree (key_of a.call) s k.0 x.0 y.0 a b k.1 x.1 y.1 refl (sym same);
+      let k = known (key_of a.call) s reached tell in
+      let x = contains_get s.calls a ca in
+      let y = contains_get s.calls b cb in
+      agree (key_of a.call) s k.0 x.0 y.0 a b k.1 x.1 y.1 refl (sym same);
   once = λ a b ca cb same.
-    let k = known (key_of a.call) s reached tell in
-    let x = contains_get s.calls a ca in
-    let y = contains_get s.calls b cb in
-    take_effect_once (key_of a.call) s k.0 x.0 y.0 a b k.1 x.1 y.1 refl (sym same);
+      let k = known (key_of a.call) s reached tell in
+      let x = contains_get s.calls a ca in
+      let y = contains_get s.calls b cb in
+      take_effect_once (key_of a.call) s k.0 x.0 y.0 a b k.1 x.1 y.1 refl (sym same);
   order = λ a b ca cb same.
-    let k = known (key_of a.call) s reached tell in
-    let x = contains_get s.calls a ca in
-    let y = contains_get s.calls b cb in
-    keeps_order (key_of a.call) s k.0 x.0 y.0 a b k.1.run k.1.listed k.1.carries k.1.placed x.1 y.1 refl (sym same);
+      let k = known (key_of a.call) s reached tell in
+      let x = contains_get s.calls a ca in
+      let y = contains_get s.calls b cb in
+      keeps_order (key_of a.call) s k.0 x.0 y.0 a b k.1.run k.1.listed k.1.carries k.1.placed x.1 y.1 refl (sym same);
   sources = λ a ca.
-    let k = known (key_of a.call) s reached tell in
-    let x = contains_get s.calls a ca in
-    reads_a_write (key_of a.call) s k.0 x.0 a k.1 x.1 refl;
+      let k = known (key_of a.call) s reached tell in
+      let x = contains_get s.calls a ca in
+      reads_a_write (key_of a.call) s k.0 x.0 a k.1 x.1 refl;
   values = λ a b ca cb same.
-    let k = known (key_of a.call) s reached tell in
-    let x = contains_get s.calls a ca in
-    let y = contains_get s.calls b cb in
-    returns_written (key_of a.call) s k.0 x.0 y.0 a b k.1 x.1 y.1 refl;
+      let k = known (key_of a.call) s reached tell in
+      let x = contains_get s.calls a ca in
+      let y = contains_get s.calls b cb in
+      returns_written (key_of a.call) s k.0 x.0 y.0 a b k.1 x.1 y.1 refl;
 }

@@ -1,5 +1,5 @@
 -- Each step keeps the calls of the history those of the sessions' tales.
-use Rattle.std.proofs.Common.{◌≡◌, ◌≢◌, ℕ, zero, suc, ◌+◌, ◌<◌, ◌≤◌, ◌⊎◌, inl, inr, List, [], ◌∷◌, ◌++◌, Some, None, Bool, true, false, length, refl, ap, sym, ◌∙◌, subst, arith}
+use Rattle.std.proofs.Common.{◌≡◌, ◌≢◌, ℕ, ◌+◌, ◌≤◌, inl, inr, List, [], ◌∷◌, ◌++◌, Some, None, Bool, true, false, length, refl, ap, sym, ◌∙◌, subst, arith}
 use Rattle.std.proofs.lemmas.Bool.{cases_eq}
 use Rattle.std.proofs.lemmas.Bool.Decides.{nat_tests}
 use Rattle.std.specs.Prelude.{Option, MatchOption, ◌==◌, if◌then◌else◌, slice_get, slice_set}
@@ -17,7 +17,7 @@ use Rattle.gz_world.specs.declared.events.Event.TheVariants as events
 use Rattle.gz_world.specs.Listed.{IsTaleOf, IsAmong, AreListed}
 use Rattle.gz_world.specs.Reached.{IsOpening, IsReached, opened, stepped}
 use Rattle.gz_world.specs.Refusals.{refusal_of}
-use Rattle.gz_world.specs.States.{RequestAt, State, tick_of, next_of, with_tales, end_at}
+use Rattle.gz_world.specs.States.{RequestAt, State, tick_of, next_of, end_at}
 use Rattle.gz_world.specs.Steps.{SessionMoves, BeginsBy, TurnBy, TakesTurn, CallEnds, answered, Acts, Does, Skips, Step}
 use Rattle.gz_world.proofs.Places.{get_set_same, get_set_other, get_of_two, get_one}
 
@@ -25,11 +25,11 @@ use Rattle.gz_world.proofs.Places.{get_set_same, get_set_other, get_of_two, get_
 pub among_name : (c : Config) (session : ℕ) (call : CallRec) (ts : List Tale) → AreTold c session ts → IsAmong c call ts → (call.name.session ≡ session) × (call.name.seq ≤ length ts)
 among_name c session call [] told h = absurd h
 among_name c session call (t ∷ ts) told h = elim h [
-    inl e ↦ (let n : call.name ≡ record { session = session; seq = length ts + 1 } = sym (ap (λ (w : Caller). w.name) e.caller) ∙ told.1 in
+  | inl e ↦ (let n : call.name ≡ record { session = session; seq = length ts + 1 } = sym (ap (λ (w : Caller). w.name) e.caller) ∙ told.1 in
       let q : call.name.seq ≡ length ts + 1 = ap (λ (x : Name). x.seq) n in
       (ap (λ (x : Name). x.session) n, omega (arith, q)))
   | inr e ↦ (let r = among_name c session call ts told.2 e in let l = r.1 in (r.0, omega (arith, l)))
-  ]
+]
 
 -- the tales of the session that moves, and of another
 pub tales_here : (old new : State) (session : ℕ) (ts : List Tale) → SessionMoves old session ts new → new.tales session ≡ ts
@@ -41,8 +41,8 @@ tales_there old new session n ts m apart = m.tales n ∙ (let t : (n == session)
 moved_told : (old new : State) (session : ℕ) (ts : List Tale) → new.cfg ≡ old.cfg → SessionMoves old session ts new → ((n : ℕ) → AreTold old.cfg n (old.tales n)) → (n : ℕ) → AreTold new.cfg n (new.tales n)
 moved_told old new session ts cfg m told n =
     subst (λ c. AreTold c n (new.tales n)) (sym cfg) (elim (cases_eq n session) [
-      inl e ↦ subst (λ k. AreTold old.cfg k (new.tales k)) (sym e) (subst (AreTold old.cfg session) (sym (tales_here old new session ts m)) m.told)
-    | inr ne ↦ subst (AreTold old.cfg n) (sym (tales_there old new session n ts m ne)) (told n)
+      | inl e ↦ subst (λ k. AreTold old.cfg k (new.tales k)) (sym e) (subst (AreTold old.cfg session) (sym (tales_here old new session ts m)) m.told)
+      | inr ne ↦ subst (AreTold old.cfg n) (sym (tales_there old new session n ts m ne)) (told n)
     ])
 
 -- a tale that is among those of a session stays there
@@ -63,8 +63,12 @@ listed_same old new cfg tales calls l = record {
 -- a call that begins
 abbrev fresh_call : State → ℕ → Call → Turn → CallRec
 fresh_call old session call turn = record {
-  name = record { session = session; seq = length (old.tales session) + 1 }; call = call; begin = tick_of old;
-  end = end_at (tick_of old) turn.answer; answer = turn.answer }
+  name = record { session = session; seq = length (old.tales session) + 1 };
+  call = call;
+  begin = tick_of old;
+  end = end_at (tick_of old) turn.answer;
+  answer = turn.answer;
+}
 
 -- an earlier call has another name
 not_fresh : (old : State) (session : ℕ) (call : Call) (turn : Turn) (i : ℕ) (a : CallRec) → AreListed old → slice_get old.calls i ≡ Some a → a.name ≡ record { session = session; seq = length (old.tales session) + 1 } → ⊥
@@ -80,13 +84,13 @@ begun_apart : (old : State) (session : ℕ) (call : Call) (turn : Turn) → AreL
     → slice_get (old.calls ++ fresh_call old session call turn ∷ []) i ≡ Some a → slice_get (old.calls ++ fresh_call old session call turn ∷ []) j ≡ Some b → a.name ≡ b.name → i ≡ j
 begun_apart old session call turn l i j a b h k e =
     elim (get_of_two old.calls (fresh_call old session call turn ∷ []) i a h) [
-      inl x ↦ elim (get_of_two old.calls (fresh_call old session call turn ∷ []) j b k) [
-        inl y ↦ l.apart i j a b x y e
-      | inr y ↦ absurd (not_fresh old session call turn i a l x (e ∙ sym (ap (λ (c : CallRec). c.name) (get_one (fresh_call old session call turn) b y.0 y.1.1).1)))
+      | inl x ↦ elim (get_of_two old.calls (fresh_call old session call turn ∷ []) j b k) [
+        | inl y ↦ l.apart i j a b x y e
+        | inr y ↦ absurd (not_fresh old session call turn i a l x (e ∙ sym (ap (λ (c : CallRec). c.name) (get_one (fresh_call old session call turn) b y.0 y.1.1).1)))
       ]
-    | inr x ↦ elim (get_of_two old.calls (fresh_call old session call turn ∷ []) j b k) [
-        inl y ↦ absurd (not_fresh old session call turn j b l y (sym e ∙ sym (ap (λ (c : CallRec). c.name) (get_one (fresh_call old session call turn) a x.0 x.1.1).1)))
-      | inr y ↦ x.1.0 ∙ ap (λ z. length old.calls + z) (get_one (fresh_call old session call turn) a x.0 x.1.1).0 ∙ sym (y.1.0 ∙ ap (λ z. length old.calls + z) (get_one (fresh_call old session call turn) b y.0 y.1.1).0)
+      | inr x ↦ elim (get_of_two old.calls (fresh_call old session call turn ∷ []) j b k) [
+        | inl y ↦ absurd (not_fresh old session call turn j b l y (sym e ∙ sym (ap (λ (c : CallRec). c.name) (get_one (fresh_call old session call turn) a x.0 x.1.1).1)))
+        | inr y ↦ x.1.0 ∙ ap (λ z. length old.calls + z) (get_one (fresh_call old session call turn) a x.0 x.1.1).0 ∙ sym (y.1.0 ∙ ap (λ z. length old.calls + z) (get_one (fresh_call old session call turn) b y.0 y.1.1).0)
       ]
     ]
 
@@ -95,12 +99,12 @@ begun_among : (old new : State) (session : ℕ) (call : Call) (turn : Turn) (eff
 begun_among old new session call turn effect i a b l h =
     let ts = begun session call (next_of old) turn (old.tales session) ∷ old.tales session in
     elim (get_of_two old.calls (fresh_call old session call turn ∷ []) i a h) [
-      inl x ↦ elim (cases_eq a.name.session session) [
-        inl e ↦ subst (λ k. IsAmong new.cfg a (new.tales k)) (sym e) (among_here old new a session ts b.frame.cfg b.moves (inr (subst (λ k. IsAmong old.cfg a (old.tales k)) e (l.tales i a x))))
-      | inr ne ↦ among_same old new a a.name.session b.frame.cfg (tales_there old new session a.name.session ts b.moves ne) (l.tales i a x)
+      | inl x ↦ elim (cases_eq a.name.session session) [
+        | inl e ↦ subst (λ k. IsAmong new.cfg a (new.tales k)) (sym e) (among_here old new a session ts b.frame.cfg b.moves (inr (subst (λ k. IsAmong old.cfg a (old.tales k)) e (l.tales i a x))))
+        | inr ne ↦ among_same old new a a.name.session b.frame.cfg (tales_there old new session a.name.session ts b.moves ne) (l.tales i a x)
       ]
-    | inr x ↦ subst (λ (c : CallRec). IsAmong new.cfg c (new.tales c.name.session)) (get_one (fresh_call old session call turn) a x.0 x.1.1).1
-        (among_here old new (fresh_call old session call turn) session ts b.frame.cfg b.moves (inl (record { caller = refl; answer = refl; told = b.moves.told.0 })))
+      | inr x ↦ subst (λ (c : CallRec). IsAmong new.cfg c (new.tales c.name.session)) (get_one (fresh_call old session call turn) a x.0 x.1.1).1
+          (among_here old new (fresh_call old session call turn) session ts b.frame.cfg b.moves (inl (record { caller = refl; answer = refl; told = b.moves.told.0 })))
     ]
 
 begin_listed : (old new : State) (session : ℕ) (call : Call) (turn : Turn) (effect : Effect) → BeginsBy old session call turn effect new → AreListed old → AreListed new
@@ -122,12 +126,12 @@ answered_tale cfg tick (Some a) c past t after runs caller answer told e = recor
 -- the newest of some tales is that of the call with its name
 pub newest : (cfg : Config) (session : ℕ) (c : CallRec) (t : Tale) (ts : List Tale) → AreTold cfg session (t ∷ ts) → IsAmong cfg c (t ∷ ts) → c.name ≡ t.caller.name → IsTaleOf cfg c ts t
 newest cfg session c t ts told h name = elim h [
-    inl e ↦ e
+  | inl e ↦ e
   | inr e ↦ (let r = among_name cfg session c ts told.2 e in
       let most = r.1 in
       let q : c.name.seq ≡ length ts + 1 = ap (λ (x : Name). x.seq) (name ∙ told.1) in
       absurd (omega (arith, q, most)))
-  ]
+]
 
 -- what a session's turn is about
 pub record Turns (old new : State) (session : ℕ) (by : TurnBy) (after : Tale) : Type 0 where
@@ -150,17 +154,17 @@ turn_ended old new session by after t l =
     let among : IsAmong old.cfg c (by.tale ∷ by.earlier) = subst (IsAmong old.cfg c) (ap old.tales here ∙ t.tales) (l.tales t.calls.0 c t.calls.1.1.0) in
     let is = newest old.cfg session c by.tale by.earlier told among t.calls.1.1.1.0 in
     subst (λ k. IsAmong new.cfg (answered (tick_of old) by.turn.answer c) (new.tales k)) (sym (ap (λ (x : Name). x.session) (answered_name (tick_of old) by.turn.answer c) ∙ here))
-      (among_here old new (answered (tick_of old) by.turn.answer c) session (after ∷ by.earlier) t.cfg t.moves (inl (answered_tale old.cfg (tick_of old) by.turn.answer c by.earlier by.tale after t.running t.caller t.answer t.moves.told.0 is)))
+    (among_here old new (answered (tick_of old) by.turn.answer c) session (after ∷ by.earlier) t.cfg t.moves (inl (answered_tale old.cfg (tick_of old) by.turn.answer c by.earlier by.tale after t.running t.caller t.answer t.moves.told.0 is)))
 
 turn_other : (old new : State) (session : ℕ) (by : TurnBy) (after : Tale) (t : Turns old new session by after) (j : ℕ) (c : CallRec) → AreListed old → j ≢ t.calls.0 → slice_get old.calls j ≡ Some c → IsAmong new.cfg c (new.tales c.name.session)
 turn_other old new session by after t j c l apart h =
     elim (cases_eq c.name.session session) [
-      inl e ↦ subst (λ k. IsAmong new.cfg c (new.tales k)) (sym e) (among_here old new c session (after ∷ by.earlier) t.cfg t.moves
-        (elim (subst (IsAmong old.cfg c) (ap old.tales e ∙ t.tales) (l.tales j c h)) [
-          inl f ↦ absurd (apart (l.apart j t.calls.0 c t.calls.1.0 h t.calls.1.1.0 (sym (ap (λ (w : Caller). w.name) f.caller) ∙ sym t.calls.1.1.1.0)))
-        | inr f ↦ inr f
-        ]))
-    | inr ne ↦ among_same old new c c.name.session t.cfg (tales_there old new session c.name.session (after ∷ by.earlier) t.moves ne) (l.tales j c h)
+      | inl e ↦ subst (λ k. IsAmong new.cfg c (new.tales k)) (sym e) (among_here old new c session (after ∷ by.earlier) t.cfg t.moves
+          (elim (subst (IsAmong old.cfg c) (ap old.tales e ∙ t.tales) (l.tales j c h)) [
+            | inl f ↦ absurd (apart (l.apart j t.calls.0 c t.calls.1.0 h t.calls.1.1.0 (sym (ap (λ (w : Caller). w.name) f.caller) ∙ sym t.calls.1.1.1.0)))
+            | inr f ↦ inr f
+          ]))
+      | inr ne ↦ among_same old new c c.name.session t.cfg (tales_there old new session c.name.session (after ∷ by.earlier) t.moves ne) (l.tales j c h)
     ]
 
 turn_among : (old new : State) (session : ℕ) (by : TurnBy) (after : Tale) (t : Turns old new session by after) (j : ℕ) (c : CallRec) → AreListed old
@@ -168,10 +172,10 @@ turn_among : (old new : State) (session : ℕ) (by : TurnBy) (after : Tale) (t :
 turn_among old new session by after t j c l h =
     let ended = answered (tick_of old) by.turn.answer t.calls.1.0 in
     elim (cases_eq j t.calls.0) [
-      inl e ↦ (let k : Some ended ≡ Some c = sym (get_set_same old.calls t.calls.0 t.calls.1.0 ended t.calls.1.1.0) ∙ subst (λ i. slice_get (slice_set old.calls t.calls.0 ended) i ≡ Some c) e h in
-        let same : ended ≡ c = cc in
-        subst (λ (q : CallRec). IsAmong new.cfg q (new.tales q.name.session)) same (turn_ended old new session by after t l))
-    | inr ne ↦ turn_other old new session by after t j c l ne (sym (get_set_other old.calls t.calls.0 j ended ne) ∙ h)
+      | inl e ↦ (let k : Some ended ≡ Some c = sym (get_set_same old.calls t.calls.0 t.calls.1.0 ended t.calls.1.1.0) ∙ subst (λ i. slice_get (slice_set old.calls t.calls.0 ended) i ≡ Some c) e h in
+          let same : ended ≡ c = cc in
+          subst (λ (q : CallRec). IsAmong new.cfg q (new.tales q.name.session)) same (turn_ended old new session by after t l))
+      | inr ne ↦ turn_other old new session by after t j c l ne (sym (get_set_other old.calls t.calls.0 j ended ne) ∙ h)
     ]
 
 -- each call has a record with its name before the turn
@@ -180,10 +184,10 @@ turn_name : (old new : State) (session : ℕ) (by : TurnBy) (after : Tale) (t : 
 turn_name old new session by after t j c h =
     let ended = answered (tick_of old) by.turn.answer t.calls.1.0 in
     elim (cases_eq j t.calls.0) [
-      inl e ↦ (let k : Some ended ≡ Some c = sym (get_set_same old.calls t.calls.0 t.calls.1.0 ended t.calls.1.1.0) ∙ subst (λ i. slice_get (slice_set old.calls t.calls.0 ended) i ≡ Some c) e h in
-        let same : ended ≡ c = cc in
-        (t.calls.1.0, (ap (slice_get old.calls) e ∙ t.calls.1.1.0, sym (answered_name (tick_of old) by.turn.answer t.calls.1.0) ∙ ap (λ (q : CallRec). q.name) same)))
-    | inr ne ↦ (c, (sym (get_set_other old.calls t.calls.0 j ended ne) ∙ h, refl))
+      | inl e ↦ (let k : Some ended ≡ Some c = sym (get_set_same old.calls t.calls.0 t.calls.1.0 ended t.calls.1.1.0) ∙ subst (λ i. slice_get (slice_set old.calls t.calls.0 ended) i ≡ Some c) e h in
+          let same : ended ≡ c = cc in
+          (t.calls.1.0, (ap (slice_get old.calls) e ∙ t.calls.1.1.0, sym (answered_name (tick_of old) by.turn.answer t.calls.1.0) ∙ ap (λ (q : CallRec). q.name) same)))
+      | inr ne ↦ (c, (sym (get_set_other old.calls t.calls.0 j ended ne) ∙ h, refl))
     ]
 
 turn_listed : (old new : State) (session : ℕ) (by : TurnBy) (after : Tale) → Turns old new session by after → AreListed old → AreListed new
@@ -191,14 +195,20 @@ turn_listed old new session by after t l = record {
   told = moved_told old new session (after ∷ by.earlier) t.cfg t.moves l.told;
   tales = λ j c h. turn_among old new session by after t j c l (subst (λ cs. slice_get cs j ≡ Some c) t.calls.1.1.1.1 h);
   apart = λ i j a b h k e.
-    let x = turn_name old new session by after t i a (subst (λ cs. slice_get cs i ≡ Some a) t.calls.1.1.1.1 h) in
-    let y = turn_name old new session by after t j b (subst (λ cs. slice_get cs j ≡ Some b) t.calls.1.1.1.1 k) in
-    l.apart i j x.0 y.0 x.1.0 y.1.0 (x.1.1 ∙ e ∙ sym y.1.1);
+      let x = turn_name old new session by after t i a (subst (λ cs. slice_get cs i ≡ Some a) t.calls.1.1.1.1 h) in
+      let y = turn_name old new session by after t j b (subst (λ cs. slice_get cs j ≡ Some b) t.calls.1.1.1.1 k) in
+      l.apart i j x.0 y.0 x.1.0 y.1.0 (x.1.1 ∙ e ∙ sym y.1.1);
 }
 
 turns : (old new : State) (n : ℕ) (r marked : RequestAt) (moment : Asked → Moment) (by : TurnBy) (effect : Effect) → TakesTurn old n r moment by marked effect new → Turns old new r.name.session by (turned (next_of old) by.turn (moment by.asked) by.closing by.tale)
 turns old new n r marked moment by effect t = record {
-  cfg = t.frame.cfg; tales = t.tales; running = t.awaited.running; caller = refl; answer = refl; moves = t.moves; calls = t.calls;
+  cfg = t.frame.cfg;
+  tales = t.tales;
+  running = t.awaited.running;
+  caller = refl;
+  answer = refl;
+  moves = t.moves;
+  calls = t.calls;
 }
 
 does_listed : (old new : State) (event : Event) (effect : Effect) → Does old event effect new → AreListed old → AreListed new
@@ -218,8 +228,8 @@ does_listed old new (events.Crash session) effect d l = listed_same old new d.fr
 acts_listed : (old new : State) (event : Event) (effect : Effect) → Acts old event effect new → AreListed old → AreListed new
 acts_listed old new event effect acts l =
     elim (refusal_of old event) as (λ o. MatchOption o (Does old event effect new) (λ why. Skips old event why effect new) → AreListed new) [
-      None ↦ λ d. does_listed old new event effect d l
-    | Some why ↦ λ k. listed_same old new k.same.frame.cfg k.same.sessions.tales k.same.sessions.calls l
+      | None ↦ λ d. does_listed old new event effect d l
+      | Some why ↦ λ k. listed_same old new k.same.frame.cfg k.same.sessions.tales k.same.sessions.calls l
     ] acts
 
 step_listed : (old new : State) (event : Event) → Step old event new → AreListed old → AreListed new

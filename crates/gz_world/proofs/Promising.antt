@@ -1,52 +1,35 @@
 -- Promises and classic votes that a client may send, the machine of agreement may send.
-use Rattle.std.proofs.Common.{◌≡◌, ◌≢◌, ℕ, zero, suc, ◌+◌, ◌<◌, ◌≤◌, ◌⊎◌, inl, inr, List, [], ◌∷◌, ◌++◌, Some, None, Bool, true, false, cond, length, refl, ap, sym, ◌∙◌, subst, arith, get_or}
+use Rattle.std.proofs.Common.{◌≡◌, ℕ, ◌⊎◌, inl, inr, List, [], ◌∷◌, Some, None, true, false, refl, ap, sym, ◌∙◌, subst, arith, get_or}
+use Rattle.gz_core.proofs.Ballots.{same_refl, same_means, name_refl}
+use Rattle.std.proofs.lemmas.Bool.{eqb-true, eq-eqb, and_parts, or_cases, or_left, or_right, and_from}
 use Rattle.std.proofs.lemmas.Bool.Decides.{nat_tests}
 use Rattle.std.proofs.lemmas.Option.{slice_get_within, get_or_from_slice_get}
-use Rattle.std.specs.Prelude.{Option, ◌==◌, ◌&&◌, ◌||◌, if◌then◌else◌, slice_get}
+use Rattle.std.specs.Prelude.{Option, ◌==◌, ◌&&◌, slice_get}
 use Rattle.std.specs.List.{All}
 use Rattle.gz_core.specs.Names.{Name, BallotAt, fast, IsClassic, same_ballot, same_name}
 use Rattle.gz_core.specs.Values.{name_of}
 use Rattle.gz_core.specs.Rows.{RowAt, column_in}
-use Rattle.gz_core.specs.Slots.{Act, VotesFast, Promises, VotesClassic, Decides, Trims, OpenAt, act_of, slots, slot_of}
+use Rattle.gz_core.specs.Slots.{Promises, VotesClassic, OpenAt, act_of, slots, slot_of}
 use Rattle.gz_core.specs.declared.rows.Column.{Column}
 use Rattle.gz_core.specs.declared.rows.Column.TheVariants.{Open, Decided}
 use Rattle.gz_core.specs.declared.configuration.Config.{Config}
-use Rattle.gz_core.specs.declared.values.Value.{Value}
 use Rattle.gz_core.specs.declared.requests.RowStep.{RowStep}
 use Rattle.gz_core.specs.declared.requests.RowStep.TheVariants.{FastVote, Promise, ClassicVote, Decide, Trim}
 use Rattle.gz_core.specs.declared.requests.Op.{Op}
 use Rattle.gz_core.specs.declared.requests.Op.TheVariants.{ReadRow, WriteRow}
 use Rattle.gz_pick.specs.Looks.{column_vote, row_vote}
-use Rattle.gz_pick.specs.Choices.{pick_of}
 use Rattle.gz_pick.specs.declared.heard.Heard.{Heard}
-use Rattle.gz_pick.specs.declared.heard.Pick.TheVariants.{Forced, Free}
 use Rattle.gz_round.specs.History.{Asked, Moment, Sent, Handed, GaveUp, Rested, GaveIn, Caller, Tale, is_row_request}
 use Rattle.gz_round.specs.declared.hearing.Seen.{Seen as SeenRow}
-use Rattle.gz_round.specs.Sites.{SiteNow, site_now, concerns, heard_in, seen_in, written_by, is_to, WasHeard}
-use Rattle.gz_round.specs.Sent.{promise_by, of_step, of_sent, or_earlier, passes_sent, some_sent, has_promised, has_promised_at, last_promise}
-use Rattle.gz_round.specs.Rounds.{IsUnused, MayPromise, MayClassicVote, IsLeft, cast_by, has_cast, IsPromiseHeard as IsPromiseHeardBy, Cast}
-use Rattle.gz_round.specs.Sending.{AreAllowed, MaySend, MayAsk, MayMake}
-use Rattle.gz_ledger.specs.Histories.{Seen, Write, IsIn, IsPromised, IsVotedAt}
+use Rattle.gz_round.specs.Sites.{SiteNow, site_now, seen_in, written_by, is_to, WasHeard}
+use Rattle.gz_round.specs.Sent.{promise_by, of_step, or_earlier, passes_sent, has_promised, has_promised_at, last_promise}
+use Rattle.gz_round.specs.Rounds.{IsUnused, cast_by, has_cast, IsPromiseHeard as IsPromiseHeardBy}
+use Rattle.gz_round.specs.Sending.{AreAllowed, MayAsk, MayMake}
+use Rattle.gz_ledger.specs.Histories.{Seen, IsIn, IsVotedAt}
 use Rattle.gz_ledger.specs.Guards.{IsPromiseHeard}
-use Rattle.gz_ledger.specs.Deeds.{Store, Answered}
+use Rattle.gz_ledger.specs.Deeds.{Store}
 use Rattle.gz_world.specs.Heard.{IsClean, entry_of, heard_of, SeenStands, MomentsStand, IsStepOf, SentStep, PastStep}
-use Rattle.gz_world.proofs.Hearing.{both_parts, one_part, left_part, right_part, two_parts, slots_open}
-
-same_number : (m n : ℕ) → (m == n) ≡ true → m ≡ n
-same_number m n h = grind (arith, nat_tests)
-
-number_refl : (n : ℕ) → (n == n) ≡ true
-number_refl n = grind (arith, nat_tests)
-
-ballot_refl : (b : BallotAt) → same_ballot b b ≡ true
-ballot_refl b = let s : (b.round == b.round) ≡ true = grind (arith, nat_tests) in let q : (b.session == b.session) ≡ true = grind (arith, nat_tests) in two_parts (b.round == b.round) (b.session == b.session) s q
-
-ballot_means : (a b : BallotAt) → same_ballot a b ≡ true → a ≡ b
-ballot_means a b h =
-    let p = both_parts (a.round == b.round) (a.session == b.session) h in
-    let s = same_number a.round b.round p.0 in
-    let q = same_number a.session b.session p.1 in
-    λ i. record { round = s i; session = q i }
+use Rattle.gz_world.proofs.Hearing.{slots_open}
 
 pub classic_not_fast : (b : BallotAt) → IsClassic b → same_ballot b fast ≡ false
 classic_not_fast b h = let r = h.0 in let t : (b.round == 0) ≡ false = grind (arith, nat_tests) in ap (λ k. k && (b.session == 0)) t
@@ -66,8 +49,8 @@ op_promises (WriteRow key expect step row) v b h = step_promises step v b h
 -- a promise that was sent is counted as one
 pub sent_promises : (ms : List Moment) (v : ℕ) (b : BallotAt) → SentStep ms (Promises v b) → has_promised ms b ≡ true
 sent_promises [] v b h = absurd h
-sent_promises (Sent a ∷ ms) v b (inl h) = left_part (passes_sent (λ p. same_ballot p.1 b) (of_step promise_by a.op)) (has_promised ms b) (ap (passes_sent (λ p. same_ballot p.1 b)) (op_promises a.op v b h) ∙ ballot_refl b)
-sent_promises (Sent a ∷ ms) v b (inr h) = right_part (passes_sent (λ p. same_ballot p.1 b) (of_step promise_by a.op)) (has_promised ms b) (sent_promises ms v b h)
+sent_promises (Sent a ∷ ms) v b (inl h) = or_left (passes_sent (λ p. same_ballot p.1 b) (of_step promise_by a.op)) (has_promised ms b) (ap (passes_sent (λ p. same_ballot p.1 b)) (op_promises a.op v b h) ∙ same_refl b)
+sent_promises (Sent a ∷ ms) v b (inr h) = or_right (passes_sent (λ p. same_ballot p.1 b) (of_step promise_by a.op)) (has_promised ms b) (sent_promises ms v b h)
 sent_promises (Handed a reply ∷ ms) v b (inl h) = absurd h
 sent_promises (Handed a reply ∷ ms) v b (inr h) = sent_promises ms v b h
 sent_promises (GaveUp a ∷ ms) v b (inl h) = absurd h
@@ -103,8 +86,8 @@ last_step c w past (Promise n d) ms u v b guard last (inl e) same any = let p = 
 last_step c w past (Promise n d) ms u v b guard last (inr k) same any =
     let p = pair_parts (n, d) (v, b) last in
     elim guard.own [
-      inl none ↦ let e : true ≡ false = sym (sent_promises ms u b k) ∙ sym (ap (has_promised ms) p.1) ∙ none in cc
-    | inr before ↦ any n (before ∙ ap (λ (q : BallotAt). Some (n, q)) p.1) k ∙ p.0
+      | inl none ↦ let e : true ≡ false = sym (sent_promises ms u b k) ∙ sym (ap (has_promised ms) p.1) ∙ none in cc
+      | inr before ↦ any n (before ∙ ap (λ (q : BallotAt). Some (n, q)) p.1) k ∙ p.0
     ]
 last_step c w past (ClassicVote n d x) ms u v b guard last (inl e) same any = cc
 last_step c w past (ClassicVote n d x) ms u v b guard last (inr k) same any = same last k
@@ -135,9 +118,9 @@ last_version c w past (GaveIn ∷ ms) u v b allowed last (inr h) = last_version 
 step_promised : (step : RowStep) (v : ℕ) (b : BallotAt) → passes_sent (λ p. (p.0 == v) && same_ballot p.1 b) (promise_by step) ≡ true → act_of step ≡ Promises v b
 step_promised (FastVote u x) v b h = cc
 step_promised (Promise u d) v b h =
-    let p = both_parts (u == v) (same_ballot d b) h in
-    let n = same_number u v p.0 in
-    let m = ballot_means d b p.1 in
+    let p = and_parts (u == v) (same_ballot d b) h in
+    let n = eqb-true u v p.0 in
+    let m = same_means d b p.1 in
     λ i. Promises (n i) (m i)
 step_promised (ClassicVote u d x) v b h = cc
 step_promised (Decide u x) v b h = cc
@@ -150,16 +133,13 @@ op_promised (WriteRow key expect step row) v b h = step_promised step v b h
 pub promised_sent : (ms : List Moment) (v : ℕ) (b : BallotAt) → has_promised_at ms v b ≡ true → SentStep ms (Promises v b)
 promised_sent [] v b h = cc
 promised_sent (Sent a ∷ ms) v b h =
-    elim (one_part (passes_sent (λ p. (p.0 == v) && same_ballot p.1 b) (of_step promise_by a.op)) (has_promised_at ms v b) h) [ inl e ↦ inl (op_promised a.op v b e) | inr e ↦ inr (promised_sent ms v b e) ]
+    elim (or_cases (passes_sent (λ p. (p.0 == v) && same_ballot p.1 b) (of_step promise_by a.op)) (has_promised_at ms v b) h) [ inl e ↦ inl (op_promised a.op v b e) | inr e ↦ inr (promised_sent ms v b e) ]
 promised_sent (Handed a reply ∷ ms) v b h = inr (promised_sent ms v b h)
 promised_sent (GaveUp a ∷ ms) v b h = inr (promised_sent ms v b h)
 promised_sent (Rested ∷ ms) v b h = inr (promised_sent ms v b h)
 promised_sent (GaveIn ∷ ms) v b h = inr (promised_sent ms v b h)
 
 -- a classic vote that was sent is counted
-name_refl : (x : Name) → same_name x x ≡ true
-name_refl x = let s : (x.session == x.session) ≡ true = grind (arith, nat_tests) in let q : (x.seq == x.seq) ≡ true = grind (arith, nat_tests) in two_parts (x.session == x.session) (x.seq == x.seq) s q
-
 step_casts : (step : RowStep) (v : ℕ) (b : BallotAt) (y : Name) → act_of step ≡ VotesClassic v b y → passes_sent (λ k. (k.version == v) && same_ballot k.ballot b && same_name k.name y) (cast_by step) ≡ true
 step_casts (FastVote u x) v b y e = cc
 step_casts (Promise u d) v b y e = cc
@@ -167,7 +147,7 @@ step_casts (ClassicVote u d x) v b y e =
     let n : u ≡ v = cc in
     let m : d ≡ b = cc in
     let o : name_of x ≡ y = cc in
-    two_parts ((u == v) && same_ballot d b) (same_name (name_of x) y) (two_parts (u == v) (same_ballot d b) (subst (λ k. (u == k) ≡ true) n (number_refl u)) (subst (λ k. same_ballot d k ≡ true) m (ballot_refl d))) (subst (λ k. same_name (name_of x) k ≡ true) o (name_refl (name_of x)))
+    and_from ((u == v) && same_ballot d b) (same_name (name_of x) y) (and_from (u == v) (same_ballot d b) (subst (λ k. (u == k) ≡ true) n (eq-eqb u u refl)) (subst (λ k. same_ballot d k ≡ true) m (same_refl d))) (subst (λ k. same_name (name_of x) k ≡ true) o (name_refl (name_of x)))
 step_casts (Decide u x) v b y e = cc
 step_casts (Trim to x) v b y e = cc
 
@@ -177,8 +157,8 @@ op_casts (WriteRow key expect step row) v b y h = step_casts step v b y h
 
 pub sent_casts : (ms : List Moment) (v : ℕ) (b : BallotAt) (y : Name) → SentStep ms (VotesClassic v b y) → has_cast ms v b y ≡ true
 sent_casts [] v b y h = absurd h
-sent_casts (Sent a ∷ ms) v b y (inl h) = left_part (passes_sent (λ k. (k.version == v) && same_ballot k.ballot b && same_name k.name y) (of_step cast_by a.op)) (has_cast ms v b y) (op_casts a.op v b y h)
-sent_casts (Sent a ∷ ms) v b y (inr h) = right_part (passes_sent (λ k. (k.version == v) && same_ballot k.ballot b && same_name k.name y) (of_step cast_by a.op)) (has_cast ms v b y) (sent_casts ms v b y h)
+sent_casts (Sent a ∷ ms) v b y (inl h) = or_left (passes_sent (λ k. (k.version == v) && same_ballot k.ballot b && same_name k.name y) (of_step cast_by a.op)) (has_cast ms v b y) (op_casts a.op v b y h)
+sent_casts (Sent a ∷ ms) v b y (inr h) = or_right (passes_sent (λ k. (k.version == v) && same_ballot k.ballot b && same_name k.name y) (of_step cast_by a.op)) (has_cast ms v b y) (sent_casts ms v b y h)
 sent_casts (Handed a reply ∷ ms) v b y (inl h) = absurd h
 sent_casts (Handed a reply ∷ ms) v b y (inr h) = sent_casts ms v b y h
 sent_casts (GaveUp a ∷ ms) v b y (inl h) = absurd h
@@ -199,8 +179,8 @@ heard_entry st a s None es row stands to h = let bad = h.1.0 in cc
 heard_entry st a s (Some k) es row stands to h =
     let same : k ≡ h.0 = (let e = h.1.0 in cc) in
     let is : k.row ≡ row = ap (λ (q : SeenRow). q.row) same ∙ h.1.1 in
-    let t = both_parts (is_row_request a.op) (a.site == s) to in
-    let n = same_number a.site s t.1 in
+    let t = and_parts (is_row_request a.op) (a.site == s) to in
+    let n = eqb-true a.site s t.1 in
     (subst IsClean is stands.0, inl (λ i. let e : Seen = record { site = sym n i; row = slots (sym is i) } in e))
 
 pub was_heard : (st : Store) (ms : List Moment) (s : ℕ) (row : RowAt) → MomentsStand st ms → WasHeard ms s row → IsClean row × (let e : Seen = record { site = s; row = slots row } in IsIn e (heard_of ms))

@@ -1,18 +1,18 @@
 -- Each step keeps a call in the history for each tale.
-use Rattle.std.proofs.Common.{◌≡◌, ◌≢◌, ℕ, zero, suc, ◌+◌, ◌<◌, ◌≤◌, ◌⊎◌, inl, inr, List, [], ◌∷◌, ◌++◌, Some, None, Bool, true, false, length, refl, ap, sym, ◌∙◌, subst, arith}
+use Rattle.std.proofs.Common.{◌≡◌, ℕ, ◌+◌, inl, inr, List, [], ◌∷◌, ◌++◌, Some, None, length, refl, ap, sym, ◌∙◌, subst}
 use Rattle.std.proofs.lemmas.Bool.{cases_eq}
-use Rattle.std.specs.Prelude.{Option, MatchOption, slice_get, slice_set}
+use Rattle.std.specs.Prelude.{Option, MatchOption, slice_get}
 use Rattle.gz_core.specs.Names.{Name}
 use Rattle.gz_core.specs.declared.calls.Answer.{Answer}
 use Rattle.gz_core.specs.declared.calls.Call.{Call}
 use Rattle.gz_core.specs.declared.requests.Turn.{Turn}
-use Rattle.gz_round.specs.History.{Asked, Moment, Handed, GaveUp, Caller, Tale, begun, turned}
+use Rattle.gz_round.specs.History.{Asked, Moment, Handed, GaveUp, Tale, begun, turned}
 use Rattle.gz_history.specs.declared.record.CallRec.{CallRec}
 use Rattle.gz_world.specs.declared.events.Effect.{Effect}
 use Rattle.gz_world.specs.declared.events.Event.{Event}
 use Rattle.gz_world.specs.declared.events.Event.TheVariants as events
 use Rattle.gz_world.specs.Recorded.{IsNamedIn, TalesRecorded, AreRecorded}
-use Rattle.gz_world.specs.Reached.{IsOpening, IsReached, opened, stepped}
+use Rattle.gz_world.specs.Reached.{IsReached, opened, stepped}
 use Rattle.gz_world.specs.Refusals.{refusal_of}
 use Rattle.gz_world.specs.States.{RequestAt, State, tick_of, next_of, end_at}
 use Rattle.gz_world.specs.Steps.{SessionMoves, BeginsBy, TurnBy, TakesTurn, CallEnds, answered, Acts, Does, Skips, Step}
@@ -36,10 +36,10 @@ unfolding AreNamed
 named_ends old new name tick o ends = λ x h.
     let ended = answered tick o ends.1.0 in
     subst (λ xs. IsNamedIn xs x) (sym ends.1.1.1.1) (elim (cases_eq h.0 ends.0) [
-      inl e ↦ (let both : Some ends.1.0 ≡ Some h.1 = sym ends.1.1.0 ∙ sym (ap (slice_get old) e) ∙ h.2 in
-        let same : ends.1.0 ≡ h.1 = cc in
-        (ends.0, ended, get_set_same old ends.0 ends.1.0 ended ends.1.1.0, answered_name tick o ends.1.0 ∙ ap (λ (c : CallRec). c.name) same ∙ h.3))
-    | inr ne ↦ (h.0, h.1, get_set_other old ends.0 h.0 ended ne ∙ h.2, h.3)
+      | inl e ↦ (let both : Some ends.1.0 ≡ Some h.1 = sym ends.1.1.0 ∙ sym (ap (slice_get old) e) ∙ h.2 in
+          let same : ends.1.0 ≡ h.1 = cc in
+          (ends.0, ended, get_set_same old ends.0 ends.1.0 ended ends.1.1.0, answered_name tick o ends.1.0 ∙ ap (λ (c : CallRec). c.name) same ∙ h.3))
+      | inr ne ↦ (h.0, h.1, get_set_other old ends.0 h.0 ended ne ∙ h.2, h.3)
     ])
 
 tales_recorded : (old new : List CallRec) (ts : List Tale) → AreNamed old new → TalesRecorded old ts → TalesRecorded new ts
@@ -52,9 +52,9 @@ recorded_same old new tales calls h = λ n. subst (TalesRecorded new.calls) (sym
 
 moved_recorded : (old new : State) (session : ℕ) (ts : List Tale) → SessionMoves old session ts new → AreNamed old.calls new.calls → TalesRecorded new.calls ts → AreRecorded old → AreRecorded new
 moved_recorded old new session ts moves f here h = λ n. elim (cases_eq n session) [
-    inl e ↦ subst (TalesRecorded new.calls) (sym (ap new.tales e ∙ tales_here old new session ts moves)) here
+  | inl e ↦ subst (TalesRecorded new.calls) (sym (ap new.tales e ∙ tales_here old new session ts moves)) here
   | inr ne ↦ subst (TalesRecorded new.calls) (sym (tales_there old new session n ts moves ne)) (tales_recorded old.calls new.calls (old.tales n) f (h n))
-  ]
+]
 
 named_then : (xs ys zs : List CallRec) → AreNamed xs ys → AreNamed ys zs → AreNamed xs zs
 unfolding AreNamed
@@ -66,7 +66,7 @@ begin_recorded old new session call turn effect b h =
     let fresh : CallRec = record { name = record { session = session; seq = length past + 1 }; call = call; begin = tick_of old; end = end_at (tick_of old) turn.answer; answer = turn.answer } in
     let f : AreNamed old.calls new.calls = named_then old.calls (old.calls ++ fresh ∷ []) new.calls (named_append old.calls (fresh ∷ [])) (named_same (old.calls ++ fresh ∷ []) new.calls b.calls) in
     moved_recorded old new session (begun session call (next_of old) turn past ∷ past) b.moves f
-      ((length old.calls, fresh, ap (λ xs. slice_get xs (length old.calls)) b.calls ∙ get_last old.calls fresh, refl), tales_recorded old.calls new.calls past f (h session)) h
+    ((length old.calls, fresh, ap (λ xs. slice_get xs (length old.calls)) b.calls ∙ get_last old.calls fresh, refl), tales_recorded old.calls new.calls past f (h session)) h
 
 turn_recorded : (old new : State) (n : ℕ) (r marked : RequestAt) (moment : Asked → Moment) (by : TurnBy) (effect : Effect) → TakesTurn old n r moment by marked effect new → AreRecorded old → AreRecorded new
 turn_recorded old new n r marked moment by effect t h =
@@ -86,8 +86,8 @@ does_recorded old new (events.Crash session) effect d h = recorded_same old new 
 acts_recorded : (old new : State) (event : Event) (effect : Effect) → Acts old event effect new → AreRecorded old → AreRecorded new
 acts_recorded old new event effect acts h =
     elim (refusal_of old event) as (λ o. MatchOption o (Does old event effect new) (λ why. Skips old event why effect new) → AreRecorded new) [
-      None ↦ λ d. does_recorded old new event effect d h
-    | Some why ↦ λ k. recorded_same old new k.same.sessions.tales k.same.sessions.calls h
+      | None ↦ λ d. does_recorded old new event effect d h
+      | Some why ↦ λ k. recorded_same old new k.same.sessions.tales k.same.sessions.calls h
     ] acts
 
 step_recorded : (old new : State) (event : Event) → Step old event new → AreRecorded old → AreRecorded new

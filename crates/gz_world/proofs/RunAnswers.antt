@@ -1,5 +1,5 @@
 -- What the answers of calls show was shown in the run of their object.
-use Rattle.std.proofs.Common.{◌≡◌, ◌≢◌, ℕ, zero, suc, ◌+◌, ◌<◌, ◌≤◌, ◌⊎◌, inl, inr, List, [], ◌∷◌, ◌++◌, Some, None, Bool, true, false, refl, ap, sym, ◌∙◌, subst, arith}
+use Rattle.std.proofs.Common.{◌≡◌, ℕ, ◌⊎◌, inl, inr, List, [], ◌∷◌, Some, None, refl, ap, sym, ◌∙◌, subst}
 use Rattle.std.specs.Prelude.{Option, slice_get}
 use Rattle.gz_core.specs.Names.{Name}
 use Rattle.gz_core.specs.Calls.{key_of}
@@ -51,7 +51,7 @@ tale_shown c ds ms v x stands h = shown_more c (heard_of ms) (seen_after unused 
 abbrev pub IsTellingOf : Config → Tale → Option Answer → ℕ → Type 0
 IsTellingOf c t answer v = ((v ≡ 0) × (names t.caller.name answer ≡ None)) ⊎ ((x : Name) × (IsShownTo c t.moments v x × (names t.caller.name answer ≡ Some x)))
 
-same_version : (u v : ℕ) → Some u ≡ Some v → u ≡ v
+pub same_version : (u v : ℕ) → Some u ≡ Some v → u ≡ v
 same_version u v e = cc
 
 pub answer_tells : (c : Config) (t : Tale) (answer : Option Answer) (v : ℕ) → IsAnswered c t answer → shows answer ≡ Some v → IsTellingOf c t answer v
@@ -74,12 +74,12 @@ call_told key s ds a v h e =
     let is = h.is in
     let name : t.caller.name ≡ a.name = ap (λ (w : Caller). w.name) is.caller in
     elim (answer_tells s.cfg t a.answer v (subst (IsAnswered s.cfg t) is.answer is.told.answered) e) [
-      inl k ↦ inl (k.0, subst (λ x. names x a.answer ≡ None) name k.1)
-    | inr k ↦ inr (k.0, (tale_shown s.cfg ds t.moments v k.0 h.stands k.1.0, subst (λ x. names x a.answer ≡ Some k.0) name k.1.1))
+      | inl k ↦ inl (k.0, subst (λ x. names x a.answer ≡ None) name k.1)
+      | inr k ↦ inr (k.0, (tale_shown s.cfg ds t.moments v k.0 h.stands k.1.0, subst (λ x. names x a.answer ≡ Some k.0) name k.1.1))
     ]
 
 pub call_shown : (key : List ℕ) (s : State) (ds : List Deed) (i v : ℕ) (a : CallRec) → IsRun key s ds → AreListed s → AreCarried s → slice_get s.calls i ≡ Some a → key_of a.call ≡ key → shows a.answer ≡ Some v → IsShownAt s.cfg ds v
 call_shown key s ds i v a run listed carries at own e = elim (call_told key s ds a v (call_tale key s ds i a run listed carries at own) e) [
-    inl k ↦ inl k.0
+  | inl k ↦ inl k.0
   | inr k ↦ inr (k.0, k.1.0)
-  ]
+]

@@ -1,38 +1,34 @@
 -- What a session's turn sends keeps the run of each object.
-use Rattle.std.proofs.Common.{◌≡◌, ◌≢◌, ℕ, zero, suc, ◌+◌, ◌-◌, ◌<◌, ◌≤◌, ◌⊎◌, inl, inr, List, [], ◌∷◌, ◌++◌, Some, None, Bool, true, false, length, refl, ap, sym, ◌∙◌, subst, arith}
+use Rattle.std.proofs.Common.{◌≡◌, ℕ, zero, suc, ◌+◌, ◌⊎◌, inl, inr, List, [], ◌∷◌, ◌++◌, Some, None, refl, ap, sym, ◌∙◌, subst}
 use Rattle.std.proofs.lemmas.Bool.{cases_eq}
 use Rattle.std.specs.Prelude.{Option, slice_get, slice_set}
 use Rattle.gz_core.specs.Names.{Name}
 use Rattle.gz_core.specs.Calls.{key_of}
-use Rattle.gz_core.specs.Slots.{Act, slots}
+use Rattle.gz_core.specs.Slots.{Act}
 use Rattle.gz_core.specs.declared.calls.Answer.{Answer}
 use Rattle.gz_core.specs.declared.configuration.Config.{Config}
 use Rattle.gz_core.specs.declared.requests.Op.{Op}
 use Rattle.gz_core.specs.declared.requests.Out.{Out}
 use Rattle.gz_core.specs.declared.requests.Reply.{Reply}
 use Rattle.gz_round.specs.declared.hearing.Seen.{Seen as SeenRow}
-use Rattle.gz_round.specs.History.{Asked, Moment, Sent, Handed, GaveUp, Rested, GaveIn, Caller, Tale, IsClosing, asked_of, sent_from}
+use Rattle.gz_round.specs.History.{Moment, Sent, Handed, GaveUp, Rested, GaveIn, Caller, Tale, IsClosing, asked_of, sent_from}
 use Rattle.gz_round.specs.Sites.{site_now, seen_in, written_by}
 use Rattle.gz_round.specs.Sending.{AreAllowed}
-use Rattle.gz_client.specs.Tales.{AreTold}
-use Rattle.gz_history.specs.Answers.{shows, IsPut}
-use Rattle.gz_history.specs.Legal.{IsBefore}
 use Rattle.gz_history.specs.declared.record.CallRec.{CallRec}
 use Rattle.gz_model.specs.Casts.{has_cast}
-use Rattle.gz_ledger.specs.Histories.{Seen, Write, IsIn, IsProposed, VotesFor, cast}
+use Rattle.gz_ledger.specs.Histories.{Seen, Write, IsIn, cast}
 use Rattle.gz_ledger.specs.Agreements.{HasQuorums}
-use Rattle.gz_ledger.specs.Deeds.{Store, Answered, Asked as AskedOf, Deed, after_deeds, AreDeeds, rows_of, late_rows, sent_after, AreCurrentDeeds}
+use Rattle.gz_ledger.specs.Deeds.{Store, Deed, after_deeds, AreDeeds, rows_of, late_rows, sent_after, AreCurrentDeeds}
 use Rattle.gz_world.specs.Carried.{MomentsCarried}
-use Rattle.gz_world.specs.Heard.{unused, entry_of, heard_of, SeenStands, SentStep, Keeps, AskedHere, CleanOp}
-use Rattle.gz_world.specs.Placed.{ArePlaced}
-use Rattle.gz_world.specs.Runs.{SiteStands, key_asked, RequestStands, IsSender, IsSentBy, IsShownAt, IsRowIn, IsSince, IsRun}
-use Rattle.gz_world.specs.States.{RequestAt, State, tick_of, numbered, sent_request}
+use Rattle.gz_world.specs.Heard.{unused, entry_of, heard_of, SentStep, Keeps, AskedHere, CleanOp}
+use Rattle.gz_world.specs.Runs.{key_asked, RequestStands, IsSentBy, IsRowIn, IsSince, IsRun}
+use Rattle.gz_world.specs.States.{RequestAt, State, numbered, sent_request}
 use Rattle.gz_world.specs.Steps.{SitesStay, CallEnds, answered}
 use Rattle.gz_world.proofs.Growing.{OnlyAsks, only_itself, GoesOn, IsOwnVote, allowed_base, sends}
 use Rattle.gz_world.proofs.Keeping.{asks_key, awaited_key}
 use Rattle.gz_world.proofs.Keys.{key_cases}
 use Rattle.gz_world.proofs.Places.{get_set_same, get_set_other}
-use Rattle.gz_world.proofs.RunTools.{IsAlike, alike_stands, request_more, since_on}
+use Rattle.gz_world.proofs.RunTools.{IsAlike, alike_stands, request_more}
 
 -- a write that the call sends now
 pub record IsOurs (key : List ℕ) (w : Caller) (ds : List Deed) (ms : List Moment) (q : Write) : Type 0 where
@@ -61,23 +57,28 @@ sends_key c w past first (out ∷ outs) ms allowed (suc j) o e = sends_key c w p
 pub has_sent : (c : Config) (key : List ℕ) (w : Caller) (past : List Tale) (first : ℕ) (outs : List Out) (ms : List Moment) (ds : List Deed) → HasQuorums c → AreDeeds c unused ds → (key_of w.call ≡ key → Keeps w.name past ms (after_deeds unused ds)) → AreAllowed c w past (sent_from first outs ms)
     → (more : List Deed) × HasSent c key w first outs ms ds more
 has_sent c key w past first outs ms ds quorums are keeps allowed = elim (key_cases (key_of w.call) key) [
-    inl same ↦ (let k = sends c w past first outs ms ds quorums are (keeps same) allowed in
-      let s = k.1 in
-      (k.0, record {
-        deeds = s.are;
-        only = s.only;
-        here = λ j o e _. s.here j o e;
-        from = λ q i. elim (s.from q i) [ inl h ↦ inl h | inr h ↦ inr (record { call = h.0; key_is = same; sent = s.keeps.own q i h.0; vote = h.1 }) ];
-        on = λ call early late split current own. s.on call early late split current (λ e. own e same);
-      }))
-  | inr apart ↦ (ds, record {
-        deeds = are;
-        only = only_itself (after_deeds unused ds);
-        here = λ j o e is. absurd (apart.0 (sym (sends_key c w past first outs ms allowed j o e) ∙ is));
-        from = λ q i. inl i;
-        on = λ call early late split current own. record { later = late; split = split; current = current; rows = λ e h. h };
-      })
-  ]
+  | inl same ↦ (let k = sends c w past first outs ms ds quorums are (keeps same) allowed in
+      let s = k.1 in (
+        k.0,
+        record {
+          deeds = s.are;
+          only = s.only;
+          here = λ j o e _. s.here j o e;
+          from = λ q i. elim (s.from q i) [ inl h ↦ inl h | inr h ↦ inr (record { call = h.0; key_is = same; sent = s.keeps.own q i h.0; vote = h.1 }) ];
+          on = λ call early late split current own. s.on call early late split current (λ e. own e same);
+        },
+      ))
+  | inr apart ↦ (
+    ds,
+    record {
+      deeds = are;
+      only = only_itself (after_deeds unused ds);
+      here = λ j o e is. absurd (apart.0 (sym (sends_key c w past first outs ms allowed j o e) ∙ is));
+      from = λ q i. inl i;
+      on = λ call early late split current own. record { later = late; split = split; current = current; rows = λ e h. h };
+    },
+  )
+]
 
 -- each request is one that was there, or was just sent
 abbrev pub NetFrom : List RequestAt → List RequestAt → Name → ℕ → List Out → Type 0
@@ -95,15 +96,15 @@ sent_run key old new ds more w first tick outs ms cfg stay net has sent calls ru
     record {
       deeds = subst (λ c. AreDeeds c unused more) (sym cfg) has.deeds;
       sites = λ i told is.
-        let s = run.sites i told (sym (stay.sites i) ∙ is) in
-        record { stored = only.stored i ∙ s.stored; used = only.used i ∙ s.used; clean = s.clean };
+          let s = run.sites i told (sym (stay.sites i) ∙ is) in
+          record { stored = only.stored i ∙ s.stored; used = only.used i ∙ s.used; clean = s.clean };
       requests = λ m q there is. elim (net m q there) [
-          inl k ↦ (let same = k.1.1.1 in
+        | inl k ↦ (let same = k.1.1.1 in
             alike_stands (after_deeds unused more) k.1.0 q same
-              (request_more (after_deeds unused ds) (after_deeds unused more) k.1.0 (λ a h. subst (IsIn a) (sym only.replies) h) only.asked (run.requests k.0 k.1.0 k.1.1.0 (sym (ap key_asked same.op) ∙ is))))
+            (request_more (after_deeds unused ds) (after_deeds unused more) k.1.0 (λ a h. subst (IsIn a) (sym only.replies) h) only.asked (run.requests k.0 k.1.0 k.1.1.0 (sym (ap key_asked same.op) ∙ is))))
         | inr k ↦ (let e = k.1.1.1 in
             subst (RequestStands (after_deeds unused more)) e (fresh_stands (after_deeds unused more) w.name tick k.1.0 (has.here k.0 k.1.0 k.1.1.0 (ap (λ (x : RequestAt). key_asked x.op) e ∙ is))))
-        ];
+      ];
       casts = λ v b x i. ap (λ cs. has_cast cs key v b x i) stay.casts ∙ run.casts v b x i ∙ sym (ap (λ rs. cast (rows_of rs) v b x i) only.replies);
       sent = sent;
       calls = calls;
@@ -127,8 +128,8 @@ heard_in_rows c key net w past (Handed a reply ∷ ms) rows is allowed carried a
     let own = awaited_key c w past ms a.site a allowed.1 allowed.0 ∙ is in
     let row = all a.number has.place has.tick r reply req.there (ap key_asked req.op_is ∙ own) req.name_is has.there in
     entry_in a.site (seen_in (written_by a.op) reply) (heard_of ms) rows e
-      (subst (λ (o : Op). IsRowIn a.site (seen_in (written_by o) reply) rows) req.op_is (subst (λ (s : ℕ). IsRowIn s (seen_in (written_by r.op) reply) rows) req.site_is row))
-      (λ k. heard_in_rows c key net w past ms rows is allowed.1 carried.1 all e k) h
+    (subst (λ (o : Op). IsRowIn a.site (seen_in (written_by o) reply) rows) req.op_is (subst (λ (s : ℕ). IsRowIn s (seen_in (written_by r.op) reply) rows) req.site_is row))
+    (λ k. heard_in_rows c key net w past ms rows is allowed.1 carried.1 all e k) h
 heard_in_rows c key net w past (GaveUp a ∷ ms) rows is allowed carried all e h = heard_in_rows c key net w past ms rows is allowed.1 carried.1 all e h
 heard_in_rows c key net w past (Rested ∷ ms) rows is allowed carried all e h = heard_in_rows c key net w past ms rows is allowed.1 carried.1 all e h
 heard_in_rows c key net w past (GaveIn ∷ ms) rows is allowed carried all e h = heard_in_rows c key net w past ms rows is allowed.1 carried.1 all e h
@@ -166,8 +167,8 @@ call_before old new name tick o ends j d h =
     let ended = answered tick o ends.1.0 in
     let k : slice_get (slice_set old ends.0 ended) j ≡ Some d = subst (λ xs. slice_get xs j ≡ Some d) ends.1.1.1.1 h in
     elim (cases_eq j ends.0) [
-      inl e ↦ (let both : Some ended ≡ Some d = sym (get_set_same old ends.0 ends.1.0 ended ends.1.1.0) ∙ ap (slice_get (slice_set old ends.0 ended)) (sym e) ∙ k in
-        let same : ended ≡ d = cc in
-        (ends.1.0, (ap (slice_get old) e ∙ ends.1.1.0, subst (IsAfter tick ends.1.0) same (after_answer tick o ends.1.0))))
-    | inr ne ↦ (d, (sym (get_set_other old ends.0 j ended ne) ∙ k, after_itself tick d))
+      | inl e ↦ (let both : Some ended ≡ Some d = sym (get_set_same old ends.0 ends.1.0 ended ends.1.1.0) ∙ ap (slice_get (slice_set old ends.0 ended)) (sym e) ∙ k in
+          let same : ended ≡ d = cc in
+          (ends.1.0, (ap (slice_get old) e ∙ ends.1.1.0, subst (IsAfter tick ends.1.0) same (after_answer tick o ends.1.0))))
+      | inr ne ↦ (d, (sym (get_set_other old ends.0 j ended ne) ∙ k, after_itself tick d))
     ]

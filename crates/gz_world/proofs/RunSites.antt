@@ -1,6 +1,6 @@
 -- What a site does to an object is a deed of the object's run, or none.
-use Rattle.std.proofs.Common.{◌≡◌, ◌≢◌, ℕ, zero, suc, ◌+◌, ◌<◌, ◌≤◌, ◌⊎◌, inl, inr, List, [], ◌∷◌, ◌++◌, Some, None, Bool, true, false, cond, refl, ap, sym, ◌∙◌, subst, arith}
-use Rattle.std.specs.Prelude.{Option, IsSome, ◌==◌, ◌&&◌, ◌||◌, if◌then◌else◌, option_map}
+use Rattle.std.proofs.Common.{◌≡◌, ◌≢◌, ℕ, ◌<◌, inl, inr, List, ◌∷◌, ◌++◌, Some, None, Bool, true, false, cond, refl, ap, sym, ◌∙◌, subst, arith}
+use Rattle.std.specs.Prelude.{Option, ◌==◌, ◌&&◌, ◌||◌, if◌then◌else◌}
 use Rattle.gz_core.specs.Names.{Name, BallotAt}
 use Rattle.gz_core.specs.Rows.{RowAt, empty_row}
 use Rattle.gz_core.specs.Slots.{slots}
@@ -10,14 +10,13 @@ use Rattle.gz_core.specs.declared.requests.Op.{Op}
 use Rattle.gz_core.specs.declared.requests.Op.TheVariants.{ReadRow, WriteRow}
 use Rattle.gz_core.specs.declared.requests.Reply.{Reply}
 use Rattle.gz_core.specs.declared.requests.Reply.TheVariants.{Row, NoRow, Written, Changed, Failed}
-use Rattle.gz_round.specs.declared.hearing.Seen.{Seen as SeenRow}
-use Rattle.gz_round.specs.Sites.{seen_in, written_by, seen_under, can_stand}
-use Rattle.gz_site.specs.Told.{Told, Tells, same_key, etag_of as etag_told}
+use Rattle.gz_round.specs.Sites.{seen_in, written_by, can_stand}
+use Rattle.gz_site.specs.Told.{Told, same_key, etag_of as etag_told}
 use Rattle.gz_site.specs.Steps.{RowStored}
 use Rattle.gz_model.specs.Casts.{has_cast}
 use Rattle.gz_ledger.specs.Acceptors.{Acceptor, slot_votes}
-use Rattle.gz_ledger.specs.Histories.{Seen, Write, IsIn, cast}
-use Rattle.gz_ledger.specs.Deeds.{Store, Stored, Answered, Asked as AskedOf, Deed, Reads, Elsewhere, etag_of, acceptor_of, answer_of, after_deeds, AreDeeds, CanWrite, late_rows, seen_after, AreCurrentDeeds}
+use Rattle.gz_ledger.specs.Histories.{Seen, IsIn, cast}
+use Rattle.gz_ledger.specs.Deeds.{Store, Stored, Answered, Asked as AskedOf, Deed, Reads, Elsewhere, etag_of, acceptor_of, after_deeds, AreDeeds, CanWrite, late_rows, seen_after, AreCurrentDeeds}
 use Rattle.gz_ledger.specs.Deeds.{Written as WrittenBy, Failed as FailedBy}
 use Rattle.gz_ledger.proofs.Tags.{site_same, site_other}
 use Rattle.gz_world.specs.Heard.{unused, IsClean, SeenStands, IsAskedOf, AskedHere, CleanOp}
@@ -89,7 +88,8 @@ read_done c key ds site op reply told o are here is seen rows votes = record {
   along = λ call early late split current. (
     record { later = Reads site ∷ late; split = ap (λ (ks : List Deed). Reads site ∷ ks) split; current = (current, tt); rows = λ e h. inr h },
     λ _. rows (late_rows unused (Reads site ∷ late) early)
-      (inl (ap (λ (k : Option Stored). let e : Seen = record { site = site; row = acceptor_of k } in e) (sym is ∙ ap (λ (ks : List Deed). (after_deeds unused ks).stored site) split))));
+        (inl (ap (λ (k : Option Stored). let e : Seen = record { site = site; row = acceptor_of k } in e) (sym is ∙ ap (λ (ks : List Deed). (after_deeds unused ks).stored site) split))),
+  );
 }
 
 -- a row that is kept
@@ -176,11 +176,12 @@ written_done c key k ds qa site etag name expect step row before after are here 
       asked = refl;
       seen = λ _. under_stands (after_deeds unused (WrittenBy qa etag ∷ ds)) site etag row (can_stand row) clean (inl (λ i. record { site = sym at i; etag = Some etag; row = sym w.1.1 i }));
       casts = λ v b x i.
-        ap (λ s. ((s == i) && slot_votes (qa.write.after v) b x) || cast (seen_after unused ds) v b x i) at ∙ ap (λ (a : Acceptor). ((site == i) && slot_votes (a v) b x) || cast (seen_after unused ds) v b x i) w.1.1
-        ∙ ap (λ t. t || cast (seen_after unused ds) v b x i) (sym (row_casts site k key row v b x i same clean));
+          ap (λ s. ((s == i) && slot_votes (qa.write.after v) b x) || cast (seen_after unused ds) v b x i) at ∙ ap (λ (a : Acceptor). ((site == i) && slot_votes (a v) b x) || cast (seen_after unused ds) v b x i) w.1.1
+          ∙ ap (λ t. t || cast (seen_after unused ds) v b x i) (sym (row_casts site k key row v b x i same clean));
       along = λ call early late split current. (
         record { later = WrittenBy qa etag ∷ late; split = ap (λ (ks : List Deed). WrittenBy qa etag ∷ ks) split; current = (current, tt); rows = λ e h. inr h },
-        λ _. under_in site etag row (can_stand row) (late_rows unused (WrittenBy qa etag ∷ late) early) (inl (λ i. record { site = sym at i; row = sym w.1.1 i })));
+        λ _. under_in site etag row (can_stand row) (late_rows unused (WrittenBy qa etag ∷ late) early) (inl (λ i. record { site = sym at i; row = sym w.1.1 i })),
+      );
     }
 
 -- a write of another object uses a tag
@@ -213,14 +214,18 @@ at_key key k told kept same is = ap told.rows (sym same) ∙ is
 read_at : (c : Config) (key k : List ℕ) (ds : List Deed) (site : ℕ) (reply : Reply) (before after : Told) → AreDeeds c unused ds → SiteStands key before (after_deeds unused ds) site → k ≡ key → Answers before (ReadRow k) reply after → (more : List Deed) × IsDone c key ds more site (ReadRow k) reply after
 read_at c key k ds site (Row etag row) before after are here same ans =
     let is = at_key key k before (Some (etag, row)) same ans.0 in
-    let clean = clean_kept key before (after_deeds unused ds) site (Some (etag, row)) here is in
-    (Reads site ∷ ds, read_done c key ds site (ReadRow k) (Row etag row) after (stored_of (Some (etag, row))) are (subst (λ t. SiteStands key t (after_deeds unused ds) site) (sym ans.1) here)
-      (stored_same key before (after_deeds unused ds) site (Some (etag, row)) here is)
-      (λ st i. under_stands st site etag row (can_stand row) clean i) (λ rows i. under_in site etag row (can_stand row) rows i) (λ v b x i. row_casts site k key row v b x i same clean))
+    let clean = clean_kept key before (after_deeds unused ds) site (Some (etag, row)) here is in (
+      Reads site ∷ ds,
+      read_done c key ds site (ReadRow k) (Row etag row) after (stored_of (Some (etag, row))) are (subst (λ t. SiteStands key t (after_deeds unused ds) site) (sym ans.1) here)
+          (stored_same key before (after_deeds unused ds) site (Some (etag, row)) here is)
+          (λ st i. under_stands st site etag row (can_stand row) clean i) (λ rows i. under_in site etag row (can_stand row) rows i) (λ v b x i. row_casts site k key row v b x i same clean),
+    )
 read_at c key k ds site NoRow before after are here same ans =
-    let is = at_key key k before None same ans.0 in
-    (Reads site ∷ ds, read_done c key ds site (ReadRow k) NoRow after (stored_of None) are (subst (λ t. SiteStands key t (after_deeds unused ds) site) (sym ans.1) here)
-      (stored_same key before (after_deeds unused ds) site None here is) (λ st i. (blank_clean, i)) (λ rows i. i) (λ v b x i. sym (and_false (site == i))))
+    let is = at_key key k before None same ans.0 in (
+      Reads site ∷ ds,
+      read_done c key ds site (ReadRow k) NoRow after (stored_of None) are (subst (λ t. SiteStands key t (after_deeds unused ds) site) (sym ans.1) here)
+          (stored_same key before (after_deeds unused ds) site None here is) (λ st i. (blank_clean, i)) (λ rows i. i) (λ v b x i. sym (and_false (site == i))),
+    )
 read_at c key k ds site (Written etag) before after are here same ans = absurd ans
 read_at c key k ds site Changed before after are here same ans = absurd ans
 read_at c key k ds site Failed before after are here same ans = (ds, idle c key ds site (ReadRow k) Failed after are (subst (λ t. SiteStands key t (after_deeds unused ds) site) (sym ans) here) (λ _. tt) (λ rows _. tt) (λ v b x i. refl))
@@ -266,10 +271,10 @@ write_other c key k ds site expect step row Failed before after are here none ap
 pub site_done : (c : Config) (key : List ℕ) (ds : List Deed) (site : ℕ) (name : Name) (op : Op) (reply : Reply) (before after : Told) → AreDeeds c unused ds → SiteStands key before (after_deeds unused ds) site
     → (key_asked op ≡ key → AskedHere name site op (after_deeds unused ds) × CleanOp op) → Answers before op reply after → (more : List Deed) × IsDone c key ds more site op reply after
 site_done c key ds site name (ReadRow k) reply before after are here asked ans = elim (key_cases k key) [
-    inl same ↦ read_at c key k ds site reply before after are here same ans
+  | inl same ↦ read_at c key k ds site reply before after are here same ans
   | inr apart ↦ read_other c key k ds site reply before after are here apart.0 apart.1 ans
-  ]
+]
 site_done c key ds site name (WriteRow k expect step row) reply before after are here asked ans = elim (key_cases k key) [
-    inl same ↦ write_at c key k ds site name expect step row reply before after are here same (asked same) ans
+  | inl same ↦ write_at c key k ds site name expect step row reply before after are here same (asked same) ans
   | inr apart ↦ write_other c key k ds site expect step row reply before after are here apart.0 apart.1 ans
-  ]
+]

@@ -1,11 +1,10 @@
 -- What stands in a run of an object stands in a longer one.
-use Rattle.std.proofs.Common.{◌≡◌, ◌≢◌, ℕ, zero, suc, ◌+◌, ◌-◌, ◌<◌, ◌≤◌, ◌⊎◌, inl, inr, List, [], ◌∷◌, ◌++◌, Some, None, Bool, true, false, length, map, refl, ap, sym, ◌∙◌, subst, arith}
+use Rattle.std.proofs.Common.{◌≡◌, ℕ, ◌-◌, ◌⊎◌, inl, inr, List, ◌++◌, Some, None, refl, ap, sym, ◌∙◌, subst}
 use Rattle.std.proofs.lemmas.Bool.{cases_eq}
 use Rattle.std.specs.Prelude.{Option, slice_get, slice_set}
 use Rattle.gz_core.specs.Names.{Name}
 use Rattle.gz_core.specs.Calls.{key_of}
 use Rattle.gz_core.specs.Slots.{slots}
-use Rattle.gz_core.specs.declared.configuration.Config.{Config}
 use Rattle.gz_core.specs.declared.requests.Op.{Op}
 use Rattle.gz_core.specs.declared.requests.Op.TheVariants.{ReadRow, WriteRow}
 use Rattle.gz_core.specs.declared.requests.Out.{Out}
@@ -15,8 +14,8 @@ use Rattle.gz_round.specs.Sites.{seen_in, written_by}
 use Rattle.gz_history.specs.Answers.{shows}
 use Rattle.gz_history.specs.Legal.{IsBefore}
 use Rattle.gz_history.specs.declared.record.CallRec.{CallRec}
-use Rattle.gz_ledger.specs.Histories.{Seen, Write, IsIn}
-use Rattle.gz_ledger.specs.Deeds.{Store, Answered, Asked as AskedOf, Deed, after_deeds, AreDeeds, late_rows, sent_after, AreCurrentDeeds}
+use Rattle.gz_ledger.specs.Histories.{Seen, IsIn}
+use Rattle.gz_ledger.specs.Deeds.{Store, Answered, Asked as AskedOf, Deed, late_rows, AreCurrentDeeds}
 use Rattle.gz_world.specs.Heard.{unused, SeenStands, AskedHere, CleanOp}
 use Rattle.gz_world.specs.Runs.{key_asked, RequestStands, IsShownAt, IsRowIn, IsSince}
 use Rattle.gz_world.specs.States.{RequestAt, State, numbered, sent_request, sent_requests}
@@ -56,9 +55,9 @@ alike_stands st r q same h = record {
   asked = subst (λ (o : Op). AskedHere q.name q.site o st) (sym same.op) (subst (λ (s : ℕ). AskedHere q.name s r.op st) (sym same.site) (subst (λ (x : Name). AskedHere x r.site r.op st) (sym same.name) h.asked));
   clean = subst CleanOp (sym same.op) h.clean;
   replies = λ i tick reply e.
-    subst (λ (o : Op). SeenStands st q.site (seen_in (written_by o) reply)) (sym same.op)
+      subst (λ (o : Op). SeenStands st q.site (seen_in (written_by o) reply)) (sym same.op)
       (subst (λ (s : ℕ). SeenStands st s (seen_in (written_by r.op) reply)) (sym same.site)
-        (h.replies i tick reply (subst (λ xs. slice_get xs i ≡ Some (tick, reply)) same.replies e)));
+      (h.replies i tick reply (subst (λ xs. slice_get xs i ≡ Some (tick, reply)) same.replies e)));
 }
 
 pub alike_in : (rows : List Seen) (r q : RequestAt) (reply : Reply) → IsAlike r q → IsRowIn r.site (seen_in (written_by r.op) reply) rows → IsRowIn q.site (seen_in (written_by q.op) reply) rows
@@ -71,8 +70,8 @@ set_cases xs n m r y q there h =
     let p = numbered_place xs n r there in
     let k = numbered_place (slice_set xs (n - 1) y) m q h in
     elim (cases_eq (m - 1) (n - 1)) [
-      inl e ↦ (let both : Some y ≡ Some q = sym (get_set_same xs (n - 1) r y p.1) ∙ ap (slice_get (slice_set xs (n - 1) y)) (sym e) ∙ k.1 in inl cc)
-    | inr ne ↦ inr (place_numbered xs m q k.0 (sym (get_set_other xs (n - 1) (m - 1) y ne) ∙ k.1))
+      | inl e ↦ (let both : Some y ≡ Some q = sym (get_set_same xs (n - 1) r y p.1) ∙ ap (slice_get (slice_set xs (n - 1) y)) (sym e) ∙ k.1 in inl cc)
+      | inr ne ↦ inr (place_numbered xs m q k.0 (sym (get_set_other xs (n - 1) (m - 1) y ne) ∙ k.1))
     ]
 
 -- an element of two lists, one after the other

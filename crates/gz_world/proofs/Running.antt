@@ -1,23 +1,19 @@
 -- Each step keeps the run of each object.
-use Rattle.std.proofs.Common.{◌≡◌, ◌≢◌, ℕ, zero, suc, ◌+◌, ◌-◌, ◌<◌, ◌≤◌, ◌⊎◌, inl, inr, List, [], ◌∷◌, ◌++◌, Some, None, Bool, true, false, length, refl, ap, sym, ◌∙◌, subst, arith}
+use Rattle.std.proofs.Common.{◌≡◌, ℕ, ◌-◌, ◌<◌, inl, inr, List, [], ◌∷◌, Some, None, refl, ap, sym, ◌∙◌, subst}
 use Rattle.std.proofs.lemmas.Bool.{cases_eq}
-use Rattle.std.specs.Prelude.{Option, MatchOption, IfSome, IsSome, slice_get, slice_set}
-use Rattle.gz_core.specs.Names.{Name}
-use Rattle.gz_core.specs.Calls.{key_of}
+use Rattle.std.specs.Prelude.{Option, MatchOption, IfSome, IsSome, slice_get}
 use Rattle.gz_core.specs.declared.configuration.Config.{Config}
 use Rattle.gz_core.specs.declared.requests.Reply.{Reply}
-use Rattle.gz_round.specs.History.{Asked, Moment, Handed, GaveUp, Caller, Tale}
+use Rattle.gz_round.specs.History.{Asked, Moment, Handed, GaveUp}
 use Rattle.gz_client.specs.Tales.{AreTold}
 use Rattle.gz_site.specs.Told.{Told, Tells, IsEmpty}
-use Rattle.gz_history.specs.declared.record.CallRec.{CallRec}
 use Rattle.gz_model.specs.Casts.{has_cast}
-use Rattle.gz_ledger.specs.Histories.{IsIn, Write}
-use Rattle.gz_ledger.specs.Deeds.{Deed, after_deeds, AreDeeds, sent_after, late_rows}
+use Rattle.gz_ledger.specs.Deeds.{Deed, after_deeds, AreDeeds}
 use Rattle.gz_world.specs.declared.events.Effect.{Effect}
 use Rattle.gz_world.specs.declared.events.Event.{Event}
 use Rattle.gz_world.specs.declared.events.Event.TheVariants as events
-use Rattle.gz_world.specs.Carried.{IsRequestOf, HasReply, MomentCarried, MomentsCarried, TalesCarried, AreCarried}
-use Rattle.gz_world.specs.Heard.{unused, SendsStep}
+use Rattle.gz_world.specs.Carried.{IsRequestOf, HasReply, MomentCarried, TalesCarried, AreCarried}
+use Rattle.gz_world.specs.Heard.{unused}
 use Rattle.gz_world.specs.Listed.{AreListed}
 use Rattle.gz_world.specs.Placed.{ArePlaced}
 use Rattle.gz_world.specs.Reached.{IsOpening, IsReached, opened, stepped, AllTell}
@@ -37,18 +33,21 @@ use Rattle.gz_world.proofs.RunTurns.{turn_run}
 
 -- nothing that the run reads has changed
 same_run : (key : List ℕ) (old new : State) (ds : List Deed) → new.cfg ≡ old.cfg → ((i : ℕ) → new.sites i ≡ old.sites i) → ((n : ℕ) → new.tales n ≡ old.tales n) → new.net ≡ old.net → new.calls ≡ old.calls → new.casts ≡ old.casts → IsRun key old ds → (more : List Deed) × IsRun key new more
-same_run key old new ds cfg sites tales net calls casts run = (ds, record {
-  deeds = subst (λ c. AreDeeds c unused ds) (sym cfg) run.deeds;
-  sites = λ i told is. run.sites i told (sym (sites i) ∙ is);
-  requests = λ n r there is. run.requests n r (subst (λ xs. numbered xs n ≡ Some r) net there) is;
-  casts = λ v b x i. ap (λ cs. has_cast cs key v b x i) casts ∙ run.casts v b x i;
-  sent = λ q i. subst (IsSentBy key q.call q.act) (sym (tales q.call.session)) (run.sent q i);
-  calls = λ j b there is.
-    let since = run.calls j b (subst (λ xs. slice_get xs j ≡ Some b) calls there) is in
-    since_on key old new ds ds b b cfg refl refl since (record { later = since.late; split = since.split; current = since.current; rows = λ e h. h })
-      (λ n i tick r reply at own same e. since.heard n i tick r reply (subst (λ xs. numbered xs n ≡ Some r) net at) own same e)
-      (λ i v a at own before show. since.ended i v a (subst (λ xs. slice_get xs i ≡ Some a) calls at) own before show);
-})
+same_run key old new ds cfg sites tales net calls casts run = (
+  ds,
+  record {
+    deeds = subst (λ c. AreDeeds c unused ds) (sym cfg) run.deeds;
+    sites = λ i told is. run.sites i told (sym (sites i) ∙ is);
+    requests = λ n r there is. run.requests n r (subst (λ xs. numbered xs n ≡ Some r) net there) is;
+    casts = λ v b x i. ap (λ cs. has_cast cs key v b x i) casts ∙ run.casts v b x i;
+    sent = λ q i. subst (IsSentBy key q.call q.act) (sym (tales q.call.session)) (run.sent q i);
+    calls = λ j b there is.
+        let since = run.calls j b (subst (λ xs. slice_get xs j ≡ Some b) calls there) is in
+        since_on key old new ds ds b b cfg refl refl since (record { later = since.late; split = since.split; current = since.current; rows = λ e h. h })
+        (λ n i tick r reply at own same e. since.heard n i tick r reply (subst (λ xs. numbered xs n ≡ Some r) net at) own same e)
+        (λ i v a at own before show. since.ended i v a (subst (λ xs. slice_get xs i ≡ Some a) calls at) own before show);
+  },
+)
 
 same_request : (a b : RequestAt) → Some a ≡ Some b → a ≡ b
 same_request a b e = cc
@@ -75,14 +74,14 @@ hand_run key old new ds n which r reply by effect there t listed carries placed 
     let moment = handed_moment old new n which r reply by effect there t carries in
     let told : AreTold old.cfg r.name.session (by.tale ∷ by.earlier) = subst (AreTold old.cfg r.name.session) t.tales (listed.told r.name.session) in
     turn_run key old new ds n r (with_handed (tick_of old) which r) (λ a. Handed a reply.1) by effect t (handed_alike (tick_of old) which r)
-      (λ same. handed_stands key old.net (after_deeds unused ds) name by.asked reply.1 run.requests (awaited_key old.cfg by.tale.caller by.earlier by.tale.moments by.asked.site by.asked told.0.allowed t.awaited.awaits ∙ same) moment)
-      (λ act h. h) moment listed carries placed run
+    (λ same. handed_stands key old.net (after_deeds unused ds) name by.asked reply.1 run.requests (awaited_key old.cfg by.tale.caller by.earlier by.tale.moments by.asked.site by.asked told.0.allowed t.awaited.awaits ∙ same) moment)
+    (λ act h. h) moment listed carries placed run
 
 give_up_run : (key : List ℕ) (old new : State) (ds : List Deed) (n : ℕ) (r : RequestAt) (by : TurnBy) (effect : Effect) → TakesTurn old n r (λ a. GaveUp a) by (with_given_up (tick_of old) r) effect new
     → AreListed old → AreCarried old → ArePlaced old → IsRun key old ds → (more : List Deed) × IsRun key new more
 give_up_run key old new ds n r by effect t listed carries placed run =
     turn_run key old new ds n r (with_given_up (tick_of old) r) (λ a. GaveUp a) by effect t (given_up_alike (tick_of old) r) (λ _. tt) (λ act h. h)
-      (r, told_request old new n r (with_given_up (tick_of old) r) (λ a. GaveUp a) by effect t carries) listed carries placed run
+    (r, told_request old new n r (with_given_up (tick_of old) r) (λ a. GaveUp a) by effect t carries) listed carries placed run
 
 does_run : (key : List ℕ) (old new : State) (ds : List Deed) (event : Event) (effect : Effect) → Does old event effect new → AllTell old → AreListed old → AreCarried old → ArePlaced old → IsRun key old ds → (more : List Deed) × IsRun key new more
 does_run key old new ds events.OpenSession effect d tell l c p run = same_run key old new ds d.frame.cfg d.sites.sites d.tales d.net d.calls d.sites.casts run
@@ -95,8 +94,8 @@ does_run key old new ds (events.Crash session) effect d tell l c p run = same_ru
 acts_run : (key : List ℕ) (old new : State) (ds : List Deed) (event : Event) (effect : Effect) → Acts old event effect new → AllTell old → AreListed old → AreCarried old → ArePlaced old → IsRun key old ds → (more : List Deed) × IsRun key new more
 acts_run key old new ds event effect acts tell l c p run =
     elim (refusal_of old event) as (λ o. MatchOption o (Does old event effect new) (λ why. Skips old event why effect new) → (more : List Deed) × IsRun key new more) [
-      None ↦ λ d. does_run key old new ds event effect d tell l c p run
-    | Some why ↦ λ k. same_run key old new ds k.same.frame.cfg k.same.sites.sites k.same.sessions.tales k.same.net k.same.sessions.calls k.same.sites.casts run
+      | None ↦ λ d. does_run key old new ds event effect d tell l c p run
+      | Some why ↦ λ k. same_run key old new ds k.same.frame.cfg k.same.sites.sites k.same.sessions.tales k.same.net k.same.sessions.calls k.same.sites.casts run
     ] acts
 
 -- a site that tells has always told
@@ -113,9 +112,9 @@ stay_tell old new stay = λ i h. subst (λ (o : Option Told). IsSome o) (stay.si
 
 deliver_tell : (old new : State) (n : ℕ) (r : RequestAt) (reply : Reply) (effect : Effect) → DeliversBy old n r reply effect new → StillTell old new
 deliver_tell old new n r reply effect d = λ i h. elim (cases_eq i r.site) [
-    inl e ↦ subst (λ k. IsSome (old.sites k)) (sym e) (told_before (old.sites r.site) (new.sites r.site) (λ before after. Answers before r.op reply after) d.site (subst (λ k. IsSome (new.sites k)) e h))
+  | inl e ↦ subst (λ k. IsSome (old.sites k)) (sym e) (told_before (old.sites r.site) (new.sites r.site) (λ before after. Answers before r.op reply after) d.site (subst (λ k. IsSome (new.sites k)) e h))
   | inr ne ↦ subst (λ (o : Option Told). IsSome o) (d.others i ne) h
-  ]
+]
 
 does_tell : (old new : State) (event : Event) (effect : Effect) → Does old event effect new → StillTell old new × (new.cfg ≡ old.cfg)
 does_tell old new events.OpenSession effect d = (stay_tell old new d.sites, d.frame.cfg)
@@ -128,8 +127,8 @@ does_tell old new (events.Crash session) effect d = (stay_tell old new d.sites, 
 acts_tell : (old new : State) (event : Event) (effect : Effect) → Acts old event effect new → StillTell old new × (new.cfg ≡ old.cfg)
 acts_tell old new event effect acts =
     elim (refusal_of old event) as (λ o. MatchOption o (Does old event effect new) (λ why. Skips old event why effect new) → StillTell old new × (new.cfg ≡ old.cfg)) [
-      None ↦ λ d. does_tell old new event effect d
-    | Some why ↦ λ k. (stay_tell old new k.same.sites, k.same.frame.cfg)
+      | None ↦ λ d. does_tell old new event effect d
+      | Some why ↦ λ k. (stay_tell old new k.same.sites, k.same.frame.cfg)
     ] acts
 
 pub step_tell : (old new : State) (event : Event) → Step old event new → AllTell new → AllTell old
@@ -155,8 +154,8 @@ opening_run : (key : List ℕ) (s : State) → IsOpening s → IsRun key s []
 opening_run key s o = record {
   deeds = tt;
   sites = λ i told is.
-    let empty = empty_site key (s.sites i) told (o.sites i) is in
-    record { stored = sym (ap stored_of (empty.rows key)); used = sym empty.top; clean = subst IsCleanStored (sym (empty.rows key)) tt };
+      let empty = empty_site key (s.sites i) told (o.sites i) is in
+      record { stored = sym (ap stored_of (empty.rows key)); used = sym empty.top; clean = subst IsCleanStored (sym (empty.rows key)) tt };
   requests = λ n r there is. let bad : numbered [] n ≡ Some r = subst (λ xs. numbered xs n ≡ Some r) o.net there in let k = (numbered_place [] n r bad).1 in cc;
   casts = λ v b x i. ap (λ cs. has_cast cs key v b x i) o.casts;
   sent = λ q i. absurd i;

@@ -1,9 +1,9 @@
 -- What a client may send, by what its call heard, the machine of agreement may do.
-use Rattle.std.proofs.Common.{◌≡◌, ◌≢◌, ℕ, zero, suc, ◌+◌, ◌<◌, ◌≤◌, ◌⊎◌, inl, inr, List, [], ◌∷◌, ◌++◌, Some, None, Bool, true, false, cond, length, refl, ap, sym, ◌∙◌, subst, arith}
-use Rattle.std.proofs.lemmas.Bool.Decides.{nat_tests}
-use Rattle.std.specs.Prelude.{Option, ◌==◌, ◌&&◌, ◌||◌, if◌then◌else◌, slice_get}
-use Rattle.std.specs.List.{All}
-use Rattle.gz_core.specs.Names.{Name, BallotAt, fast, IsClassic, is_below, same_ballot, same_name}
+use Rattle.std.proofs.Common.{◌≡◌, ℕ, inl, inr, List, [], ◌∷◌, Some, None, true, refl, ap, sym, ◌∙◌, subst}
+use Rattle.gz_core.proofs.Ballots.{name_refl}
+use Rattle.std.proofs.lemmas.Bool.{eq-eqb, or_left, or_right}
+use Rattle.std.specs.Prelude.{◌==◌, if◌then◌else◌}
+use Rattle.gz_core.specs.Names.{Name, same_name}
 use Rattle.gz_core.specs.Values.{name_of}
 use Rattle.gz_core.specs.Calls.{own_value}
 use Rattle.gz_core.specs.Rows.{RowAt}
@@ -19,17 +19,15 @@ use Rattle.gz_core.specs.declared.requests.Op.{Op}
 use Rattle.gz_core.specs.declared.requests.Op.TheVariants.{ReadRow, WriteRow}
 use Rattle.gz_accept.specs.Steps.{fast_voted, promised, classic_voted, decided, trimmed_to}
 use Rattle.gz_accept.proofs.Making.{makes_fast, makes_promise, makes_classic, makes_decision, makes_trim, made}
-use Rattle.gz_round.specs.History.{Asked, Moment, Sent, Handed, GaveUp, Rested, GaveIn, Caller, Tale}
-use Rattle.gz_round.specs.declared.hearing.Seen.{Seen as SeenRow}
-use Rattle.gz_round.specs.Sites.{site_now}
-use Rattle.gz_round.specs.Sent.{vote_by, promise_by, of_step, of_sent, passes_sent, some_sent, voted_at, has_promised, has_promised_at}
-use Rattle.gz_round.specs.Shown.{IsShown as IsShownTo, IsClear as IsClearTo, IsNext as IsNextTo}
-use Rattle.gz_round.specs.Sending.{IsMade, MayMake, MayWrite, MayFastVote}
-use Rattle.gz_ledger.specs.Histories.{Seen, Write, IsIn, IsShown, VotesFor}
-use Rattle.gz_ledger.specs.Guards.{IsClear, May}
-use Rattle.gz_ledger.specs.Deeds.{Store, Answered, Asked as AskedOf, CanBegin, rows_of, writes_of}
-use Rattle.gz_world.specs.Heard.{heard_of, MomentsStand, IsStepOf, SendsStep, SentStep, Keeps}
-use Rattle.gz_world.proofs.Hearing.{both_parts, left_part, right_part, two_parts, shown_heard, next_heard, heard_known, last_stands}
+use Rattle.gz_round.specs.History.{Moment, Sent, Handed, GaveUp, Rested, GaveIn, Caller, Tale}
+use Rattle.gz_round.specs.Sent.{vote_by, of_step, passes_sent, voted_at}
+use Rattle.gz_round.specs.Shown.{IsClear as IsClearTo}
+use Rattle.gz_round.specs.Sending.{IsMade}
+use Rattle.gz_ledger.specs.Histories.{VotesFor}
+use Rattle.gz_ledger.specs.Guards.{IsClear}
+use Rattle.gz_ledger.specs.Deeds.{Store, writes_of}
+use Rattle.gz_world.specs.Heard.{heard_of, IsStepOf, SentStep, Keeps}
+use Rattle.gz_world.proofs.Hearing.{shown_heard}
 
 -- a step that was made on a row makes the acceptor's
 pub step_makes : (step : RowStep) (old new : RowAt) → IsMade step old new → Makes (act_of step) (slots old) (slots new)
@@ -39,16 +37,10 @@ step_makes (ClassicVote v b x) old new m = made (VotesClassic v b (name_of x)) o
 step_makes (Decide v x) old new m = made (Decides v (name_of x)) old new (decided old v x) (makes_decision old v x m.0) m.1
 step_makes (Trim to x) old new m = made (Trims to (name_of x)) old new (trimmed_to old to x) (makes_trim old to x m.0) m.1
 
-name_refl : (x : Name) → same_name x x ≡ true
-name_refl x = let s : (x.session == x.session) ≡ true = grind (arith, nat_tests) in let q : (x.seq == x.seq) ≡ true = grind (arith, nat_tests) in two_parts (x.session == x.session) (x.seq == x.seq) s q
-
-number_refl : (n : ℕ) → (n == n) ≡ true
-number_refl n = grind (arith, nat_tests)
-
 votes_same : (y x : Name) (v u : ℕ) → (v ≡ u) × (y ≡ x) → passes_sent (λ q. q == u) (if same_name y x then Some v else None) ≡ true
 votes_same y x v u e =
     let t : same_name y x ≡ true = subst (λ k. same_name y k ≡ true) e.1 (name_refl y) in
-    ap (λ b. passes_sent (λ q. q == u) (if b then Some v else None)) t ∙ subst (λ k. (v == k) ≡ true) e.0 (number_refl v)
+    ap (λ b. passes_sent (λ q. q == u) (if b then Some v else None)) t ∙ subst (λ k. (v == k) ≡ true) e.0 (eq-eqb v v refl)
 
 votes_by : (step : RowStep) (u : ℕ) (x : Name) → VotesFor (act_of step) u x → passes_sent (λ q. q == u) (vote_by x step) ≡ true
 votes_by (FastVote v value) u x votes = votes_same (name_of value) x v u votes
@@ -68,8 +60,8 @@ op_votes (WriteRow key expect step row) act u x h votes = step_votes step act u 
 
 pub sent_votes : (ms : List Moment) (act : Act) (u : ℕ) (x : Name) → SentStep ms act → VotesFor act u x → voted_at x ms u ≡ true
 sent_votes [] act u x h votes = absurd h
-sent_votes (Sent a ∷ ms) act u x (inl h) votes = left_part (passes_sent (λ q. q == u) (of_step (vote_by x) a.op)) (voted_at x ms u) (op_votes a.op act u x h votes)
-sent_votes (Sent a ∷ ms) act u x (inr h) votes = right_part (passes_sent (λ q. q == u) (of_step (vote_by x) a.op)) (voted_at x ms u) (sent_votes ms act u x h votes)
+sent_votes (Sent a ∷ ms) act u x (inl h) votes = or_left (passes_sent (λ q. q == u) (of_step (vote_by x) a.op)) (voted_at x ms u) (op_votes a.op act u x h votes)
+sent_votes (Sent a ∷ ms) act u x (inr h) votes = or_right (passes_sent (λ q. q == u) (of_step (vote_by x) a.op)) (voted_at x ms u) (sent_votes ms act u x h votes)
 sent_votes (Handed a reply ∷ ms) act u x (inl h) votes = absurd h
 sent_votes (Handed a reply ∷ ms) act u x (inr h) votes = sent_votes ms act u x h votes
 sent_votes (GaveUp a ∷ ms) act u x (inl h) votes = absurd h

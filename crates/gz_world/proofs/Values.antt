@@ -1,11 +1,9 @@
 -- What a step makes has the values of the row that it was made on, and its own.
-use Rattle.std.proofs.Common.{◌≡◌, ◌≢◌, ℕ, zero, suc, ◌+◌, ◌<◌, ◌≤◌, ◌⊎◌, inl, inr, List, [], ◌∷◌, ◌++◌, Some, None, Bool, true, false, refl, ap, sym, ◌∙◌, subst, arith}
-use Rattle.std.proofs.lemmas.Bool.Decides.{nat_tests}
+use Rattle.std.proofs.Common.{◌≡◌, ℕ, inl, inr, List, [], ◌∷◌, Some, None, Bool, true, false, ap, sym, ◌∙◌, subst}
 use Rattle.std.specs.Prelude.{Option, ◌==◌, if◌then◌else◌, slice_get}
-use Rattle.gz_core.specs.Names.{Name, BallotAt, fast}
+use Rattle.gz_core.specs.Names.{Name, fast}
 use Rattle.gz_core.specs.Calls.{own_value}
 use Rattle.gz_core.specs.Rows.{RowAt, column_in, empty_row}
-use Rattle.gz_core.specs.declared.rows.Vote.{Vote}
 use Rattle.gz_core.specs.declared.rows.Column.{Column}
 use Rattle.gz_core.specs.declared.rows.Column.TheVariants.{Open, Decided}
 use Rattle.gz_core.specs.declared.values.Value.{Value}
@@ -16,14 +14,14 @@ use Rattle.gz_core.specs.declared.requests.Op.{Op}
 use Rattle.gz_core.specs.declared.requests.Op.TheVariants.{ReadRow, WriteRow}
 use Rattle.gz_core.specs.declared.requests.Reply.{Reply}
 use Rattle.gz_core.specs.declared.requests.Reply.TheVariants.{Row, NoRow, Written, Changed, Failed}
-use Rattle.gz_accept.specs.Steps.{column_or_blank, vote_in, with_column, with_column_at}
+use Rattle.gz_accept.specs.Steps.{column_or_blank, vote_in, with_column_at}
 use Rattle.gz_accept.proofs.Seen.{column_in_with}
 use Rattle.gz_round.specs.declared.hearing.Seen.{Seen as SeenRow}
 use Rattle.gz_round.specs.History.{Asked, Moment, Sent, Handed, GaveUp, Rested, GaveIn, Caller, Tale}
 use Rattle.gz_round.specs.Rounds.{IsValueKnown}
 use Rattle.gz_round.specs.Sending.{MayMake, MayAsk, IsMade}
-use Rattle.gz_round.specs.Shown.{column_value, vote_value, row_value, IsValueHeard}
-use Rattle.gz_round.specs.Sites.{SiteNow, site_now, after, after_reply, seen_in, seen_under, seen_written, written_by, can_stand, is_changed, is_to, WasHeard}
+use Rattle.gz_round.specs.Shown.{column_value, vote_value}
+use Rattle.gz_round.specs.Sites.{SiteNow, site_now, after, after_reply, seen_in, written_by, can_stand, is_changed, is_to, WasHeard}
 use Rattle.gz_history.specs.declared.record.CallRec.{CallRec}
 use Rattle.gz_world.specs.Carried.{MomentsCarried}
 use Rattle.gz_world.specs.States.{RequestAt, numbered}
@@ -34,8 +32,8 @@ with_given : (calls : List CallRec) (row : RowAt) (v : ℕ) (column : Column) �
 with_given calls row v column old own = λ u x h.
     let k : column_value (if v == u then Some column else column_in row.columns u) ≡ Some x = sym (ap column_value (column_in_with v column row.columns u)) ∙ h in
     elim (v == u) as (λ t. column_value (if t then Some column else column_in row.columns u) ≡ Some x → IsGiven calls x) [
-      true ↦ λ e. own x e
-    | false ↦ λ e. old u x e
+      | true ↦ λ e. own x e
+      | false ↦ λ e. old u x e
     ] k
 
 same_value : (x y : Value) → Some x ≡ Some y → x ≡ y

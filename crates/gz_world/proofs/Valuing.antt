@@ -1,7 +1,7 @@
 -- Each step keeps the values of rows those that puts were given.
-use Rattle.std.proofs.Common.{◌≡◌, ◌≢◌, ℕ, zero, suc, ◌+◌, ◌-◌, ◌<◌, ◌≤◌, ◌⊎◌, inl, inr, List, [], ◌∷◌, ◌++◌, Some, None, Bool, true, false, cond, length, refl, ap, sym, ◌∙◌, subst, arith}
+use Rattle.std.proofs.Common.{◌≡◌, ℕ, zero, suc, ◌+◌, ◌-◌, inl, inr, List, [], ◌∷◌, ◌++◌, Some, None, true, false, cond, length, refl, ap, sym, ◌∙◌, subst}
 use Rattle.std.proofs.lemmas.Bool.{cases_eq}
-use Rattle.std.specs.Prelude.{Option, MatchOption, IfSome, IsSome, slice_get, slice_set}
+use Rattle.std.specs.Prelude.{Option, MatchOption, IfSome, IsSome, slice_get}
 use Rattle.gz_core.specs.Names.{Name}
 use Rattle.gz_core.specs.Calls.{own_value}
 use Rattle.gz_core.specs.Rows.{RowAt}
@@ -9,18 +9,17 @@ use Rattle.gz_core.specs.declared.calls.Answer.{Answer}
 use Rattle.gz_core.specs.declared.calls.Call.{Call}
 use Rattle.gz_core.specs.declared.configuration.Config.{Config}
 use Rattle.gz_core.specs.declared.values.Value.{Value}
-use Rattle.gz_core.specs.declared.requests.RowStep.{RowStep}
 use Rattle.gz_core.specs.declared.requests.Op.{Op}
 use Rattle.gz_core.specs.declared.requests.Op.TheVariants.{ReadRow, WriteRow}
 use Rattle.gz_core.specs.declared.requests.Out.{Out}
 use Rattle.gz_core.specs.declared.requests.Reply.{Reply}
 use Rattle.gz_core.specs.declared.requests.Reply.TheVariants.{Row, NoRow, Written, Changed, Failed}
 use Rattle.gz_core.specs.declared.requests.Turn.{Turn}
-use Rattle.gz_round.specs.History.{Asked, Moment, Sent, Handed, GaveUp, Caller, Tale, asked_of, sent_from, begun, turned}
+use Rattle.gz_round.specs.History.{Asked, Moment, Sent, Handed, GaveUp, Caller, Tale, asked_of, sent_from}
 use Rattle.gz_round.specs.Sites.{site_now, after, is_to}
 use Rattle.gz_round.specs.Sending.{AreAllowed}
 use Rattle.gz_client.specs.Tales.{AreTold}
-use Rattle.gz_site.specs.Told.{Told, Tells, IsEmpty, same_key}
+use Rattle.gz_site.specs.Told.{Told, IsEmpty, same_key}
 use Rattle.gz_site.specs.Steps.{RowStored}
 use Rattle.gz_history.specs.declared.record.CallRec.{CallRec}
 use Rattle.gz_world.specs.declared.events.Effect.{Effect}
@@ -31,7 +30,7 @@ use Rattle.gz_world.specs.Listed.{IsAmong, AreListed}
 use Rattle.gz_world.specs.Placed.{ArePlaced}
 use Rattle.gz_world.specs.Reached.{IsOpening, IsReached, opened, stepped, AllTell}
 use Rattle.gz_world.specs.Refusals.{refusal_of}
-use Rattle.gz_world.specs.States.{RequestAt, State, tick_of, next_of, numbered, with_reply, with_handed, with_given_up, sent_request, sent_requests, end_at}
+use Rattle.gz_world.specs.States.{RequestAt, State, tick_of, next_of, numbered, with_reply, with_handed, with_given_up, end_at}
 use Rattle.gz_world.specs.Steps.{Answers, SitesStay, BeginsBy, DeliversBy, TurnBy, TakesTurn, CallEnds, answered, Acts, Does, Skips, Step}
 use Rattle.gz_world.specs.Valued.{IsGiven, AreGiven, IsGivenKept, IsGivenOp, IsGivenReply, AreValued}
 use Rattle.gz_world.proofs.Carrying.{carried}
@@ -84,10 +83,10 @@ gives_ends : (old new : List CallRec) (name : Name) (tick : ℕ) (o : Option Ans
 gives_ends old new name tick o ends = λ x h.
     let ended = answered tick o ends.1.0 in
     subst (λ xs. IsGiven xs x) (sym ends.1.1.1.1) (elim (cases_eq h.0 ends.0) [
-      inl e ↦ (let both : Some ends.1.0 ≡ Some h.1 = sym ends.1.1.0 ∙ sym (ap (slice_get old) e) ∙ h.2 in
-        let same : ends.1.0 ≡ h.1 = cc in
-        (ends.0, ended, get_set_same old ends.0 ends.1.0 ended ends.1.1.0, answered_own tick o ends.1.0 ∙ ap (λ (c : CallRec). own_value c.name c.call) same ∙ h.3))
-    | inr ne ↦ (h.0, h.1, get_set_other old ends.0 h.0 ended ne ∙ h.2, h.3)
+      | inl e ↦ (let both : Some ends.1.0 ≡ Some h.1 = sym ends.1.1.0 ∙ sym (ap (slice_get old) e) ∙ h.2 in
+          let same : ends.1.0 ≡ h.1 = cc in
+          (ends.0, ended, get_set_same old ends.0 ends.1.0 ended ends.1.1.0, answered_own tick o ends.1.0 ∙ ap (λ (c : CallRec). own_value c.name c.call) same ∙ h.3))
+      | inr ne ↦ (h.0, h.1, get_set_other old ends.0 h.0 ended ne ∙ h.2, h.3)
     ])
 
 same_valued : (old new : State) → ((i : ℕ) → new.sites i ≡ old.sites i) → new.net ≡ old.net → new.calls ≡ old.calls → AreValued old → AreValued new
@@ -128,21 +127,21 @@ deliver_valued old new n r reply effect d tells v =
     let more = gives_same old.calls new.calls d.sessions.calls in
     record {
       sites = λ i told key is. elim (cases_eq i r.site) [
-          inl e ↦ (let same = same_told t.1.0 told (sym t.1.1.1.0 ∙ sym (ap new.sites e) ∙ is) in
+        | inl e ↦ (let same = same_told t.1.0 told (sym t.1.1.1.0 ∙ sym (ap new.sites e) ∙ is) in
             kept_more old.calls new.calls (told.rows key) more (subst (λ (x : Told). IsGivenKept old.calls (x.rows key)) same (k.0 key)))
         | inr ne ↦ kept_more old.calls new.calls (told.rows key) more (v.sites i told key (sym (d.others i ne) ∙ is))
-        ];
+      ];
       requests = λ m q there. elim (set_cases old.net n m r now q d.request (subst (λ xs. numbered xs m ≡ Some q) d.net there)) [
-          inl e ↦ op_more old.calls new.calls q.op more (subst (λ (x : RequestAt). IsGivenOp old.calls x.op) (sym e) (v.requests n r d.request))
+        | inl e ↦ op_more old.calls new.calls q.op more (subst (λ (x : RequestAt). IsGivenOp old.calls x.op) (sym e) (v.requests n r d.request))
         | inr e ↦ op_more old.calls new.calls q.op more (v.requests m q e)
-        ];
+      ];
       replies = λ m i tick q one there at. reply_more old.calls new.calls one more (elim (set_cases old.net n m r now q d.request (subst (λ xs. numbered xs m ≡ Some q) d.net there)) [
-          inl e ↦ elim (more_replies r (tick_of old) i tick reply one (subst (λ (x : RequestAt). slice_get x.replies i ≡ Some (tick, one)) e at)) [
-              inl f ↦ v.replies n i tick r one d.request f
-            | inr f ↦ subst (IsGivenReply old.calls) f k.1
-            ]
+        | inl e ↦ elim (more_replies r (tick_of old) i tick reply one (subst (λ (x : RequestAt). slice_get x.replies i ≡ Some (tick, one)) e at)) [
+          | inl f ↦ v.replies n i tick r one d.request f
+          | inr f ↦ subst (IsGivenReply old.calls) f k.1
+        ]
         | inr e ↦ v.replies m i tick q one e at
-        ]);
+      ]);
     }
 
 -- what a call heard was given, and so was the last row of each site
@@ -165,13 +164,13 @@ sent_valued : (old new : State) (name : Name) (tick : ℕ) (outs : List Out) →
 sent_valued old new name tick outs stay net more sent v = record {
   sites = λ i told key is. kept_more old.calls new.calls (told.rows key) more (v.sites i told key (sym (stay.sites i) ∙ is));
   requests = λ m q at. elim (net m q at) [
-      inl k ↦ subst (IsGivenOp new.calls) (sym k.1.1.1.op) (op_more old.calls new.calls k.1.0.op more (v.requests k.0 k.1.0 k.1.1.0))
+    | inl k ↦ subst (IsGivenOp new.calls) (sym k.1.1.1.op) (op_more old.calls new.calls k.1.0.op more (v.requests k.0 k.1.0 k.1.1.0))
     | inr k ↦ subst (λ (x : RequestAt). IsGivenOp new.calls x.op) k.1.1.1 (sent k.0 k.1.0 k.1.1.0)
-    ];
+  ];
   replies = λ m i t q reply at e. elim (net m q at) [
-      inl k ↦ reply_more old.calls new.calls reply more (v.replies k.0 i t k.1.0 reply k.1.1.0 (subst (λ xs. slice_get xs i ≡ Some (t, reply)) k.1.1.1.replies e))
+    | inl k ↦ reply_more old.calls new.calls reply more (v.replies k.0 i t k.1.0 reply k.1.1.0 (subst (λ xs. slice_get xs i ≡ Some (t, reply)) k.1.1.1.replies e))
     | inr k ↦ (let bad : slice_get [] i ≡ Some (t, reply) = subst (λ (x : RequestAt). slice_get x.replies i ≡ Some (t, reply)) (sym k.1.1.1) e in cc)
-    ];
+  ];
 }
 
 begin_valued : (old new : State) (session : ℕ) (call : Call) (turn : Turn) (effect : Effect) → BeginsBy old session call turn effect new → AreValued old → AreValued new
@@ -183,7 +182,7 @@ begin_valued old new session call turn effect b v =
     let fresh : CallRec = record { name = name; call = call; begin = tick; end = end_at tick turn.answer; answer = turn.answer } in
     let own : IsOwnGiven new.calls w = λ x e. (length old.calls, fresh, ap (λ xs. slice_get xs (length old.calls)) b.calls ∙ get_last old.calls fresh, e) in
     sent_valued old new name tick turn.send b.sites (begin_net old new name tick turn.send b.net) (gives_append old.calls new.calls (fresh ∷ []) b.calls)
-      (sends_given new.calls old.cfg w past (next_of old) turn.send [] own (λ s row h. absurd h, λ s k e. cc) b.moves.told.0.allowed) v
+    (sends_given new.calls old.cfg w past (next_of old) turn.send [] own (λ s row h. absurd h, λ s k e. cc) b.moves.told.0.allowed) v
 
 pub net_given : (s : State) → AreValued s → AreNetGiven s.calls s.net
 net_given s v = record { requests = v.requests; replies = v.replies }
@@ -221,8 +220,8 @@ does_valued old new (events.Crash session) effect d tell l c p v = same_valued o
 acts_valued : (old new : State) (event : Event) (effect : Effect) → Acts old event effect new → AllTell old → AreListed old → AreCarried old → ArePlaced old → AreValued old → AreValued new
 acts_valued old new event effect acts tell l c p v =
     elim (refusal_of old event) as (λ o. MatchOption o (Does old event effect new) (λ why. Skips old event why effect new) → AreValued new) [
-      None ↦ λ d. does_valued old new event effect d tell l c p v
-    | Some why ↦ λ k. same_valued old new k.same.sites.sites k.same.net k.same.sessions.calls v
+      | None ↦ λ d. does_valued old new event effect d tell l c p v
+      | Some why ↦ λ k. same_valued old new k.same.sites.sites k.same.net k.same.sessions.calls v
     ] acts
 
 step_valued : (old new : State) (event : Event) → Step old event new → AllTell old → AreListed old → AreCarried old → ArePlaced old → AreValued old → AreValued new

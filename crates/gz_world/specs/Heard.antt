@@ -5,7 +5,7 @@ use Rattle.gz_core.specs.Rows.{RowAt, Rises}
 use Rattle.gz_core.specs.Slots.{Act, Promises, act_of, slots}
 use Rattle.gz_core.specs.declared.requests.Op.{Op}
 use Rattle.gz_core.specs.declared.requests.Op.TheVariants.{ReadRow, WriteRow}
-use Rattle.gz_round.specs.History.{Tale, Asked, Moment, Sent, Handed, GaveUp, Rested, GaveIn}
+use Rattle.gz_round.specs.History.{Tale, Moment, Sent, Handed, GaveUp, Rested, GaveIn}
 use Rattle.gz_round.specs.declared.hearing.Seen.{Seen as SeenRow}
 use Rattle.gz_round.specs.Sites.{seen_in, written_by}
 use Rattle.gz_ledger.specs.Acceptors.{Acceptor}

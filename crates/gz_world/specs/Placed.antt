@@ -1,6 +1,6 @@
 -- The requests of a world go to sites of its configuration and are of calls of its sessions, and its calls began and
 -- ended at ticks that have passed: at one tick no call begins where another one ends.
-use Rattle.std.specs.Prelude.{ℕ, ◌≡◌, ◌≤◌, ◌<◌, List, length, Some, slice_get}
+use Rattle.std.specs.Prelude.{ℕ, ◌≡◌, ◌≤◌, ◌<◌, length, Some, slice_get}
 use Rattle.gz_core.specs.Configurations.{IsConfig}
 use Rattle.gz_history.specs.declared.record.CallRec.{CallRec}
 use Rattle.gz_world.specs.States.{RequestAt, State, numbered}

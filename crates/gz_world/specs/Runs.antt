@@ -77,7 +77,7 @@ pub record IsSince (s : State) (key : List ℕ) (ds : List Deed) (b : CallRec) :
   pub unsent : (q : Write) → IsIn q (sent_after unused early) → q.call ≡ b.name → ⊥
   pub current : AreCurrentDeeds s.cfg unused b.name late early
   pub heard : (n i tick : ℕ) (r : RequestAt) (reply : Reply) → numbered s.net n ≡ Some r → key_asked r.op ≡ key → r.name ≡ b.name → slice_get r.replies i ≡ Some (tick, reply)
-    → IsRowIn r.site (seen_in (written_by r.op) reply) (late_rows unused late early)
+      → IsRowIn r.site (seen_in (written_by r.op) reply) (late_rows unused late early)
   pub ended : (i v : ℕ) (a : CallRec) → slice_get s.calls i ≡ Some a → key_of a.call ≡ key → IsBefore a.end b.begin → shows a.answer ≡ Some v → IsShownAt s.cfg early v
 
 -- these deeds are what has happened to the object
