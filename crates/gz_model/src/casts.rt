@@ -7,7 +7,7 @@ ghost use Rattle.gz_model.specs.Casts.{is_at, is_vote, has_cast, has_enough, is_
 use gz_core::{Ballot, Config, Key, PutName, SiteId, Version};
 
 /// A vote that a site cast: for the value of this name, in this ballot, at this version of the object of this key.
-#[derive(Clone, Debug, PartialEq, Eq, Drop)]
+#[derive(Clone, Debug, PartialEq, Eq, PartialOrd, Ord, Drop)]
 pub struct Cast {
     pub site: SiteId,
     pub key: Key,

@@ -3,7 +3,10 @@ ghost use Rattle.gz_core.specs.Rows.{IsColumn};
 
 use super::*;
 use crate::heard::{Heard, Pick};
-use gz_core::{Ballot, Column, Config, Items, PutName, Row, Session, SiteId, Value, Version, Vote};
+use gz_core::{
+    Ballot, Column, Config, ConfigError, Items, Order, PutName, Row, Session, SiteId, Value,
+    Version, Vote,
+};
 use std::alloc::{AllocError, Global};
 use std::process::Abort;
 use std::test::Fail;
@@ -263,4 +266,53 @@ fn no_evidence_in_parts_of_quorums(rt: HostRuntime) -> Result<(), Fail> {
     ];
     assert_eq!(rt; seen_of(&rt, rt.alloc(), promises)?, (None, Version(0)));
     Ok(())
+}
+
+const LARGEST: Config = Config {
+    n: 16,
+    qc: 16,
+    qf: 16,
+    k: 12,
+    m: 4,
+    f: 4,
+    tries: 8,
+    order: Order::Parallel,
+};
+
+const SMALLEST: Config = Config {
+    n: 1,
+    qc: 1,
+    qf: 1,
+    k: 1,
+    m: 0,
+    f: 0,
+    tries: 1,
+    order: Order::Parallel,
+};
+
+#[test]
+fn tells_the_first_broken_rule(rt: HostRuntime) {
+    let other = Config::DEFAULT;
+    let rows = [
+        (Config::DEFAULT, Ok(())),
+        (SMALLEST, Ok(())),
+        (LARGEST, Ok(())),
+        (Config { n: 17, ..other }, Err(ConfigError::SiteCount)),
+        (Config { qc: 1, ..other }, Err(ConfigError::ClassicQuorum)),
+        (
+            Config {
+                n: 7,
+                qc: 4,
+                qf: 5,
+                ..other
+            },
+            Err(ConfigError::FastQuorum),
+        ),
+        (Config { m: 2, ..other }, Err(ConfigError::Pieces)),
+        (Config { f: 2, ..other }, Err(ConfigError::Spare)),
+        (Config { tries: 0, ..other }, Err(ConfigError::Tries)),
+    ];
+    for (config, told) in rows {
+        assert_eq!(rt; config.check(), told, "{config:?}");
+    }
 }
