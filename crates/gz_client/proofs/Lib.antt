@@ -1,3 +1,5 @@
 pub mod Holding
 pub mod Live
 pub mod Exactly
+mod LiveRequests
+mod Driving

@@ -1,0 +1,70 @@
+//! Which requests a client awaits, and a copy of it.
+ghost use Rattle.std.specs.Prelude.{◌≡◌, ℕ, ◌==◌, List, nat_lt, IfOk};
+ghost use Rattle.std.specs.List.{list_any};
+ghost use Rattle.gz_round.specs.History.{Tale};
+ghost use Rattle.gz_round.specs.Awaiting.{has_number};
+ghost use Rattle.gz_client.specs.Tales.{Holds, live};
+ghost use Rattle.gz_client.specs.Lowest.{IsLowestLive};
+
+use super::Client;
+use gz_round::{Mark, Run};
+use std::alloc::AllocError;
+
+impl Client {
+    /// A copy of the client.
+    pub fn copy(&self) -> Result<Client, AllocError>
+        ensures { IfOk result (λ client. client ≡ self.now) }
+    {
+        let run = copy_of_run(&self.run)?;
+        Ok(Client {
+            config: self.config,
+            session: self.session,
+            calls: self.calls,
+            run,
+        })
+    }
+
+    /// Whether the running call awaits request `n`. Takes no memory.
+    pub fn awaits(&self, n: u32) -> bool
+        ensures { (next : ℕ) (ts : List Tale) → Holds self.now next ts → result ≡ nat_lt 0 (live self.now.config (λ m. m == n) ts) }
+    {
+        match &self.run {
+            Some(run) => any_awaits(run.marks.as_slice(), n),
+            None => false,
+        }
+    }
+
+    /// The lowest number of a request that the running call awaits. Takes no memory.
+    pub fn lowest_live(&self) -> Option<u32>
+        ensures { (next : ℕ) (ts : List Tale) → Holds self.now next ts → IsLowestLive self.now.config ts result }
+    {
+        self.live_at(0)
+    }
+}
+
+/// A copy of a running call, where there is one.
+fn copy_of_run(run: &Option<Run>) -> Result<Option<Run>, AllocError>
+    ensures { IfOk result (λ copy. copy ≡ run.now) }
+{
+    match run {
+        Some(run) => Ok(Some(run.copy()?)),
+        None => Ok(None),
+    }
+}
+
+/// Whether request `n` is awaited from any site.
+fn any_awaits(marks: &[Mark], n: u32) -> bool
+    ensures { result ≡ list_any (has_number n) marks.now }
+{
+    marks.iter().any(|mark| has_number(mark, n))
+}
+
+/// Whether request `n` is awaited from a site.
+fn has_number(mark: &Mark, n: u32) -> bool
+    ensures { result ≡ has_number n mark.now }
+{
+    match &mark.awaited {
+        Some(awaited) => awaited.number == n,
+        None => false,
+    }
+}
