@@ -7,8 +7,6 @@ ghost use Rattle.gz_client.specs.Tales.{Holds, CanBegin, CanBeTold, IsSameClient
 
 mod live;
 
-mod live;
-
 use gz_core::{Call, Config, PutName, Reply, Session, Turn};
 use gz_round::Run;
 use std::alloc::{AllocError, Global};
