@@ -4,7 +4,7 @@ ghost use Rattle.gz_core.specs.Configurations.{IsConfig};
 ghost use Rattle.gz_world.specs.Fits.{IsFitting, IsBounded};
 
 use super::*;
-use gz_core::{Answer, Call, Config, Items, Key, PutName, Session, Version};
+use gz_core::{Answer, Call, Config, Items, Key, Phase, PutName, Session, Version};
 use gz_site::MemSite;
 use std::alloc::{AllocError, Global};
 use std::test::Fail;
@@ -138,5 +138,29 @@ fn four_million_events_are_the_most(rt: HostRuntime) -> Result<(), Fail> {
         session: Session(1),
     });
     assert_eq!(rt; next, Err(ApplyError::Full));
+    Ok(())
+}
+
+#[test]
+fn a_call_whose_requests_are_given_up(rt: HostRuntime) -> Result<(), Fail> {
+    let alloc = rt.alloc();
+    let session = Session(1);
+    let get = Call::Get {
+        key: key_of(alloc, b'a')?,
+    };
+    let mut world = three_sites(alloc)?;
+    apply(&mut world, Event::OpenSession)?;
+    apply(&mut world, Event::Begin { session, call: get })?;
+    let first = apply(&mut world, Event::GiveUp { n: 1 })?;
+    let second = apply(&mut world, Event::GiveUp { n: 2 })?;
+    let crash = apply(&mut world, Event::Crash { session })?;
+    let none = Answer::NoQuorum {
+        phase: Phase::Look,
+        heard: 0,
+    };
+    assert_eq!(rt; [first.answer, second.answer], [None, Some(none)]);
+    assert_eq!(rt; [first.live, second.live], [Some(2), None]);
+    assert_eq!(rt; crash.outcome, Outcome::Done);
+    assert_eq!(rt; world.into_sites().len(), 3);
     Ok(())
 }
