@@ -1,21 +1,20 @@
 -- A client that is driven by hand stands for some tales of its session.
-use Rattle.std.proofs.Common.{◌≡◌, ◌==◌, ℕ, ◌+◌, ◌<◌, ◌≤◌, ◌^◌, Bool, true, false, List, [], ◌∷◌, length, Option, Some, None, refl, sym, ap, ◌∙◌, subst, arith}
+use Rattle.std.proofs.Common.{◌≡◌, ◌==◌, ℕ, ◌+◌, ◌<◌, Bool, true, List, [], ◌∷◌, length, Option, Some, None, refl, sym, ◌∙◌, subst, arith}
 use Rattle.std.specs.Prelude.{nat_lt}
 use Rattle.std.proofs.lemmas.Bool.{eqb-true, false≢true}
 use Rattle.std.proofs.lemmas.Bool.Decides.{nat_tests}
 use Rattle.std.proofs.lemmas.Option.{none-some}
 use Rattle.gz_core.specs.declared.calls.Answer.{Answer}
-use Rattle.gz_core.specs.declared.calls.Call.{Call}
 use Rattle.gz_core.specs.declared.configuration.Config.{Config}
 use Rattle.gz_core.specs.declared.requests.Turn.{Turn}
 use Rattle.gz_core.proofs.Counting.{count_found}
 use Rattle.gz_round.specs.declared.run.Run.{Run}
-use Rattle.gz_round.specs.History.{Asked, Moment, Tale, begun, turned}
+use Rattle.gz_round.specs.History.{Asked, Moment, Tale, turned}
 use Rattle.gz_round.specs.Sites.{site_now}
 use Rattle.gz_round.specs.Numbering.{awaits_number}
 use Rattle.gz_client.specs.declared.client.Client.{Client}
-use Rattle.gz_client.specs.Tales.{Holds, HoldsRun, IsAwaited, IsRunning, CanBegin, CanBeTold, Extends, IsHeld, IsLive, live, live_in}
-use Rattle.gz_client.proofs.Holding.{idle_from, can_be_told}
+use Rattle.gz_client.specs.Tales.{Holds, HoldsRun, IsAwaited, CanBeTold, Extends, IsHeld, IsLive, live, live_in}
+use Rattle.gz_client.proofs.Holding.{can_be_told}
 
 awaited_under : (o : Option Asked) (n : ℕ) → awaits_number (λ m. m == n) o ≡ true → (a : Asked) × (o ≡ Some a) × (a.number ≡ n)
 awaited_under None n h = absurd (false≢true h)
@@ -27,13 +26,15 @@ awaited_while c next None t ts n None e h l = absurd (none-some h.0.0 (sym e ∙
 awaited_while c next (Some run) t ts n None e h l =
     let found = count_found c.n (λ s. awaits_number (λ m. m == n) (site_now t.moments s).awaits) l in
     let a = awaited_under (site_now t.moments found.0).awaits n found.2 in
-    let at : a.0.site ≡ found.0 = ((h.1.stands.sites found.0).inside a.0 a.1).1 in
-    (a.0, record {
-      running = e;
-      inside = subst (λ s. s < c.n) (sym at) found.1;
-      awaits = subst (λ s. (site_now t.moments s).awaits ≡ Some a.0) (sym at) a.1;
-      number_is = a.2;
-    })
+    let at : a.0.site ≡ found.0 = ((h.1.stands.sites found.0).inside a.0 a.1).1 in (
+      a.0,
+      record {
+        running = e;
+        inside = subst (λ s. s < c.n) (sym at) found.1;
+        awaits = subst (λ s. (site_now t.moments s).awaits ≡ Some a.0) (sym at) a.1;
+        number_is = a.2;
+      },
+    )
 
 some_above : (k : ℕ) → nat_lt 0 k ≡ true → 0 < k
 some_above k h = grind (arith, nat_tests)
@@ -48,22 +49,7 @@ pub told_when : (client : Client) (n first calls : ℕ) (awaits : Bool) → IsHe
 told_when client n first calls awaits held word e =
     can_be_told client n first held.0 held.1 held.2 (live_when client held.0 held.1 n held.2 (sym (word held.0 held.1 held.2) ∙ e)) held.3
 
--- it may begin a call where none runs
-pub begins_when : (client : Client) (first calls : ℕ) → IsHeld client calls first → ((next : ℕ) (ts : List Tale) → Holds client next ts → IsRunning ts → ⊥) → calls < 2 ^ 29 → CanBegin client
-begins_when client first calls held idle few =
-    let count = held.2.calls_are in
-    let most = held.4 in
-    record { idle = idle_from client held.0 held.1 held.2 (idle held.0 held.1 held.2); few = omega arith; sizes = held.2.sizes }
-
--- it is held after a call has begun
-pub held_begun : (old new : Client) (call : Call) (first calls after : ℕ) (turn : Turn) → IsHeld old calls first →
-    ((next : ℕ) (ts : List Tale) → Holds old next ts → Holds new (first + length turn.send) (begun old.session call first turn ts ∷ ts)) →
-    after ≡ first + length turn.send → IsHeld new (calls + 1) after
-held_begun old new call first calls after turn held begins e =
-    let most = held.4 in
-    (first + length turn.send, begun old.session call first turn held.1 ∷ held.1, begins held.0 held.1 held.2, omega arith, omega arith)
-
--- and after it was told of a request
+-- it is held after it was told of a request
 pub held_told : (old new : Client) (n first calls after : ℕ) (moment : Asked → Moment) (turn : Turn) → IsHeld old calls first → CanBeTold old n first → Extends old new n first moment turn → after ≡ first + length turn.send → IsHeld new calls after
 held_told old new n first calls after moment turn held told extends e =
     let later = extends told.0 told.1 told.2 told.3 told.4 told.5 told.6 in

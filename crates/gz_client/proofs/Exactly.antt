@@ -1,8 +1,7 @@
 -- Each answer against the counts of its call.
-use Rattle.std.proofs.Common.{◌≡◌, ℕ, ◌+◌, ◌<◌, ◌≤◌, ◌↔◌, Bool, true, false, List, Option, Some, None, refl, sym, ap, ◌∙◌, subst, arith}
-use Rattle.std.proofs.lemmas.Bool.{cases_Bool, true≢false, false≢true}
+use Rattle.std.proofs.Common.{◌≡◌, ◌+◌, ◌<◌, ◌≤◌, ◌↔◌, Bool, true, false, List, Option, Some, None, refl, sym, ap, ◌∙◌, arith}
+use Rattle.std.proofs.lemmas.Bool.{false≢true}
 use Rattle.std.proofs.lemmas.Option.{same_Some, none-some}
-use Rattle.gz_core.specs.declared.calls.Phase.{Phase}
 use Rattle.gz_core.specs.declared.calls.Answer.{Answer}
 use Rattle.gz_core.specs.declared.calls.Answer.TheVariants.{Ok, Bytes, Absent, NoQuorum, Contended, Unsure, Unsettled}
 use Rattle.gz_core.specs.declared.calls.UnsureWhy.{UnsureWhy}
@@ -10,9 +9,9 @@ use Rattle.gz_core.specs.declared.calls.UnsureWhy.TheVariants.{NoQuorum as Unsur
 use Rattle.gz_core.specs.declared.configuration.Config.{Config}
 use Rattle.gz_round.specs.History.{Moment, Caller, Tale}
 use Rattle.gz_round.specs.Sent.{met, voted, phase_of}
-use Rattle.gz_round.specs.Counting.{outs, known_count, IsGoing}
+use Rattle.gz_round.specs.Counting.{outs, IsGoing}
 use Rattle.gz_round.specs.Causes.{HasCause, UnsureCause}
-use Rattle.gz_client.specs.Tales.{IsTold, IsAnswered}
+use Rattle.gz_client.specs.Tales.{IsAnswered}
 use Rattle.gz_client.specs.Endings.{LacksSites, lacking, contending, EndsExactly}
 
 -- an answer for want of sites

@@ -1,27 +1,23 @@
 -- The client stands for its session's tales after an event.
-use Rattle.std.proofs.Common.{◌≡◌, ◌==◌, ℕ, ◌+◌, ◌<◌, ◌≤◌, Bool, true, false, List, [], ◌∷◌, length, Option, Some, None, option_map, refl, sym, ap, ◌∙◌, subst, inl, arith}
-use Rattle.std.specs.List.{slice_get}
+use Rattle.std.proofs.Common.{◌≡◌, ◌==◌, ℕ, ◌+◌, ◌<◌, ◌≤◌, true, List, [], ◌∷◌, length, Option, Some, None, option_map, refl, sym, ap, ◌∙◌, subst, inl, arith}
 use Rattle.std.proofs.lemmas.Bool.{eqb-true, eq-eqb, false≢true}
 use Rattle.std.proofs.lemmas.Option.{same_Some, none-some, slice_get_within}
-use Rattle.gz_core.specs.Names.{Name}
 use Rattle.gz_core.specs.Configurations.{IsConfig}
 use Rattle.gz_core.specs.declared.calls.Answer.{Answer}
 use Rattle.gz_core.specs.declared.calls.Call.{Call}
 use Rattle.gz_core.specs.declared.configuration.Config.{Config}
-use Rattle.gz_core.specs.declared.requests.Reply.{Reply}
 use Rattle.gz_core.specs.declared.requests.Turn.{Turn}
-use Rattle.gz_round.specs.declared.run.Awaited.{Awaited}
 use Rattle.gz_round.specs.declared.run.Mark.{Mark}
 use Rattle.gz_round.specs.declared.run.Run.{Run}
-use Rattle.gz_round.specs.History.{Asked, Moment, Handed, GaveUp, Caller, Tale, IsClosing, begun, turned, sent_from}
+use Rattle.gz_round.specs.History.{Asked, Moment, Caller, Tale, IsClosing, begun, turned, sent_from}
 use Rattle.gz_round.specs.Sites.{site_now}
 use Rattle.gz_round.specs.Standing.{Knows, Runs, mark_of, awaited_of}
 use Rattle.gz_round.specs.Numbering.{AreNumbered}
 use Rattle.gz_round.specs.Awaiting.{IsSiteOf, has_number, is_numbered}
 use Rattle.gz_round.specs.Following.{Ready, Turned}
-use Rattle.gz_round.proofs.Numbers.{numbered_sent, numbered_handed, numbered_gave_up, numbered_none}
+use Rattle.gz_round.proofs.Numbers.{numbered_sent, numbered_none}
 use Rattle.gz_client.specs.declared.client.Client.{Client}
-use Rattle.gz_client.specs.Tales.{Holds, HoldsRun, AreTold, AreOver, IsTold, IsAwaited, CanBeTold, Extends, IsRunning, IsLive, IsLiveAtIn, IsLiveAtWhile, going_on}
+use Rattle.gz_client.specs.Tales.{Holds, HoldsRun, AreTold, AreOver, IsAwaited, CanBeTold, IsLive, IsLiveAtIn, IsLiveAtWhile, going_on}
 
 -- after an event of the newest call
 pub turned_holds : (c : Config) (session : ℕ) (w : Caller) (ts : List Tale) (run : Run) (ms : List Moment) (answer : Option Answer) (calls next : ℕ) → IsConfig c → calls ≡ length ts + 1 → w.name ≡ record { session = session; seq = length ts + 1 } → AreTold c session ts → AreOver ts →
@@ -115,15 +111,6 @@ turned_extends client run new first turn moment next t ts kept e kept_is h numbe
       subst (λ (r : Option Run). Holds (record { config = client.config; session = client.session; calls = client.calls; run = r }) (first + length turn.send) (turned first turn moment [] t ∷ ts)) (sym kept_is)
           (turned_holds client.config client.session t.caller ts new (sent_from first turn.send (moment ∷ t.moments)) turn.answer client.calls (first + length turn.send) h.sizes (omega arith) told.1 told.2 k.over after ended),
     )
-
-idle_when : (c : Config) (next : ℕ) (run : Option Run) (ts : List Tale) → HoldsRun c next run ts → (IsRunning ts → ⊥) → run ≡ None
-idle_when c next None ts h none = refl
-idle_when c next (Some run) [] h none = absurd h
-idle_when c next (Some run) (t ∷ ts) h none = absurd (none h.0)
-
--- a client of which no call runs keeps none
-pub idle_from : (client : Client) (next : ℕ) (ts : List Tale) → Holds client next ts → (IsRunning ts → ⊥) → client.run ≡ None
-idle_from client next ts h none = idle_when client.config next client.run ts h.run_is none
 
 -- a client may be told of a request that its running call awaits
 pub can_be_told : (client : Client) (n first next : ℕ) (ts : List Tale) → Holds client next ts → IsLive client.config ts n → next ≤ first → CanBeTold client n first

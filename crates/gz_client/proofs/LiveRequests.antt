@@ -1,7 +1,7 @@
 -- The marks of the sites tell which requests are live, and which of them is the lowest.
-use Rattle.std.proofs.Common.{◌≡◌, ◌==◌, ℕ, zero, suc, ◌+◌, ◌<◌, ◌≤◌, Bool, true, false, cond, List, [], ◌∷◌, length, Option, Some, None, option_map, refl, sym, ap, ◌∙◌, subst, inl, inr, arith}
+use Rattle.std.proofs.Common.{◌≡◌, ◌==◌, ℕ, zero, suc, ◌<◌, ◌≤◌, Bool, true, false, cond, List, [], ◌∷◌, Option, Some, None, option_map, refl, sym, ap, ◌∙◌, subst, inl, inr, arith}
 use Rattle.std.specs.Prelude.{nat_lt}
-use Rattle.std.specs.List.{slice_get, list_any}
+use Rattle.std.specs.List.{list_any}
 use Rattle.std.proofs.lemmas.Bool.{cases_eq, cases_lt, false≢true}
 use Rattle.std.proofs.lemmas.Bool.Decides.{nat_tests}
 use Rattle.std.proofs.lemmas.Option.{same_Some, none-some, slice_get_within}
@@ -9,7 +9,6 @@ use Rattle.gz_core.specs.Counts.{count_sites}
 use Rattle.gz_core.specs.declared.calls.Answer.{Answer}
 use Rattle.gz_core.specs.declared.configuration.Config.{Config}
 use Rattle.gz_core.proofs.Counting.{count_found}
-use Rattle.gz_round.specs.declared.run.Mark.{Mark}
 use Rattle.gz_round.specs.declared.run.Run.{Run}
 use Rattle.gz_round.specs.History.{Asked, Moment, Tale}
 use Rattle.gz_round.specs.Sites.{site_now}
@@ -55,16 +54,16 @@ marks_tell : (c : Config) (run : Run) (ms : List Moment) (n : ℕ) → Knows c r
 marks_tell c run ms n k =
     let len = k.marks_len in
     test_is (list_any (has_number n) run.marks) (live_where c (λ m. m == n) ms)
-      (λ (e : list_any (has_number n) run.marks ≡ true).
-        let found = any_found (has_number n) run.marks e in
-        let inside : found.0 < c.n = omega (arith, slice_get_within run.marks found.0 found.1 found.2) in
-        let is : found.1 ≡ mark_of (site_now ms found.0) = same_Some found.1 (mark_of (site_now ms found.0)) (sym found.2 ∙ k.marks found.0 inside) in
-        count_some c.n (λ s. awaits_number (λ m. m == n) (site_now ms s).awaits) found.0 inside
-          (sym (numbered_by (λ m. m == n) (site_now ms found.0).awaits) ∙ (ap (has_number n) (sym is) ∙ found.3)))
-      (λ (l : 0 < live_where c (λ m. m == n) ms).
-        let found = count_found c.n (λ s. awaits_number (λ m. m == n) (site_now ms s).awaits) l in
-        any_told (has_number n) run.marks found.0 (mark_of (site_now ms found.0)) (k.marks found.0 found.1)
-          (numbered_by (λ m. m == n) (site_now ms found.0).awaits ∙ found.2))
+    (λ (e : list_any (has_number n) run.marks ≡ true).
+    let found = any_found (has_number n) run.marks e in
+    let inside : found.0 < c.n = omega (arith, slice_get_within run.marks found.0 found.1 found.2) in
+    let is : found.1 ≡ mark_of (site_now ms found.0) = same_Some found.1 (mark_of (site_now ms found.0)) (sym found.2 ∙ k.marks found.0 inside) in
+    count_some c.n (λ s. awaits_number (λ m. m == n) (site_now ms s).awaits) found.0 inside
+    (sym (numbered_by (λ m. m == n) (site_now ms found.0).awaits) ∙ (ap (has_number n) (sym is) ∙ found.3)))
+    (λ (l : 0 < live_where c (λ m. m == n) ms).
+    let found = count_found c.n (λ s. awaits_number (λ m. m == n) (site_now ms s).awaits) l in
+    any_told (has_number n) run.marks found.0 (mark_of (site_now ms found.0)) (k.marks found.0 found.1)
+    (numbered_by (λ m. m == n) (site_now ms found.0).awaits ∙ found.2))
 
 over_none : (c : Config) (p : ℕ → Bool) (ts : List Tale) → AreOver ts → live c p ts ≡ 0
 over_none c p [] h = refl

@@ -1,8 +1,7 @@
 -- A call ends for want of sites, or as contended, exactly where its counts say so.
-use Rattle.std.specs.Prelude.{ℕ, ◌≡◌, ◌≤◌, ◌<◌, ◌+◌, ◌↔◌, Bool, true, false, List, Option, Some, None}
+use Rattle.std.specs.Prelude.{◌≡◌, ◌≤◌, ◌<◌, ◌+◌, ◌↔◌, Bool, true, false, List, Some}
 use Rattle.gz_core.specs.declared.calls.Answer.{Answer}
-use Rattle.gz_core.specs.declared.calls.Answer.TheVariants.{Ok, Bytes, Absent, NoQuorum, Contended, Unsure, Unsettled}
-use Rattle.gz_core.specs.declared.calls.UnsureWhy.{UnsureWhy}
+use Rattle.gz_core.specs.declared.calls.Answer.TheVariants.{NoQuorum, Contended, Unsure}
 use Rattle.gz_core.specs.declared.calls.UnsureWhy.TheVariants.{NoQuorum as UnsureNoQuorum, Contended as UnsureContended}
 use Rattle.gz_core.specs.declared.configuration.Config.{Config}
 use Rattle.gz_round.specs.History.{Moment, Tale}

@@ -1,19 +1,15 @@
 -- A client stands for the tales of its session: what it may be told, and what it has done.
-use Rattle.std.specs.Prelude.{ℕ, Bool, true, false, ◌≡◌, ◌≤◌, ◌<◌, ◌+◌, ◌^◌, List, [], ◌∷◌, length, Option, Some, None}
+use Rattle.std.specs.Prelude.{ℕ, Bool, true, ◌≡◌, ◌≤◌, ◌<◌, ◌+◌, ◌^◌, List, [], ◌∷◌, length, Option, Some, None}
 use Rattle.gz_core.specs.Configurations.{IsConfig}
-use Rattle.gz_core.specs.Counts.{count_sites}
-use Rattle.gz_core.specs.declared.calls.Call.{Call}
-use Rattle.gz_core.specs.declared.calls.Call.TheVariants.{Put, Get}
 use Rattle.gz_core.specs.declared.requests.Turn.{Turn}
 use Rattle.gz_core.specs.declared.calls.Answer.{Answer}
 use Rattle.gz_core.specs.declared.configuration.Config.{Config}
 use Rattle.gz_round.specs.declared.run.Run.{Run}
-use Rattle.gz_round.specs.History.{Asked, Moment, Caller, Tale, IsClosing, turned}
+use Rattle.gz_round.specs.History.{Asked, Moment, Tale, IsClosing, turned}
 use Rattle.gz_round.specs.Sites.{site_now}
 use Rattle.gz_round.specs.Sending.{AreAllowed}
 use Rattle.gz_round.specs.Counting.{IsGoing}
 use Rattle.gz_round.specs.Causes.{HasCause}
-pub use Rattle.gz_round.specs.Numbering.{awaits_number}
 use Rattle.gz_round.specs.Numbering.{AreNumbered, IsLiveAt, live_where}
 use Rattle.gz_round.specs.Standing.{IsWaiting, Runs}
 use Rattle.gz_client.specs.declared.client.Client.{Client}
@@ -72,6 +68,10 @@ live_in c p t (Some answer) = 0
 abbrev pub live : Config → (ℕ → Bool) → List Tale → ℕ
 live c p [] = 0
 live c p (t ∷ ts) = live_in c p t t.answer
+
+-- how many requests the running call awaits, if one runs
+abbrev pub live_count : Config → List Tale → ℕ
+live_count c ts = live c (λ m. true) ts
 
 -- the running call awaits a request under this number
 abbrev pub IsLive : Config → List Tale → ℕ → Type 0

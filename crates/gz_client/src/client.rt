@@ -3,7 +3,7 @@ ghost use Rattle.std.specs.Prelude.{◌≡◌, ℕ, ◌≤◌, ◌<◌, ◌+◌,
 ghost use Rattle.gz_core.specs.Configurations.{IsConfig};
 ghost use Rattle.gz_round.specs.History.{Tale, Handed, GaveUp, begun};
 ghost use Rattle.gz_round.specs.Starting.{IsWithin};
-ghost use Rattle.gz_client.specs.Tales.{Holds, CanBegin, CanBeTold, IsSameClient, IsRunning, Extends, going_on, live, IsLiveAtIn};
+ghost use Rattle.gz_client.specs.Tales.{Holds, CanBegin, CanBeTold, IsSameClient, IsRunning, Extends, going_on, live_count, IsLiveAtIn};
 
 mod live;
 
@@ -120,7 +120,7 @@ impl Client {
 
     /// How many requests are awaited. Takes no memory.
     pub fn live_count(&self) -> u32
-        ensures { (next : ℕ) (ts : List Tale) → Holds self.now next ts → result ≡ live self.now.config (λ m. true) ts }
+        ensures { (next : ℕ) (ts : List Tale) → Holds self.now next ts → result ≡ live_count self.now.config ts }
     {
         match &self.run {
             None => 0,

@@ -401,7 +401,11 @@ fn get_alone(alloc: Global, moves: &[Move]) -> Result<End, Fail> {
 }
 
 /// How a put ends, and the answer of a get after it.
-fn put_then_get(alloc: Global, moves: &[Move], later: &[Move]) -> Result<(End, Option<Answer>), Fail> {
+fn put_then_get(
+    alloc: Global,
+    moves: &[Move],
+    later: &[Move],
+) -> Result<(End, Option<Answer>), Fail> {
     let mut driver = Driver::new(8)?;
     let mut network = Network::new(alloc)?;
     let answer = run(&mut driver, &mut network, alloc, put(alloc)?, moves)?;
@@ -433,7 +437,14 @@ fn a_put_and_a_get(rt: HostRuntime) -> Result<(), Fail> {
     let moves = [Take(1), Take(2), Take(3), Take(4), Take(5), Take(6)];
     let (end, read) = put_then_get(alloc, &moves, &[Take(10), Take(11), Take(12)])?;
     assert_eq!(rt; end, (Some(Answer::Ok { version }), 9, 0));
-    assert_eq!(rt; read, Some(Answer::Bytes { version, name, bytes }));
+    assert_eq!(rt;
+        read,
+        Some(Answer::Bytes {
+            version,
+            name,
+            bytes
+        })
+    );
     Ok(())
 }
 
@@ -524,5 +535,29 @@ fn a_vote_of_another(rt: HostRuntime) -> Result<(), Fail> {
     let end = put_alone(alloc, 8, &moves)?;
     let version = Version(1);
     assert_eq!(rt; end, (Some(Answer::Unsettled { version }), 6, 0));
+    Ok(())
+}
+
+/// Which requests a get awaits once the second of three was answered, as a copy of its client tells it.
+fn awaited_by_a_get(alloc: Global) -> Result<(Option<u32>, Option<u32>, [bool; 3]), Fail> {
+    let mut driver = Driver::new(8)?;
+    let mut network = Network::new(alloc)?;
+    let _ = run(
+        &mut driver,
+        &mut network,
+        alloc,
+        get(alloc)?,
+        &[Move::Take(2)],
+    )?;
+    let client = driver.client.copy()?;
+    let awaits = [client.awaits(1), client.awaits(2), client.awaits(3)];
+    Ok((client.lowest_live(), client.live_at(1), awaits))
+}
+
+/// An answered request isn't awaited any more.
+#[test]
+fn awaited_requests(rt: HostRuntime) -> Result<(), Fail> {
+    let told = awaited_by_a_get(rt.alloc())?;
+    assert_eq!(rt; told, (Some(1), Some(3), [true, false, true]));
     Ok(())
 }

@@ -3,7 +3,10 @@ ghost use Rattle.gz_core.specs.Rows.{IsColumn};
 
 use super::*;
 use crate::heard::{Heard, Pick};
-use gz_core::{Ballot, Column, Config, ConfigError, Items, Order, PutName, Row, Session, SiteId, Value, Version, Vote};
+use gz_core::{
+    Ballot, Column, Config, ConfigError, Items, Order, PutName, Row, Session, SiteId, Value,
+    Version, Vote,
+};
 use std::alloc::{AllocError, Global};
 use std::process::Abort;
 use std::test::Fail;

@@ -1,5 +1,5 @@
 -- What the program does at an event is what the event does to the state, and the world still fits.
-use Rattle.std.proofs.Common.{◌≡◌, ◌≢◌, ℕ, zero, suc, ◌+◌, ◌-◌, ◌*◌, ◌^◌, ◌<◌, ◌≤◌, ◌⊎◌, inl, inr, List, [], ◌∷◌, ◌++◌, Some, None, Bool, true, false, length, map, refl, ap, sym, ◌∙◌, subst, arith, length-append, length-set}
+use Rattle.std.proofs.Common.{◌≡◌, ◌≢◌, ℕ, ◌+◌, ◌-◌, ◌*◌, ◌^◌, ◌<◌, ◌≤◌, inl, inr, List, [], ◌∷◌, ◌++◌, Some, None, true, length, map, refl, ap, sym, ◌∙◌, subst, arith, length-append, length-set}
 use Rattle.std.specs.Prelude.{Option, min, slice_get, slice_set}
 use Rattle.std.proofs.lemmas.Bool.{cases_eq}
 use Rattle.std.proofs.lemmas.List.{length-map}
@@ -8,26 +8,23 @@ use Rattle.gz_core.specs.Configurations.{IsConfig}
 use Rattle.gz_core.specs.declared.calls.Call.{Call}
 use Rattle.gz_core.specs.declared.configuration.Config.{Config}
 use Rattle.gz_core.specs.declared.requests.Out.{Out}
-use Rattle.gz_core.specs.declared.requests.Reply.{Reply}
 use Rattle.gz_core.specs.declared.requests.Turn.{Turn}
-use Rattle.gz_round.specs.History.{Asked, Moment, Sent, Handed, GaveUp, Caller, Tale, IsClosing, begun, turned, sent_from}
-use Rattle.gz_round.specs.Sending.{AreAllowed}
+use Rattle.gz_round.specs.History.{Asked, Moment, Tale, begun, turned, sent_from}
 use Rattle.gz_client.specs.declared.client.Client.{Client}
-use Rattle.gz_client.specs.Tales.{Holds, AreTold, IsAwaited, Extends, IsSameClient}
+use Rattle.gz_client.specs.Tales.{Holds, AreTold, IsAwaited}
 use Rattle.gz_history.specs.declared.record.CallRec.{CallRec}
 use Rattle.gz_site.specs.Told.{Told}
 use Rattle.gz_site.specs.Many.{told_at}
-use Rattle.gz_world.specs.States.{RequestAt, State, request_of, numbered, with_tales, with_handed, with_given_up, sent_request, sent_requests, end_at}
+use Rattle.gz_world.specs.States.{RequestAt, request_of, with_tales, sent_request, sent_requests, end_at}
 use Rattle.gz_world.specs.Bridge.{crashed_in, state_of}
-use Rattle.gz_world.specs.Weights.{capped, call_bytes, outs_weight}
 use Rattle.gz_world.specs.Refusals.{is_live}
-use Rattle.gz_world.specs.Fits.{IsLast, StandsFor, IsPlaced, FitsBy, Fits}
-use Rattle.gz_world.specs.Steps.{answered, SitesStay, FrameStays, SessionMoves, TurnBy, TakesTurn, BeginsBy, Begins, Hands, GivesUp}
-use Rattle.gz_world.specs.Turns.{IsSmall, IsUntouched, ToldBy, BeganBy, Began, WasHanded, WasGivenUp}
+use Rattle.gz_world.specs.Fits.{IsLast, StandsFor, FitsBy, Fits}
+use Rattle.gz_world.specs.Steps.{answered, SitesStay, FrameStays, TurnBy, TakesTurn, Begins}
+use Rattle.gz_world.specs.Turns.{IsSmall, IsUntouched, ToldBy, Began}
 use Rattle.gz_world.specs.declared.events.Effect.{Effect}
 use Rattle.gz_world.specs.declared.world.Member.{Member}
 use Rattle.gz_world.specs.declared.world.World.{World}
-use Rattle.gz_world.proofs.Places.{get_set_same, get_set_other, get_append, get_below, get_last}
+use Rattle.gz_world.proofs.Places.{get_set_same, get_set_other, get_below, get_last}
 use Rattle.gz_world.proofs.Members.{numbered_place, place_numbered, member_stands}
 use Rattle.gz_world.proofs.Telling.{live_found}
 use Rattle.gz_world.proofs.Turning.{NamesStay, names_append, names_answered, stands_more, tales_same, tales_other, ArePlaced, placed_append, placed_set, placed_sent, allowed_sent, allowed_closed, outs_heavy, crashed_stays}
@@ -51,20 +48,20 @@ clients_after : {S : Type 0} (old new : World S) (tales : ℕ → List Tale) (se
 clients_after old new tales session m after ts fits turn i k h =
     let o = turn.opened in
     elim (cases_eq i (session - 1)) [
-      inl e ↦
-        let place : i + 1 ≡ session = omega (arith, e, o) in
-        let there : slice_get (slice_set old.clients.items (session - 1) after) i ≡ Some after = subst (λ j. slice_get (slice_set old.clients.items (session - 1) after) j ≡ Some after) (sym e) (get_set_same old.clients.items (session - 1) m after turn.member) in
-        let both : Some after ≡ Some k = sym there ∙ h in
-        let same : after ≡ k = cc in
-        subst (λ n. StandsFor old.cfg (length (map request_of new.net.items) + 1) new.calls.items n k (with_tales tales session ts n)) (sym place)
+      | inl e ↦
+          let place : i + 1 ≡ session = omega (arith, e, o) in
+          let there : slice_get (slice_set old.clients.items (session - 1) after) i ≡ Some after = subst (λ j. slice_get (slice_set old.clients.items (session - 1) after) j ≡ Some after) (sym e) (get_set_same old.clients.items (session - 1) m after turn.member) in
+          let both : Some after ≡ Some k = sym there ∙ h in
+          let same : after ≡ k = cc in
+          subst (λ n. StandsFor old.cfg (length (map request_of new.net.items) + 1) new.calls.items n k (with_tales tales session ts n)) (sym place)
           (subst (λ q. StandsFor old.cfg (length (map request_of new.net.items) + 1) new.calls.items session k q) (sym (tales_same tales session ts))
-            (subst (λ q. StandsFor old.cfg (length (map request_of new.net.items) + 1) new.calls.items session q ts) same turn.stands))
-    | inr ne ↦
-        let there : slice_get old.clients.items i ≡ Some k = sym (get_set_other old.clients.items (session - 1) i after ne) ∙ h in
-        let apart : i + 1 ≢ session = λ e. ne (omega (arith, e)) in
-        let l = turn.longer in
-        let more : length (map request_of old.net.items) + 1 ≤ length (map request_of new.net.items) + 1 = omega (arith, l) in
-        subst (λ q. StandsFor old.cfg (length (map request_of new.net.items) + 1) new.calls.items (i + 1) k q) (sym (tales_other tales session (i + 1) ts apart))
+          (subst (λ q. StandsFor old.cfg (length (map request_of new.net.items) + 1) new.calls.items session q ts) same turn.stands))
+      | inr ne ↦
+          let there : slice_get old.clients.items i ≡ Some k = sym (get_set_other old.clients.items (session - 1) i after ne) ∙ h in
+          let apart : i + 1 ≢ session = λ e. ne (omega (arith, e)) in
+          let l = turn.longer in
+          let more : length (map request_of old.net.items) + 1 ≤ length (map request_of new.net.items) + 1 = omega (arith, l) in
+          subst (λ q. StandsFor old.cfg (length (map request_of new.net.items) + 1) new.calls.items (i + 1) k q) (sym (tales_other tales session (i + 1) ts apart))
           (stands_more old.cfg (length (map request_of old.net.items) + 1) (length (map request_of new.net.items) + 1) old.calls.items new.calls.items (i + 1) k (tales (i + 1)) more turn.names (fits.clients i k there))
     ]
 
@@ -86,16 +83,16 @@ fits_turn old new tales session m after ts fits small turn =
       sites = omega (arith, n, sites, enough);
       requests = subst (λ k. ArePlaced k (length new.clients.items) (map request_of new.net.items)) (sym n) (subst (λ k. ArePlaced old.cfg.n k (map request_of new.net.items)) (sym members) turn.requests);
       clients = λ i k h. subst (λ c. StandsFor c (length (map request_of new.net.items) + 1) new.calls.items (i + 1) k (with_tales tales session ts (i + 1))) (sym cfg)
-        (clients_after old new tales session m after ts fits turn i k (subst (λ xs. slice_get xs i ≡ Some k) turn.clients h));
+          (clients_after old new tales session m after ts fits turn i k (subst (λ xs. slice_get xs i ≡ Some k) turn.clients h));
       unopened = λ k l.
-        let apart : k ≢ session = λ e. absurd (omega (arith, e, l, members, below, opened)) in
-        let far : length old.clients.items < k = omega (arith, l, members) in
-        tales_other tales session k ts apart ∙ fits.unopened k far;
+          let apart : k ≢ session = λ e. absurd (omega (arith, e, l, members, below, opened)) in
+          let far : length old.clients.items < k = omega (arith, l, members) in
+          tales_other tales session k ts apart ∙ fits.unopened k far;
       zeroth = let apart : 0 ≢ session = λ e. absurd (omega (arith, e, opened)) in tales_other tales session 0 ts apart ∙ fits.zeroth;
       few = λ k. elim (cases_eq k session) [
-          inl e ↦ subst (λ q. length (with_tales tales session ts q) ≤ length old.journal.items + 1) (sym e) (subst (λ q. length q ≤ length old.journal.items + 1) (sym (tales_same tales session ts)) turn.few)
+        | inl e ↦ subst (λ q. length (with_tales tales session ts q) ≤ length old.journal.items + 1) (sym e) (subst (λ q. length q ≤ length old.journal.items + 1) (sym (tales_same tales session ts)) turn.few)
         | inr ne ↦ subst (λ q. length q ≤ length old.journal.items + 1) (sym (tales_other tales session k ts ne)) (let f = few k in omega (arith, f))
-        ];
+      ];
       weighs = turn.weighs;
       opened = omega (arith, members, was);
       bounded = omega (arith, events);
@@ -186,36 +183,41 @@ told_turn told old new tales n r marked moment m last c client turn effect fits 
         last_is = (answered tick turn.answer c, (turned first turn (moment a) closing t, (earlier, (subst (λ xs. slice_get xs last ≡ Some (answered tick turn.answer c)) (sym b.calls) (get_set_same old.calls.items last c (answered tick turn.answer c) b.record_is), (refl, answered_name tick turn.answer c ∙ name)))));
       };
       requests = subst (ArePlaced old.cfg.n (length old.clients.items)) (sym b.net)
-        (placed_append old.cfg.n (length old.clients.items) (slice_set (map request_of old.net.items) (n - 1) marked) (sent_requests c.name tick turn.send)
+          (placed_append old.cfg.n (length old.clients.items) (slice_set (map request_of old.net.items) (n - 1) marked) (sent_requests c.name tick turn.send)
           (placed_set old.cfg.n (length old.clients.items) (map request_of old.net.items) (n - 1) marked fits.requests
-            (record { opened = subst (λ (k : Name). 1 ≤ k.session) (sym name_same) placed.opened; session = subst (λ (k : Name). k.session ≤ length old.clients.items) (sym name_same) placed.session; site = subst (λ k. k < old.cfg.n) (sym site_same) placed.site }))
+          (record { opened = subst (λ (k : Name). 1 ≤ k.session) (sym name_same) placed.opened; session = subst (λ (k : Name). k.session ≤ length old.clients.items) (sym name_same) placed.session; site = subst (λ k. k < old.cfg.n) (sym site_same) placed.site }))
           (placed_sent old.cfg.n (length old.clients.items) c.name tick turn.send (omega (arith, own, opened)) (omega (arith, own, within)) sent));
       longer = omega (arith, grown);
       weighs = omega (arith, grown, heavy, weighed, held);
       rest = b.rest;
       few = omega (arith, count, few);
-    } in
-    (record { tale = t; earlier = earlier; asked = a; turn = turn; closing = closing },
-    (with_tales tales session ts,
-    (fits_turn old new tales session m after ts fits small of,
-    record {
-      request = b.request;
-      tales = is;
-      awaited = subst (λ k. IsAwaited k t a n) s.config_is f.1.1.1.1;
-      closing = x.1;
-      moves = record {
-        sessions = ap length b.clients ∙ length-set old.clients.items (session - 1) after;
-        crashed = λ k. ap (λ xs. crashed_in xs k) b.clients ∙ crashed_stays old.clients.items (session - 1) m after b.member refl k;
-        tales = λ k. refl;
-        told = told_by;
-      };
-      calls = (last, (c, (b.record_is, (name, b.calls))));
-      net = subst (λ k. map request_of new.net.items ≡ slice_set (map request_of old.net.items) (n - 1) marked ++ sent_requests k tick turn.send) name b.net;
-      held = b.held;
-      sites = untouched_sites told old new tales (with_tales tales session ts) b.rest;
-      frame = untouched_frame told old new tales (with_tales tales session ts) b.rest;
-      effect_is = b.effect_is;
-    })))
+    } in (
+      record { tale = t; earlier = earlier; asked = a; turn = turn; closing = closing },
+      (
+        with_tales tales session ts,
+        (
+          fits_turn old new tales session m after ts fits small of,
+          record {
+            request = b.request;
+            tales = is;
+            awaited = subst (λ k. IsAwaited k t a n) s.config_is f.1.1.1.1;
+            closing = x.1;
+            moves = record {
+              sessions = ap length b.clients ∙ length-set old.clients.items (session - 1) after;
+              crashed = λ k. ap (λ xs. crashed_in xs k) b.clients ∙ crashed_stays old.clients.items (session - 1) m after b.member refl k;
+              tales = λ k. refl;
+              told = told_by;
+            };
+            calls = (last, (c, (b.record_is, (name, b.calls))));
+            net = subst (λ k. map request_of new.net.items ≡ slice_set (map request_of old.net.items) (n - 1) marked ++ sent_requests k tick turn.send) name b.net;
+            held = b.held;
+            sites = untouched_sites told old new tales (with_tales tales session ts) b.rest;
+            frame = untouched_frame told old new tales (with_tales tales session ts) b.rest;
+            effect_is = b.effect_is;
+          },
+        ),
+      ),
+    )
 
 -- a session begins a call
 pub begun_turn : {S : Type 0} (told : S → Option Told) (old new : World S) (tales : ℕ → List Tale) (session : ℕ) (call : Call) (effect : Effect) → Fits tales old → IsSmall old → Began old new session call effect
@@ -262,26 +264,32 @@ begun_turn told old new tales session call effect fits small began =
         last_is = (rec, (begun session call first turn ts, (ts, (subst (λ xs. slice_get xs (length old.calls.items) ≡ Some rec) (sym b.calls) (get_last old.calls.items rec), (refl, named)))));
       };
       requests = subst (ArePlaced old.cfg.n (length old.clients.items)) (sym b.net)
-        (placed_append old.cfg.n (length old.clients.items) (map request_of old.net.items) outs fits.requests
+          (placed_append old.cfg.n (length old.clients.items) (map request_of old.net.items) outs fits.requests
           (placed_sent old.cfg.n (length old.clients.items) name tick turn.send (omega (arith, own, opened)) (omega (arith, own, below, opened)) sent));
       longer = omega (arith, grown);
       weighs = omega (arith, grown, heavy, weighed, held);
       rest = b.rest;
       few = omega (arith, few);
-    } in
-    (with_tales tales session more,
-    (fits_turn old new tales session m after more fits small of,
-    (turn, record {
-      moves = record {
-        sessions = ap length b.clients ∙ length-set old.clients.items (session - 1) after;
-        crashed = λ k. ap (λ xs. crashed_in xs k) b.clients ∙ crashed_stays old.clients.items (session - 1) m after b.member refl k;
-        tales = λ k. refl;
-        told = told_by;
-      };
-      calls = subst (λ (k : Name). new.calls.items ≡ old.calls.items ++ record { name = k; call = call; begin = tick; end = end_at tick turn.answer; answer = turn.answer } ∷ []) named b.calls;
-      net = subst (λ (k : Name). map request_of new.net.items ≡ map request_of old.net.items ++ sent_requests k tick turn.send) named b.net;
-      held = b.held;
-      sites = untouched_sites told old new tales (with_tales tales session more) b.rest;
-      frame = untouched_frame told old new tales (with_tales tales session more) b.rest;
-      effect_is = b.effect_is;
-    })))
+    } in (
+      with_tales tales session more,
+      (
+        fits_turn old new tales session m after more fits small of,
+        (
+          turn,
+          record {
+            moves = record {
+              sessions = ap length b.clients ∙ length-set old.clients.items (session - 1) after;
+              crashed = λ k. ap (λ xs. crashed_in xs k) b.clients ∙ crashed_stays old.clients.items (session - 1) m after b.member refl k;
+              tales = λ k. refl;
+              told = told_by;
+            };
+            calls = subst (λ (k : Name). new.calls.items ≡ old.calls.items ++ record { name = k; call = call; begin = tick; end = end_at tick turn.answer; answer = turn.answer } ∷ []) named b.calls;
+            net = subst (λ (k : Name). map request_of new.net.items ≡ map request_of old.net.items ++ sent_requests k tick turn.send) named b.net;
+            held = b.held;
+            sites = untouched_sites told old new tales (with_tales tales session more) b.rest;
+            frame = untouched_frame told old new tales (with_tales tales session more) b.rest;
+            effect_is = b.effect_is;
+          },
+        ),
+      ),
+    )

@@ -1,6 +1,6 @@
 -- The parts of a client's turn, as the program makes them one after another, are one turn.
-use Rattle.std.proofs.Common.{◌≡◌, ℕ, ◌+◌, ◌-◌, ◌<◌, ◌≤◌, List, [], ◌∷◌, ◌++◌, Some, None, length, map, refl, ap, sym, ◌∙◌, subst}
-use Rattle.std.specs.Prelude.{Option, slice_get, slice_set}
+use Rattle.std.proofs.Common.{◌≡◌, ℕ, ◌+◌, ◌-◌, ◌≤◌, List, [], ◌∷◌, ◌++◌, Some, length, map, ap, ◌∙◌, subst}
+use Rattle.std.specs.Prelude.{slice_get, slice_set}
 use Rattle.gz_core.specs.Names.{Name}
 use Rattle.gz_core.specs.declared.calls.Call.{Call}
 use Rattle.gz_core.specs.declared.requests.Turn.{Turn}
@@ -12,7 +12,7 @@ use Rattle.gz_world.specs.States.{RequestAt, request_of, numbered, sent_requests
 use Rattle.gz_world.specs.Weights.{capped, call_bytes, outs_weight}
 use Rattle.gz_world.specs.Fits.{Fits}
 use Rattle.gz_world.specs.Steps.{answered}
-use Rattle.gz_world.specs.Turns.{IsUntouched, IsSameWorld, effect_of, Started, WentOn, BeganBy, ToldBy}
+use Rattle.gz_world.specs.Turns.{IsSameWorld, effect_of, Started, WentOn, BeganBy, ToldBy}
 use Rattle.gz_world.specs.declared.events.Effect.{Effect}
 use Rattle.gz_world.specs.declared.world.Member.{Member}
 use Rattle.gz_world.specs.declared.world.World.{World}
@@ -74,10 +74,10 @@ began_parts old room new session call kept m client turn name first tick effect 
   same = same_client;
   name_is = name_is;
   clients = started.clients ∙ ap (λ xs. slice_set xs (session - 1) (let k : Member = record { client = client; crashed = m.crashed; last = Some (length room.calls.items) } in k)) same.clients
-    ∙ ap (λ xs. slice_set old.clients.items (session - 1) (let k : Member = record { client = client; crashed = m.crashed; last = Some (length xs) } in k)) same.calls;
+      ∙ ap (λ xs. slice_set old.clients.items (session - 1) (let k : Member = record { client = client; crashed = m.crashed; last = Some (length xs) } in k)) same.calls;
   calls = started.calls ∙ ap (λ xs. xs ++ (let k : CallRec = record { name = name; call = kept; begin = tick; end = end_at tick turn.answer; answer = turn.answer } in k) ∷ []) same.calls
-    ∙ ap (λ t. old.calls.items ++ (let k : CallRec = record { name = name; call = kept; begin = t; end = end_at t turn.answer; answer = turn.answer } in k) ∷ []) tick_is
-    ∙ ap (λ q. old.calls.items ++ (let k : CallRec = record { name = name; call = q; begin = length old.journal.items + 1; end = end_at (length old.journal.items + 1) turn.answer; answer = turn.answer } in k) ∷ []) kept_is;
+      ∙ ap (λ t. old.calls.items ++ (let k : CallRec = record { name = name; call = kept; begin = t; end = end_at t turn.answer; answer = turn.answer } in k) ∷ []) tick_is
+      ∙ ap (λ q. old.calls.items ++ (let k : CallRec = record { name = name; call = q; begin = length old.journal.items + 1; end = end_at (length old.journal.items + 1) turn.answer; answer = turn.answer } in k) ∷ []) kept_is;
   net = started.net ∙ ap (λ xs. xs ++ sent_requests name (length room.journal.items + 1) turn.send) same.net ∙ ap (λ v. map request_of old.net.items ++ sent_requests name (length v.items + 1) turn.send) same.rest.journal;
   held = started.held ∙ ap (λ h. capped (h + call_bytes kept + outs_weight turn.send)) same.held ∙ ap (λ q. capped (old.held + call_bytes q + outs_weight turn.send)) kept_is;
   rest = record {

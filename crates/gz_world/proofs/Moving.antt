@@ -1,27 +1,24 @@
 -- Deliveries, and changes of the list of sessions: what they do to the state, and that the world still fits.
-use Rattle.std.proofs.Common.{◌≡◌, ◌≢◌, ℕ, zero, suc, ◌+◌, ◌-◌, ◌*◌, ◌^◌, ◌<◌, ◌≤◌, ◌⊎◌, inl, inr, List, [], ◌∷◌, ◌++◌, Some, None, Bool, true, false, length, map, refl, ap, sym, ◌∙◌, subst, arith, length-append, length-set}
-use Rattle.std.specs.Prelude.{Option, ◌==◌, min, slice_get, slice_set, option_map, option_and_then, unwrap_or, if◌then◌else◌}
+use Rattle.std.proofs.Common.{◌≡◌, ◌≢◌, ℕ, zero, suc, ◌+◌, ◌-◌, ◌≤◌, inl, inr, List, [], ◌∷◌, ◌++◌, Some, None, true, false, length, map, refl, ap, sym, ◌∙◌, subst, arith, length-append, length-set}
+use Rattle.std.specs.Prelude.{Option, ◌==◌, slice_get, slice_set, option_map, option_and_then, unwrap_or, if◌then◌else◌}
 use Rattle.std.proofs.lemmas.Bool.{cases_eq}
 use Rattle.std.proofs.lemmas.Bool.Decides.{nat_tests}
 use Rattle.gz_core.specs.Configurations.{IsConfig}
 use Rattle.gz_core.specs.declared.configuration.Config.{Config}
-use Rattle.gz_core.specs.declared.requests.Reply.{Reply}
 use Rattle.gz_round.specs.History.{Tale}
-use Rattle.gz_client.specs.declared.client.Client.{Client}
 use Rattle.gz_client.specs.Tales.{Holds}
 use Rattle.gz_site.specs.Told.{Told}
 use Rattle.gz_site.specs.Many.{told_at}
-use Rattle.gz_world.specs.States.{RequestAt, State, request_of, numbered, with_reply}
+use Rattle.gz_world.specs.States.{request_of, with_reply}
 use Rattle.gz_world.specs.Bridge.{crashed_in, state_of}
-use Rattle.gz_world.specs.Weights.{capped}
-use Rattle.gz_world.specs.Fits.{IsLast, StandsFor, IsPlaced, FitsBy, Fits}
-use Rattle.gz_world.specs.Steps.{SitesStay, SessionsStay, FrameStays, SameState, OpensSession, Crashes, Delivers, quiet}
-use Rattle.gz_world.specs.Turns.{IsSmall, IsUntouched, IsSameWorld}
-use Rattle.gz_world.specs.Deliveries.{AreTheSame, SessionsUntouched, IsSameTold, DeliveredBy, WasDelivered, ListsUntouched, OpenedBy, WasOpened, CrashedBy, WasCrashed}
+use Rattle.gz_world.specs.Fits.{StandsFor, FitsBy, Fits}
+use Rattle.gz_world.specs.Steps.{SitesStay, FrameStays, SameState, OpensSession, Crashes, Delivers}
+use Rattle.gz_world.specs.Turns.{IsSmall, IsSameWorld}
+use Rattle.gz_world.specs.Deliveries.{IsSameTold, WasDelivered, ListsUntouched, WasOpened, WasCrashed}
 use Rattle.gz_world.specs.declared.events.Effect.{Effect}
 use Rattle.gz_world.specs.declared.world.Member.{Member}
 use Rattle.gz_world.specs.declared.world.World.{World}
-use Rattle.gz_world.proofs.Places.{get_set_same, get_set_other, get_append, get_of_two, get_one, get_below}
+use Rattle.gz_world.proofs.Places.{get_set_same, get_set_other, get_of_two, get_one}
 use Rattle.gz_world.proofs.Members.{numbered_place, numbered_suc}
 use Rattle.gz_world.proofs.Turning.{ArePlaced, placed_set}
 
@@ -51,10 +48,10 @@ fits_kept old new tales events fits le bounded k =
       sites = omega (arith, n, sites, enough);
       requests = subst (λ q. ArePlaced q (length new.clients.items) (map request_of new.net.items)) (sym n) (subst (λ q. ArePlaced old.cfg.n q (map request_of new.net.items)) (sym members) k.requests);
       clients = λ i m h.
-        subst (λ q. StandsFor new.cfg q new.calls.items (i + 1) m (tales (i + 1))) (ap (λ q. q + 1) (sym count))
-        (subst (λ q. StandsFor new.cfg (length (map request_of old.net.items) + 1) q (i + 1) m (tales (i + 1))) (sym k.calls)
-        (subst (λ q. StandsFor q (length (map request_of old.net.items) + 1) old.calls.items (i + 1) m (tales (i + 1))) (sym k.cfg)
-        (fits.clients i m (subst (λ xs. slice_get xs i ≡ Some m) k.clients h))));
+          subst (λ q. StandsFor new.cfg q new.calls.items (i + 1) m (tales (i + 1))) (ap (λ q. q + 1) (sym count))
+          (subst (λ q. StandsFor new.cfg (length (map request_of old.net.items) + 1) q (i + 1) m (tales (i + 1))) (sym k.calls)
+          (subst (λ q. StandsFor q (length (map request_of old.net.items) + 1) old.calls.items (i + 1) m (tales (i + 1))) (sym k.cfg)
+          (fits.clients i m (subst (λ xs. slice_get xs i ≡ Some m) k.clients h))));
       unopened = λ s l. fits.unopened s (omega (arith, l, members));
       zeroth = fits.zeroth;
       few = λ s. let f = few s in omega (arith, f, le);
@@ -120,23 +117,30 @@ delivered_moves told old new tales n effect fits small d =
       clients = ap (λ v. v.items) b.rest.clients;
       calls = ap (λ v. v.items) b.rest.calls;
       requests = subst (ArePlaced old.cfg.n (length old.clients.items)) (sym b.net)
-        (placed_set old.cfg.n (length old.clients.items) (map request_of old.net.items) (n - 1) marked fits.requests (record { opened = placed.opened; session = placed.session; site = placed.site }));
+          (placed_set old.cfg.n (length old.clients.items) (map request_of old.net.items) (n - 1) marked fits.requests (record { opened = placed.opened; session = placed.session; site = placed.site }));
       count = ap length b.net ∙ length-set (map request_of old.net.items) (n - 1) marked;
       held = omega (arith, held, light);
-    } in
-    (fits_kept old new tales (length old.journal.items + 1) fits (omega arith) (omega (arith, events)) kept,
-    (r, (reply, record {
-      request = b.request;
-      kind = b.kind;
-      site = b.site;
-      others = λ i ne. ap (option_and_then told) (b.others i ne);
-      net = b.net;
-      casts = b.casts;
-      held = b.held;
-      sessions = record { sessions = ap length kept.clients; crashed = λ k. ap (λ xs. crashed_in xs k) kept.clients; tales = λ k. refl; calls = kept.calls };
-      frame = record { cfg = kept.cfg; journal = ap (λ v. v.items) b.rest.journal };
-      effect_is = b.effect_is;
-    })))
+    } in (
+      fits_kept old new tales (length old.journal.items + 1) fits (omega arith) (omega (arith, events)) kept,
+      (
+        r,
+        (
+          reply,
+          record {
+            request = b.request;
+            kind = b.kind;
+            site = b.site;
+            others = λ i ne. ap (option_and_then told) (b.others i ne);
+            net = b.net;
+            casts = b.casts;
+            held = b.held;
+            sessions = record { sessions = ap length kept.clients; crashed = λ k. ap (λ xs. crashed_in xs k) kept.clients; tales = λ k. refl; calls = kept.calls };
+            frame = record { cfg = kept.cfg; journal = ap (λ v. v.items) b.rest.journal };
+            effect_is = b.effect_is;
+          },
+        ),
+      ),
+    )
 
 -- a change of the list of sessions leaves the rest alone
 lists_sites : {S : Type 0} (told : S → Option Told) (old new : World S) (tales : ℕ → List Tale) → ListsUntouched old new → SitesStay (state_of told tales old) (state_of told tales new)
@@ -164,14 +168,14 @@ fits_lists old new tales fits small rest more one stand =
       config = subst IsConfig (sym rest.cfg) fits.config;
       sites = omega (arith, n, sites, enough);
       requests = λ i r h.
-        let p = fits.requests i r (subst (λ xs. slice_get xs i ≡ Some r) net h) in
-        let s = p.session in
-        let at = p.site in
-        record { opened = p.opened; session = omega (arith, s, more); site = omega (arith, at, n) };
+          let p = fits.requests i r (subst (λ xs. slice_get xs i ≡ Some r) net h) in
+          let s = p.session in
+          let at = p.site in
+          record { opened = p.opened; session = omega (arith, s, more); site = omega (arith, at, n) };
       clients = λ i m h.
-        subst (λ q. StandsFor new.cfg q new.calls.items (i + 1) m (tales (i + 1))) (ap (λ q. q + 1) (sym count))
-        (subst (λ q. StandsFor new.cfg (length (map request_of old.net.items) + 1) q (i + 1) m (tales (i + 1))) (sym (ap (λ v. v.items) rest.calls))
-        (subst (λ q. StandsFor q (length (map request_of old.net.items) + 1) old.calls.items (i + 1) m (tales (i + 1))) (sym rest.cfg) (stand i m h)));
+          subst (λ q. StandsFor new.cfg q new.calls.items (i + 1) m (tales (i + 1))) (ap (λ q. q + 1) (sym count))
+          (subst (λ q. StandsFor new.cfg (length (map request_of old.net.items) + 1) q (i + 1) m (tales (i + 1))) (sym (ap (λ v. v.items) rest.calls))
+          (subst (λ q. StandsFor q (length (map request_of old.net.items) + 1) old.calls.items (i + 1) m (tales (i + 1))) (sym rest.cfg) (stand i m h)));
       unopened = λ s l. fits.unopened s (omega (arith, l, more));
       zeroth = fits.zeroth;
       few = λ s. let f = few s in omega (arith, f);
@@ -210,57 +214,58 @@ opened_moves told old new tales effect fits small o =
       last_is = empty;
     } in
     let stand : (i : ℕ) (m : Member) → slice_get new.clients.items i ≡ Some m → StandsFor old.cfg (length (map request_of old.net.items) + 1) old.calls.items (i + 1) m (tales (i + 1)) =
-      λ i m h. elim (get_of_two old.clients.items (member ∷ []) i m (subst (λ xs. slice_get xs i ≡ Some m) b.clients h)) [
-        inl e ↦ fits.clients i m e
+    λ i m h. elim (get_of_two old.clients.items (member ∷ []) i m (subst (λ xs. slice_get xs i ≡ Some m) b.clients h)) [
+      | inl e ↦ fits.clients i m e
       | inr e ↦
           let q = get_one member m e.0 e.1.1 in
           let at = e.1.0 in
           let z = q.0 in
           let place : i ≡ length old.clients.items = omega (arith, at, z) in
           subst (λ k. StandsFor old.cfg (length (map request_of old.net.items) + 1) old.calls.items (k + 1) m (tales (k + 1))) (sym place)
-            (subst (λ k. StandsFor old.cfg (length (map request_of old.net.items) + 1) old.calls.items (length old.clients.items + 1) k (tales (length old.clients.items + 1))) q.1 fresh)
-      ] in
-    (fits_lists old new tales fits small b.rest (omega (arith, members)) (omega (arith, members)) stand,
-    record {
-      sessions = members;
-      crashed = λ k. ap (λ xs. crashed_in xs k) b.clients ∙ crashed_opened old.clients.items member refl k;
-      tales = λ k. refl;
-      calls = ap (λ v. v.items) b.rest.calls;
-      sites = lists_sites told old new tales b.rest;
-      frame = lists_frame told old new tales b.rest;
-      net = ap (λ v. map request_of v.items) b.rest.net;
-      held = b.rest.held;
-      effect_is = b.effect_is;
-    })
+          (subst (λ k. StandsFor old.cfg (length (map request_of old.net.items) + 1) old.calls.items (length old.clients.items + 1) k (tales (length old.clients.items + 1))) q.1 fresh)
+    ] in (
+      fits_lists old new tales fits small b.rest (omega (arith, members)) (omega (arith, members)) stand,
+      record {
+        sessions = members;
+        crashed = λ k. ap (λ xs. crashed_in xs k) b.clients ∙ crashed_opened old.clients.items member refl k;
+        tales = λ k. refl;
+        calls = ap (λ v. v.items) b.rest.calls;
+        sites = lists_sites told old new tales b.rest;
+        frame = lists_frame told old new tales b.rest;
+        net = ap (λ v. map request_of v.items) b.rest.net;
+        held = b.rest.held;
+        effect_is = b.effect_is;
+      },
+    )
 
 -- whether sessions have crashed, after one did
 crashed_one : (xs : List Member) (at : ℕ) (m y : Member) → slice_get xs at ≡ Some m → y.crashed ≡ true → (i : ℕ) → option_map (λ (k : Member). k.crashed) (slice_get (slice_set xs at y) i) ≡ (if i == at then Some true else option_map (λ (k : Member). k.crashed) (slice_get xs i))
 crashed_one xs at m y here gone i =
     elim (cases_eq i at) [
-      inl e ↦
-        let t : (i == at) ≡ true = grind (arith, nat_tests) in
-        subst (λ k. option_map (λ (k : Member). k.crashed) (slice_get (slice_set xs at y) k) ≡ Some true) (sym e) (ap (option_map (λ (k : Member). k.crashed)) (get_set_same xs at m y here) ∙ ap Some gone)
-        ∙ sym (ap (λ b. if b then Some true else option_map (λ (k : Member). k.crashed) (slice_get xs i)) t)
-    | inr ne ↦
-        let t : (i == at) ≡ false = grind (arith, nat_tests) in
-        ap (option_map (λ (k : Member). k.crashed)) (get_set_other xs at i y ne) ∙ sym (ap (λ b. if b then Some true else option_map (λ (k : Member). k.crashed) (slice_get xs i)) t)
+      | inl e ↦
+          let t : (i == at) ≡ true = grind (arith, nat_tests) in
+          subst (λ k. option_map (λ (k : Member). k.crashed) (slice_get (slice_set xs at y) k) ≡ Some true) (sym e) (ap (option_map (λ (k : Member). k.crashed)) (get_set_same xs at m y here) ∙ ap Some gone)
+          ∙ sym (ap (λ b. if b then Some true else option_map (λ (k : Member). k.crashed) (slice_get xs i)) t)
+      | inr ne ↦
+          let t : (i == at) ≡ false = grind (arith, nat_tests) in
+          ap (option_map (λ (k : Member). k.crashed)) (get_set_other xs at i y ne) ∙ sym (ap (λ b. if b then Some true else option_map (λ (k : Member). k.crashed) (slice_get xs i)) t)
     ]
 
 crash_test : (xs : List Member) (session n : ℕ) → 1 ≤ session → unwrap_or (if n == session - 1 then Some true else option_map (λ (k : Member). k.crashed) (slice_get xs n)) false ≡ (if suc n == session then true else crashed_in xs (suc n))
 crash_test xs session n opened =
     elim (cases_eq (suc n) session) [
-      inl e ↦
-        let t : (suc n == session) ≡ true = grind (arith, nat_tests) in
-        let p : n ≡ session - 1 = omega (arith, e) in
-        let u : (n == session - 1) ≡ true = grind (arith, nat_tests) in
-        ap (λ b. unwrap_or (if b then Some true else option_map (λ (k : Member). k.crashed) (slice_get xs n)) false) u ∙ sym (ap (λ b. if b then true else crashed_in xs (suc n)) t)
-    | inr ne ↦
-        let t : (suc n == session) ≡ false = grind (arith, nat_tests) in
-        let p : n ≢ session - 1 = λ e. ne (omega (arith, e, opened)) in
-        let u : (n == session - 1) ≡ false = grind (arith, nat_tests) in
-        ap (λ b. unwrap_or (if b then Some true else option_map (λ (k : Member). k.crashed) (slice_get xs n)) false) u
-        ∙ sym (ap (λ o. unwrap_or (option_map (λ (k : Member). k.crashed) o) false) (numbered_suc xs n))
-        ∙ sym (ap (λ b. if b then true else crashed_in xs (suc n)) t)
+      | inl e ↦
+          let t : (suc n == session) ≡ true = grind (arith, nat_tests) in
+          let p : n ≡ session - 1 = omega (arith, e) in
+          let u : (n == session - 1) ≡ true = grind (arith, nat_tests) in
+          ap (λ b. unwrap_or (if b then Some true else option_map (λ (k : Member). k.crashed) (slice_get xs n)) false) u ∙ sym (ap (λ b. if b then true else crashed_in xs (suc n)) t)
+      | inr ne ↦
+          let t : (suc n == session) ≡ false = grind (arith, nat_tests) in
+          let p : n ≢ session - 1 = λ e. ne (omega (arith, e, opened)) in
+          let u : (n == session - 1) ≡ false = grind (arith, nat_tests) in
+          ap (λ b. unwrap_or (if b then Some true else option_map (λ (k : Member). k.crashed) (slice_get xs n)) false) u
+          ∙ sym (ap (λ o. unwrap_or (option_map (λ (k : Member). k.crashed) o) false) (numbered_suc xs n))
+          ∙ sym (ap (λ b. if b then true else crashed_in xs (suc n)) t)
     ]
 
 crashed_by : (xs : List Member) (session : ℕ) (m y : Member) → 1 ≤ session → slice_get xs (session - 1) ≡ Some m → y.crashed ≡ true → (n : ℕ) → crashed_in (slice_set xs (session - 1) y) n ≡ (if n == session then true else crashed_in xs n)
@@ -279,27 +284,28 @@ crashed_moves told old new tales session effect fits small o =
     let after : Member = record { client = m.client; crashed = true; last = m.last } in
     let members : length new.clients.items ≡ length old.clients.items = ap length b.clients ∙ length-set old.clients.items (session - 1) after in
     let stand : (i : ℕ) (k : Member) → slice_get new.clients.items i ≡ Some k → StandsFor old.cfg (length (map request_of old.net.items) + 1) old.calls.items (i + 1) k (tales (i + 1)) =
-      λ i k h.
-        let h' : slice_get (slice_set old.clients.items (session - 1) after) i ≡ Some k = subst (λ xs. slice_get xs i ≡ Some k) b.clients h in
-        elim (cases_eq i (session - 1)) [
-          inl e ↦
-            let there : slice_get (slice_set old.clients.items (session - 1) after) i ≡ Some after = subst (λ j. slice_get (slice_set old.clients.items (session - 1) after) j ≡ Some after) (sym e) (get_set_same old.clients.items (session - 1) m after b.member) in
-            let both : Some after ≡ Some k = sym there ∙ h' in
-            let same : after ≡ k = cc in
-            let s = fits.clients i m (subst (λ j. slice_get old.clients.items j ≡ Some m) (sym e) b.member) in
-            let t : StandsFor old.cfg (length (map request_of old.net.items) + 1) old.calls.items (i + 1) after (tales (i + 1)) = record { next = s.next; below = s.below; holds = s.holds; config_is = s.config_is; session_is = s.session_is; last_is = s.last_is } in
-            subst (λ q. StandsFor old.cfg (length (map request_of old.net.items) + 1) old.calls.items (i + 1) q (tales (i + 1))) same t
-        | inr ne ↦ fits.clients i k (sym (get_set_other old.clients.items (session - 1) i after ne) ∙ h')
-        ] in
-    (fits_lists old new tales fits small b.rest (omega (arith, members)) (omega (arith, members)) stand,
-    record {
-      sessions = members;
-      crashed = λ k. ap (λ xs. crashed_in xs k) b.clients ∙ crashed_by old.clients.items session m after b.opened b.member refl k;
-      tales = λ k. refl;
-      calls = ap (λ v. v.items) b.rest.calls;
-      sites = lists_sites told old new tales b.rest;
-      frame = lists_frame told old new tales b.rest;
-      net = ap (λ v. map request_of v.items) b.rest.net;
-      held = b.rest.held;
-      effect_is = b.effect_is;
-    })
+    λ i k h.
+    let h' : slice_get (slice_set old.clients.items (session - 1) after) i ≡ Some k = subst (λ xs. slice_get xs i ≡ Some k) b.clients h in
+    elim (cases_eq i (session - 1)) [
+      | inl e ↦
+          let there : slice_get (slice_set old.clients.items (session - 1) after) i ≡ Some after = subst (λ j. slice_get (slice_set old.clients.items (session - 1) after) j ≡ Some after) (sym e) (get_set_same old.clients.items (session - 1) m after b.member) in
+          let both : Some after ≡ Some k = sym there ∙ h' in
+          let same : after ≡ k = cc in
+          let s = fits.clients i m (subst (λ j. slice_get old.clients.items j ≡ Some m) (sym e) b.member) in
+          let t : StandsFor old.cfg (length (map request_of old.net.items) + 1) old.calls.items (i + 1) after (tales (i + 1)) = record { next = s.next; below = s.below; holds = s.holds; config_is = s.config_is; session_is = s.session_is; last_is = s.last_is } in
+          subst (λ q. StandsFor old.cfg (length (map request_of old.net.items) + 1) old.calls.items (i + 1) q (tales (i + 1))) same t
+      | inr ne ↦ fits.clients i k (sym (get_set_other old.clients.items (session - 1) i after ne) ∙ h')
+    ] in (
+      fits_lists old new tales fits small b.rest (omega (arith, members)) (omega (arith, members)) stand,
+      record {
+        sessions = members;
+        crashed = λ k. ap (λ xs. crashed_in xs k) b.clients ∙ crashed_by old.clients.items session m after b.opened b.member refl k;
+        tales = λ k. refl;
+        calls = ap (λ v. v.items) b.rest.calls;
+        sites = lists_sites told old new tales b.rest;
+        frame = lists_frame told old new tales b.rest;
+        net = ap (λ v. map request_of v.items) b.rest.net;
+        held = b.rest.held;
+        effect_is = b.effect_is;
+      },
+    )

@@ -1,16 +1,16 @@
 -- A world that was opened fits, and is reached.
-use Rattle.std.proofs.Common.{◌≡◌, ℕ, zero, suc, ◌+◌, ◌*◌, ◌^◌, ◌<◌, ◌≤◌, List, [], Some, None, length, map, refl, ap, sym, ◌∙◌, subst, arith, false}
-use Rattle.std.specs.Prelude.{Option, IfSome, min, slice_get, option_map, unwrap_or}
+use Rattle.std.proofs.Common.{◌≡◌, ℕ, zero, suc, ◌≤◌, List, [], Some, length, map, refl, ap, sym, ◌∙◌, subst, arith, false}
+use Rattle.std.specs.Prelude.{Option, IfSome, slice_get, option_map, unwrap_or}
 use Rattle.gz_core.specs.Configurations.{IsConfig}
 use Rattle.gz_core.specs.declared.configuration.Config.{Config}
 use Rattle.gz_round.specs.History.{Tale}
 use Rattle.gz_site.specs.Told.{Told, IsEmpty}
 use Rattle.gz_site.specs.Many.{told_at}
-use Rattle.gz_world.specs.States.{RequestAt, request_of, numbered}
+use Rattle.gz_world.specs.States.{request_of}
 use Rattle.gz_world.specs.Bridge.{state_of, crashed_in}
-use Rattle.gz_world.specs.Fits.{StandsFor, IsPlaced, FitsBy, Fits, IsFitting}
+use Rattle.gz_world.specs.Fits.{Fits}
 use Rattle.gz_world.specs.Opening.{AreEmpty, IsOpened}
-use Rattle.gz_world.specs.Reached.{IsOpening, IsReached, opened}
+use Rattle.gz_world.specs.Reached.{opened}
 use Rattle.gz_world.specs.Told.{IsReachedBy}
 use Rattle.gz_world.specs.declared.world.Member.{Member}
 use Rattle.gz_world.specs.declared.world.World.{World}
@@ -49,8 +49,11 @@ none_crashed xs zero e = refl
 none_crashed xs (suc n) e = ap (λ ys. crashed_in ys (suc n)) e ∙ ap (λ o. unwrap_or (option_map (λ (k : Member). k.crashed) o) false) (numbered_suc [] n)
 
 pub reached_opened : {S : Type 0} (told : S → Option Told) (cfg : Config) (sites : List S) (w : World S) → IsConfig cfg → cfg.n ≤ length sites → IsOpened cfg sites w → AreEmpty told sites → IsReachedBy told w
-reached_opened told cfg sites w config enough o empty =
-    (no_tales_yet, (fits_opened cfg sites w config enough o, opened (state_of told no_tales_yet w) (record {
+reached_opened told cfg sites w config enough o empty = (
+  no_tales_yet,
+  (
+    fits_opened cfg sites w config enough o,
+    opened (state_of told no_tales_yet w) (record {
       config = subst IsConfig (sym o.cfg_is) config;
       sites = λ i. subst (λ xs. IfSome (told_at told xs i) IsEmpty) (sym o.sites_are) (empty i);
       sessions = ap length o.clients;
@@ -61,4 +64,6 @@ reached_opened told cfg sites w config enough o empty =
       casts = o.casts;
       calls = o.calls;
       held = o.held;
-    })))
+    }),
+  ),
+)

@@ -1,7 +1,7 @@
 -- What is done at an event is one step of the state, and the world fits afterwards.
-use Rattle.std.proofs.Common.{◌≡◌, ℕ, suc, ◌+◌, ◌-◌, ◌*◌, ◌^◌, ◌<◌, ◌≤◌, ◌⊎◌, inl, inr, List, [], ◌∷◌, ◌++◌, Some, None, Ok, Err, Bool, true, false, length, map, refl, ap, sym, ◌∙◌, subst, arith, length-append}
+use Rattle.std.proofs.Common.{◌≡◌, ℕ, ◌+◌, ◌-◌, ◌<◌, ◌≤◌, inl, inr, List, [], ◌∷◌, Some, None, Ok, Err, Bool, true, false, length, map, refl, ap, sym, ◌∙◌, subst, arith}
 use Rattle.std.proofs.lemmas.Bool.Decides.{nat_tests}
-use Rattle.std.specs.Prelude.{Option, IsSome, is_none, nat_le, nat_lt, option_map, ◌==◌, ◌||◌, not, ◌&&◌, if◌then◌else◌, Result, IfOk, OnErr, MatchOption, min, slice_get}
+use Rattle.std.specs.Prelude.{Option, IsSome, is_none, nat_le, nat_lt, option_map, ◌==◌, ◌||◌, not, ◌&&◌, if◌then◌else◌, Result, IfOk, OnErr, MatchOption, slice_get}
 use Rattle.std.proofs.lemmas.Bool.{cases_lt}
 use Rattle.std.proofs.lemmas.List.{length-map}
 use Rattle.std.proofs.lemmas.Option.{slice_get-map}
@@ -12,7 +12,7 @@ use Rattle.gz_world.specs.declared.world.Member.{Member}
 use Rattle.gz_core.specs.Configurations.{IsConfig}
 use Rattle.gz_core.specs.declared.configuration.Config.{Config}
 use Rattle.gz_core.specs.declared.calls.Call.{Call}
-use Rattle.gz_round.specs.History.{Asked, Handed, GaveUp, Tale}
+use Rattle.gz_round.specs.History.{Handed, GaveUp, Tale}
 use Rattle.gz_site.specs.Told.{Told}
 use Rattle.gz_site.specs.Many.{told_at}
 use Rattle.gz_world.specs.States.{RequestAt, State, request_of, numbered, with_handed, with_given_up}
@@ -21,7 +21,7 @@ use Rattle.gz_world.specs.Counting.{IsFull}
 use Rattle.gz_world.specs.Refusals.{refusal_of, session_refusal, is_running, request_refusal, reply_refusal, or_else, is_live, is_open}
 use Rattle.gz_world.specs.Fits.{IsLast, StandsFor, FitsBy, Fits, IsFitting}
 use Rattle.gz_world.specs.Reached.{IsReached, stepped}
-use Rattle.gz_world.specs.Steps.{SameState, Does, Skips, Acts, Records, Step, quiet, session_of}
+use Rattle.gz_world.specs.Steps.{SameState, Does, Skips, Acts, Step, quiet, session_of}
 use Rattle.gz_world.specs.Turns.{IsSmall, IsNumber, IsTellable, HasCall, IsSameWorld, Began, WasHanded, WasGivenUp}
 use Rattle.gz_world.specs.Deliveries.{IsSameTold, WasDelivered, WasOpened, WasCrashed}
 use Rattle.gz_world.specs.Told.{ActsBy, StaysBy, RecordedBy, IsToldOf, TellsStep, StepsBy, IsReachedBy}
@@ -107,13 +107,15 @@ begin_ready told w tales session call fits small none =
     let first = first_none (session_refusal (length w.clients.items) (crashed_in w.clients.items) session) (if is_running (tales session) then Some skips.Busy else None) none in
     let second = second_none (session_refusal (length w.clients.items) (crashed_in w.clients.items) session) (if is_running (tales session) then Some skips.Busy else None) none in
     let idle = busy_none (is_running (tales session)) second in
-    let opened = opened_by (length w.clients.items) (crashed_in w.clients.items) session first in
-    (opened.1, λ m there.
-      let s = member_stands w tales session m fits (place_numbered w.clients.items session m opened.0 there) in
-      let few = fits.few session in
-      let events = small.events in
-      let calls = s.holds.calls_are in
-      record { idle = no_run m.client.config s.next m.client.run (tales session) s.holds.run_is idle; few = omega (arith, few, events, calls); sizes = s.holds.sizes })
+    let opened = opened_by (length w.clients.items) (crashed_in w.clients.items) session first in (
+      opened.1,
+      λ m there.
+          let s = member_stands w tales session m fits (place_numbered w.clients.items session m opened.0 there) in
+          let few = fits.few session in
+          let events = small.events in
+          let calls = s.holds.calls_are in
+          record { idle = no_run m.client.config s.next m.client.run (tales session) s.holds.run_is idle; few = omega (arith, few, events, calls); sizes = s.holds.sizes },
+    )
 
 some_by : (s : State) (n : ℕ) (o : Option RequestAt) → request_refusal s n o ≡ None → (r : RequestAt) × (o ≡ Some r)
 some_by s n None h = cc
@@ -132,24 +134,26 @@ tell_ready told w tales n fits none =
     let place = numbered_place (map request_of w.net.items) n some.0 some.1 in
     let positive = place.0 in
     let below = get_below (map request_of w.net.items) (n - 1) some.0 place.1 in
-    let len = length-map w.net.items request_of in
-    (record { positive = positive; within = omega (arith, below, len, positive) }, λ r there.
-      let at : slice_get (map request_of w.net.items) (n - 1) ≡ Some (request_of r) = slice_get-map request_of w.net.items (n - 1) ∙ ap (option_map request_of) there in
-      let placed = fits.requests (n - 1) (request_of r) at in
-      let here = place_numbered (map request_of w.net.items) n (request_of r) positive at in
-      let tells = subst (λ o. request_refusal s n o ≡ None) here none in
-      let live = may_be_told s n (request_of r) tells in
-      record {
-        opened = placed.session;
-        tells = λ m is.
-          let k = member_stands w tales r.name.session m fits (place_numbered w.clients.items r.name.session m placed.opened is) in
-          let f = live_found m.client k.next (tales r.name.session) n k.holds (ap (λ q. is_live q (tales r.name.session) n) k.config_is ∙ live) in
-          (k.next, f.0, f.1.0, f.1.1.0, subst (Holds m.client k.next) f.1.1.1.0 k.holds, f.1.1.1.1, k.below);
-        running = λ m is.
-          let k = member_stands w tales r.name.session m fits (place_numbered w.clients.items r.name.session m placed.opened is) in
-          let f = live_found m.client k.next (tales r.name.session) n k.holds (ap (λ q. is_live q (tales r.name.session) n) k.config_is ∙ live) in
-          called w m m.last f.0 f.1.0 (tales r.name.session) refl f.1.1.1.0 k.last_is;
-      })
+    let len = length-map w.net.items request_of in (
+      record { positive = positive; within = omega (arith, below, len, positive) },
+      λ r there.
+          let at : slice_get (map request_of w.net.items) (n - 1) ≡ Some (request_of r) = slice_get-map request_of w.net.items (n - 1) ∙ ap (option_map request_of) there in
+          let placed = fits.requests (n - 1) (request_of r) at in
+          let here = place_numbered (map request_of w.net.items) n (request_of r) positive at in
+          let tells = subst (λ o. request_refusal s n o ≡ None) here none in
+          let live = may_be_told s n (request_of r) tells in
+          record {
+            opened = placed.session;
+            tells = λ m is.
+                let k = member_stands w tales r.name.session m fits (place_numbered w.clients.items r.name.session m placed.opened is) in
+                let f = live_found m.client k.next (tales r.name.session) n k.holds (ap (λ q. is_live q (tales r.name.session) n) k.config_is ∙ live) in
+                (k.next, f.0, f.1.0, f.1.1.0, subst (Holds m.client k.next) f.1.1.1.0 k.holds, f.1.1.1.1, k.below);
+            running = λ m is.
+                let k = member_stands w tales r.name.session m fits (place_numbered w.clients.items r.name.session m placed.opened is) in
+                let f = live_found m.client k.next (tales r.name.session) n k.holds (ap (λ q. is_live q (tales r.name.session) n) k.config_is ∙ live) in
+                called w m m.last f.0 f.1.0 (tales r.name.session) refl f.1.1.1.0 k.last_is;
+          },
+    )
 
 within_by : (which len : ℕ) → (if (which == 0) || nat_lt len which then Some skips.NoReply else None) ≡ None → IsNumber which len
 within_by which len h = let t = unless ((which == 0) || nat_lt len which) skips.NoReply None h in let e = t.0 in record { positive = grind (arith, nat_tests); within = grind (arith, nat_tests) }
@@ -160,11 +164,13 @@ pub reply_ready : {S : Type 0} (told : S → Option Told) (w : World S) (tales :
 reply_ready told w tales n which fits none =
     let s = state_of told tales w in
     let o = numbered (map request_of w.net.items) n in
-    let second = second_none (request_refusal s n o) (reply_refusal which o) none in
-    (first_none (request_refusal s n o) (reply_refusal which o) none, λ r positive there.
-      let at : slice_get (map request_of w.net.items) (n - 1) ≡ Some (request_of r) = slice_get-map request_of w.net.items (n - 1) ∙ ap (option_map request_of) there in
-      let here = place_numbered (map request_of w.net.items) n (request_of r) positive at in
-      within_by which (length r.replies.items) (subst (λ q. reply_refusal which q ≡ None) here second))
+    let second = second_none (request_refusal s n o) (reply_refusal which o) none in (
+      first_none (request_refusal s n o) (reply_refusal which o) none,
+      λ r positive there.
+          let at : slice_get (map request_of w.net.items) (n - 1) ≡ Some (request_of r) = slice_get-map request_of w.net.items (n - 1) ∙ ap (option_map request_of) there in
+          let here = place_numbered (map request_of w.net.items) n (request_of r) positive at in
+          within_by which (length r.replies.items) (subst (λ q. reply_refusal which q ≡ None) here second),
+    )
 
 -- nothing refuses the event in a world, whatever its tales
 abbrev pub IsAllowedIn : {S : Type 0} → (S → Option Told) → World S → Event → Type 0
@@ -220,9 +226,13 @@ pub skip_acts : {S : Type 0} (told : S → Option Told) (w : World S) (event : E
     → ((tales : ℕ → List Tale) → Fits tales w → Some why ≡ refusal_of (state_of told tales w) event)
     → ((tales : ℕ → List Tale) → effect ≡ quiet (outcomes.Skipped why) (session_of (state_of told tales w) event)) → ActsBy told w event w effect
 skip_acts told w event why effect small refused is = λ tales fits.
-    let events = small.events in
-    (tales, (fits_same told w w tales (length w.journal.items + 1) fits (omega arith) (omega (arith, events)) (untouched told w),
-    acts_skipped (state_of told tales w) event why effect (state_of told tales w) (sym (refused tales fits)) (record { same = state_same told w w tales (untouched told w); effect_is = is tales })))
+    let events = small.events in (
+      tales,
+      (
+        fits_same told w w tales (length w.journal.items + 1) fits (omega arith) (omega (arith, events)) (untouched told w),
+        acts_skipped (state_of told tales w) event why effect (state_of told tales w) (sym (refused tales fits)) (record { same = state_same told w w tales (untouched told w); effect_is = is tales }),
+      ),
+    )
 
 -- nothing was done
 pub stays_told : {S : Type 0} (told : S → Option Told) (old new : World S) → IsSameTold told old new → StaysBy told old new
@@ -287,15 +297,15 @@ fits_journal events tales w v fits cfg sites net clients calls held =
       config = subst IsConfig (sym cfg) fits.config;
       sites = omega (arith, n, many, enough);
       requests = λ i r h.
-        let p = fits.requests i r (subst (λ xs. slice_get xs i ≡ Some r) requests h) in
-        let s = p.session in
-        let at = p.site in
-        record { opened = p.opened; session = omega (arith, s, size); site = omega (arith, at, n) };
+          let p = fits.requests i r (subst (λ xs. slice_get xs i ≡ Some r) requests h) in
+          let s = p.session in
+          let at = p.site in
+          record { opened = p.opened; session = omega (arith, s, size); site = omega (arith, at, n) };
       clients = λ i m h.
-        subst (λ q. StandsFor v.cfg q v.calls.items (i + 1) m (tales (i + 1))) (ap (λ q. q + 1) (sym count))
-        (subst (λ q. StandsFor v.cfg (length (map request_of w.net.items) + 1) q (i + 1) m (tales (i + 1))) (sym recs)
-        (subst (λ q. StandsFor q (length (map request_of w.net.items) + 1) w.calls.items (i + 1) m (tales (i + 1))) (sym cfg)
-        (fits.clients i m (subst (λ xs. slice_get xs i ≡ Some m) members h))));
+          subst (λ q. StandsFor v.cfg q v.calls.items (i + 1) m (tales (i + 1))) (ap (λ q. q + 1) (sym count))
+          (subst (λ q. StandsFor v.cfg (length (map request_of w.net.items) + 1) q (i + 1) m (tales (i + 1))) (sym recs)
+          (subst (λ q. StandsFor q (length (map request_of w.net.items) + 1) w.calls.items (i + 1) m (tales (i + 1))) (sym cfg)
+          (fits.clients i m (subst (λ xs. slice_get xs i ≡ Some m) members h))));
       unopened = λ s l. fits.unopened s (omega (arith, l, size));
       zeroth = fits.zeroth;
       few = fits.few;
@@ -343,15 +353,20 @@ pub steps_of : {S : Type 0} (told : S → Option Told) (u v w x : World S) (even
 steps_of told u v w x event effect entry applied k acts journal records is = λ tales fits.
     let a = acts tales (fits_kept_by tales u v k fits) in
     let n : length v.journal.items ≡ length w.journal.items = sym (ap (λ s. length s.items) journal) in
-    let r = records a.0 (subst (λ q. FitsBy (q + 1) a.0 w) n a.1.0) in
-    (a.0, (r.0, record {
-      effect = effect;
-      mid = state_of told a.0 w;
-      entry = entry;
-      acts = subst (λ s. Acts s event effect (state_of told a.0 w)) (sym (states_equal (state_of told tales u) (state_of told tales v) (state_reserved told tales u v k))) a.1.1;
-      records = r.1;
-      told = is;
-    }))
+    let r = records a.0 (subst (λ q. FitsBy (q + 1) a.0 w) n a.1.0) in (
+      a.0,
+      (
+        r.0,
+        record {
+          effect = effect;
+          mid = state_of told a.0 w;
+          entry = entry;
+          acts = subst (λ s. Acts s event effect (state_of told a.0 w)) (sym (states_equal (state_of told tales u) (state_of told tales v) (state_reserved told tales u v k))) a.1.1;
+          records = r.1;
+          told = is;
+        },
+      ),
+    )
 
 -- a step, and then a mark
 pub steps_then : {S : Type 0} (told : S → Option Told) (u v w : World S) (event : Event) (applied : Applied) → StepsBy told u event v applied → IsReserved v w → StepsBy told u event w applied

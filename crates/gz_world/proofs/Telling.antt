@@ -1,5 +1,5 @@
 -- A live request is one that the running call awaits, as its client knows it.
-use Rattle.std.proofs.Common.{◌≡◌, ◌≢◌, ℕ, zero, suc, ◌+◌, ◌<◌, ◌≤◌, ◌⊎◌, inl, inr, List, [], ◌∷◌, ◌++◌, Some, None, Bool, true, false, cond, length, refl, ap, sym, ◌∙◌, subst, arith}
+use Rattle.std.proofs.Common.{◌≡◌, ℕ, zero, suc, ◌<◌, List, [], ◌∷◌, Some, None, Bool, true, false, cond, refl, sym, ◌∙◌, subst, arith}
 use Rattle.std.proofs.lemmas.Bool.Decides.{nat_tests}
 use Rattle.std.specs.Prelude.{Option, ◌==◌, nat_lt, not, is_some, if◌then◌else◌}
 use Rattle.gz_core.specs.Counts.{count_sites}
@@ -10,7 +10,7 @@ use Rattle.gz_round.specs.History.{Asked, Tale}
 use Rattle.gz_round.specs.Sites.{site_now}
 use Rattle.gz_client.specs.declared.client.Client.{Client}
 use Rattle.gz_client.specs.Lowest.{awaits_number, live, live_in}
-use Rattle.gz_client.specs.Tales.{Holds, HoldsRun, IsAwaited, CanBeTold}
+use Rattle.gz_client.specs.Tales.{Holds, HoldsRun, IsAwaited}
 use Rattle.gz_world.specs.States.{RequestAt, State}
 use Rattle.gz_world.specs.Refusals.{is_live, request_refusal}
 use Rattle.gz_world.specs.declared.events.Skip.{Skip}
@@ -21,8 +21,8 @@ count_found : (n : ℕ) (p : ℕ → Bool) → 0 < count_sites n p → (s : ℕ)
 count_found zero p h = absurd (omega arith)
 count_found (suc n) p h =
     elim (p n) as (λ b. p n ≡ b → 0 < cond b (suc (count_sites n p)) (count_sites n p) → (s : ℕ) × ((s < suc n) × (p s ≡ true))) [
-      true ↦ λ e _. (n, (omega arith, e))
-    | false ↦ λ e l. let r = count_found n p l in let b = r.1.0 in (r.0, (omega (arith, b), r.1.1))
+      | true ↦ λ e _. (n, (omega arith, e))
+      | false ↦ λ e l. let r = count_found n p l in let b = r.1.0 in (r.0, (omega (arith, b), r.1.1))
     ] refl h
 
 same_number : (m n : ℕ) → (m == n) ≡ true → m ≡ n
@@ -41,13 +41,15 @@ found_in c next None t ts n None e h l = let w : t.answer ≡ Some h.0.0 = h.0.1
 found_in c next (Some run) t ts n None e h l =
     let f = count_found c.n (λ s. awaits_number (λ m. m == n) (site_now t.moments s).awaits) l in
     let a = awaited_under (site_now t.moments f.0).awaits n f.1.1 in
-    let at : a.0.site ≡ f.0 = ((h.1.stands.sites f.0).inside a.0 a.1.0).1 in
-    (a.0, record {
-      running = e;
-      inside = subst (λ s. s < c.n) (sym at) f.1.0;
-      awaits = subst (λ s. (site_now t.moments s).awaits ≡ Some a.0) (sym at) a.1.0;
-      number_is = a.1.1;
-    })
+    let at : a.0.site ≡ f.0 = ((h.1.stands.sites f.0).inside a.0 a.1.0).1 in (
+      a.0,
+      record {
+        running = e;
+        inside = subst (λ s. s < c.n) (sym at) f.1.0;
+        awaits = subst (λ s. (site_now t.moments s).awaits ≡ Some a.0) (sym at) a.1.0;
+        number_is = a.1.1;
+      },
+    )
 
 -- a live request is awaited by the newest call of its session
 pub live_found : (client : Client) (next : ℕ) (ts : List Tale) (n : ℕ) → Holds client next ts → is_live client.config ts n ≡ true → (t : Tale) × ((earlier : List Tale) × ((a : Asked) × ((ts ≡ t ∷ earlier) × IsAwaited client.config t a n)))

@@ -1,29 +1,25 @@
 -- A client's turn keeps the parts of the world in fit.
-use Rattle.std.proofs.Common.{◌≡◌, ◌≢◌, ℕ, zero, suc, ◌+◌, ◌-◌, ◌*◌, ◌^◌, ◌<◌, ◌≤◌, ◌⊎◌, inl, inr, List, [], ◌∷◌, ◌++◌, Some, None, Bool, true, false, cond, length, map, refl, ap, sym, ◌∙◌, subst, arith, length-append, add-one}
+use Rattle.std.proofs.Common.{◌≡◌, ◌≢◌, ℕ, zero, suc, ◌+◌, ◌*◌, ◌<◌, ◌≤◌, inl, inr, List, [], ◌∷◌, ◌++◌, Some, None, true, false, length, refl, ap, sym, ◌∙◌, subst, arith}
 use Rattle.std.proofs.lemmas.Bool.Decides.{nat_tests}
-use Rattle.std.specs.Prelude.{Option, ◌==◌, min, sum_by, slice_get, slice_set, option_map, unwrap_or, if◌then◌else◌}
+use Rattle.std.specs.Prelude.{Option, ◌==◌, slice_get, slice_set, option_map, unwrap_or, if◌then◌else◌}
 use Rattle.gz_core.specs.Names.{Name}
 use Rattle.gz_core.specs.declared.configuration.Config.{Config}
 use Rattle.gz_core.specs.declared.requests.Op.{Op}
 use Rattle.gz_core.specs.declared.requests.Op.TheVariants as ops
 use Rattle.gz_core.specs.declared.requests.Out.{Out}
-use Rattle.gz_round.specs.History.{Asked, Moment, Sent, GaveIn, Caller, Tale, IsClosing, asked_of, sent_from}
+use Rattle.gz_round.specs.History.{Moment, Sent, GaveIn, Caller, Tale, IsClosing, asked_of, sent_from}
 use Rattle.gz_round.specs.Sending.{AreAllowed}
-use Rattle.gz_client.specs.declared.client.Client.{Client}
-use Rattle.gz_client.specs.Tales.{Holds, AreTold}
 use Rattle.gz_history.specs.declared.record.CallRec.{CallRec}
-use Rattle.gz_world.specs.States.{RequestAt, request_of, numbered, with_tales, sent_requests, sent_request}
+use Rattle.gz_world.specs.States.{RequestAt, with_tales, sent_requests, sent_request}
 use Rattle.gz_world.specs.Bridge.{crashed_in}
-use Rattle.gz_world.specs.Weights.{capped, op_weight, outs_weight}
-use Rattle.gz_world.specs.Fits.{IsLast, StandsFor, IsPlaced, FitsBy, Fits}
+use Rattle.gz_world.specs.Weights.{op_weight, outs_weight}
+use Rattle.gz_world.specs.Fits.{IsLast, StandsFor, IsPlaced}
 use Rattle.gz_world.specs.Steps.{answered}
-use Rattle.gz_world.specs.Turns.{IsSmall, IsUntouched}
 use Rattle.gz_world.specs.declared.world.Member.{Member}
-use Rattle.gz_world.specs.declared.world.World.{World}
 use Rattle.std.proofs.lemmas.Bool.{cases_eq}
 use Rattle.std.proofs.lemmas.List.Sums.{sum_by-cons}
 use Rattle.gz_world.proofs.Members.{numbered_suc}
-use Rattle.gz_world.proofs.Places.{get_set_same, get_set_other, get_append, get_of_two, get_mapped, get_below}
+use Rattle.gz_world.proofs.Places.{get_set_same, get_set_other, get_append, get_of_two, get_mapped}
 
 -- the records keep their names
 abbrev pub NamesStay : List CallRec → List CallRec → Type 0
@@ -42,12 +38,12 @@ answered_name tick (Some a) c = refl
 pub names_answered : (calls : List CallRec) (last : ℕ) (c : CallRec) (tick : ℕ) (o : _) → slice_get calls last ≡ Some c → NamesStay calls (slice_set calls last (answered tick o c))
 names_answered calls last c tick o at i d h =
     elim (cases_eq i last) [
-      inl e ↦
-        let h' : slice_get calls last ≡ Some d = subst (λ k. slice_get calls k ≡ Some d) e h in
-        let same : Some c ≡ Some d = sym at ∙ h' in
-        let cd : c ≡ d = cc in
-        (answered tick o c, (subst (λ k. slice_get (slice_set calls last (answered tick o c)) k ≡ Some (answered tick o c)) (sym e) (get_set_same calls last c (answered tick o c) at), answered_name tick o c ∙ ap (λ (k : CallRec). k.name) cd))
-    | inr ne ↦ (d, (get_set_other calls last i (answered tick o c) ne ∙ h, refl))
+      | inl e ↦
+          let h' : slice_get calls last ≡ Some d = subst (λ k. slice_get calls k ≡ Some d) e h in
+          let same : Some c ≡ Some d = sym at ∙ h' in
+          let cd : c ≡ d = cc in
+          (answered tick o c, (subst (λ k. slice_get (slice_set calls last (answered tick o c)) k ≡ Some (answered tick o c)) (sym e) (get_set_same calls last c (answered tick o c) at), answered_name tick o c ∙ ap (λ (k : CallRec). k.name) cd))
+      | inr ne ↦ (d, (get_set_other calls last i (answered tick o c) ne ∙ h, refl))
     ]
 
 last_more : (old new : List CallRec) (o : Option ℕ) (ts : List Tale) → NamesStay old new → IsLast old o ts → IsLast new o ts
@@ -89,8 +85,8 @@ placed_at n sessions (x ∷ xs) (suc at) y p q r h = placed_at n sessions xs at 
 pub placed_set : (n sessions : ℕ) (xs : List RequestAt) (at : ℕ) (y : RequestAt) → ArePlaced n sessions xs → IsPlaced n sessions y → ArePlaced n sessions (slice_set xs at y)
 placed_set n sessions xs at y p q i r h =
     elim (cases_eq i at) [
-      inl e ↦ placed_at n sessions xs at y p q r (subst (λ k. slice_get (slice_set xs at y) k ≡ Some r) e h)
-    | inr ne ↦ p i r (sym (get_set_other xs at i y ne) ∙ h)
+      | inl e ↦ placed_at n sessions xs at y p q r (subst (λ k. slice_get (slice_set xs at y) k ≡ Some r) e h)
+      | inr ne ↦ p i r (sym (get_set_other xs at i y ne) ∙ h)
     ]
 
 pub placed_sent : (n sessions : ℕ) (name : Name) (tick : ℕ) (outs : List Out) → 1 ≤ name.session → name.session ≤ sessions → ((j : ℕ) (o : Out) → slice_get outs j ≡ Some o → o.site < n) → ArePlaced n sessions (sent_requests name tick outs)
@@ -126,9 +122,9 @@ outs_heavy (o ∷ os) = let h = outs_heavy os in let k = op_heavy o.op in let e 
 crashed_there : (xs : List Member) (at : ℕ) (m y : Member) → slice_get xs at ≡ Some m → y.crashed ≡ m.crashed → (i : ℕ) → option_map (λ (k : Member). k.crashed) (slice_get (slice_set xs at y) i) ≡ option_map (λ (k : Member). k.crashed) (slice_get xs i)
 crashed_there xs at m y here same i =
     elim (cases_eq i at) [
-      inl e ↦ subst (λ k. option_map (λ (k : Member). k.crashed) (slice_get (slice_set xs at y) k) ≡ option_map (λ (k : Member). k.crashed) (slice_get xs k)) (sym e)
-        (ap (option_map (λ (k : Member). k.crashed)) (get_set_same xs at m y here) ∙ ap Some same ∙ sym (ap (option_map (λ (k : Member). k.crashed)) here))
-    | inr ne ↦ ap (option_map (λ (k : Member). k.crashed)) (get_set_other xs at i y ne)
+      | inl e ↦ subst (λ k. option_map (λ (k : Member). k.crashed) (slice_get (slice_set xs at y) k) ≡ option_map (λ (k : Member). k.crashed) (slice_get xs k)) (sym e)
+          (ap (option_map (λ (k : Member). k.crashed)) (get_set_same xs at m y here) ∙ ap Some same ∙ sym (ap (option_map (λ (k : Member). k.crashed)) here))
+      | inr ne ↦ ap (option_map (λ (k : Member). k.crashed)) (get_set_other xs at i y ne)
     ]
 
 pub crashed_stays : (xs : List Member) (at : ℕ) (m y : Member) → slice_get xs at ≡ Some m → y.crashed ≡ m.crashed → (n : ℕ) → crashed_in (slice_set xs at y) n ≡ crashed_in xs n

@@ -1,5 +1,5 @@
 -- The world as a plain state: what the sites tell, what each session has done, and all that was recorded.
-use Rattle.std.specs.Prelude.{ℕ, ◌+◌, ◌-◌, ◌==◌, Bool, true, false, if◌then◌else◌, List, [], ◌∷◌, ◌++◌, length, map, Option, Some, None, slice_get}
+use Rattle.std.specs.Prelude.{ℕ, ◌+◌, ◌-◌, ◌==◌, Bool, if◌then◌else◌, List, [], ◌∷◌, ◌++◌, length, map, Option, Some, None, slice_get}
 use Rattle.gz_core.specs.Names.{Name}
 use Rattle.gz_core.specs.declared.calls.Answer.{Answer}
 use Rattle.gz_core.specs.declared.configuration.Config.{Config}
@@ -26,8 +26,14 @@ pub record RequestAt : Type 0 where
 
 abbrev pub request_of : Request → RequestAt
 request_of r = record {
-  name = r.name; site = r.site; op = r.op; awaited = r.awaited; tick = r.tick;
-  replies = r.replies.items; handed = r.handed; given_up = r.given_up;
+  name = r.name;
+  site = r.site;
+  op = r.op;
+  awaited = r.awaited;
+  tick = r.tick;
+  replies = r.replies.items;
+  handed = r.handed;
+  given_up = r.given_up;
 }
 
 -- the world: sites by their places, sessions by their numbers with the tales of their calls, newest first, and the
@@ -63,27 +69,51 @@ with_tales tales session ts n = if n == session then ts else tales n
 -- a request with one more reply, with a reply handed, or given up, at a tick
 abbrev pub with_reply : ℕ → Reply → RequestAt → RequestAt
 with_reply tick reply r = record {
-  name = r.name; site = r.site; op = r.op; awaited = r.awaited; tick = r.tick;
-  replies = r.replies ++ (tick, reply) ∷ []; handed = r.handed; given_up = r.given_up;
+  name = r.name;
+  site = r.site;
+  op = r.op;
+  awaited = r.awaited;
+  tick = r.tick;
+  replies = r.replies ++ (tick, reply) ∷ [];
+  handed = r.handed;
+  given_up = r.given_up;
 }
 
 abbrev pub with_handed : ℕ → ℕ → RequestAt → RequestAt
 with_handed tick which r = record {
-  name = r.name; site = r.site; op = r.op; awaited = r.awaited; tick = r.tick;
-  replies = r.replies; handed = Some (tick, which); given_up = r.given_up;
+  name = r.name;
+  site = r.site;
+  op = r.op;
+  awaited = r.awaited;
+  tick = r.tick;
+  replies = r.replies;
+  handed = Some (tick, which);
+  given_up = r.given_up;
 }
 
 abbrev pub with_given_up : ℕ → RequestAt → RequestAt
 with_given_up tick r = record {
-  name = r.name; site = r.site; op = r.op; awaited = r.awaited; tick = r.tick;
-  replies = r.replies; handed = r.handed; given_up = Some tick;
+  name = r.name;
+  site = r.site;
+  op = r.op;
+  awaited = r.awaited;
+  tick = r.tick;
+  replies = r.replies;
+  handed = r.handed;
+  given_up = Some tick;
 }
 
 -- the requests that a call sends at a tick
 abbrev pub sent_request : Name → ℕ → Out → RequestAt
 sent_request name tick out = record {
-  name = name; site = out.site; op = out.op; awaited = out.awaited; tick = tick;
-  replies = []; handed = None; given_up = None;
+  name = name;
+  site = out.site;
+  op = out.op;
+  awaited = out.awaited;
+  tick = tick;
+  replies = [];
+  handed = None;
+  given_up = None;
 }
 
 abbrev pub sent_requests : Name → ℕ → List Out → List RequestAt

@@ -4,8 +4,8 @@ ghost use Rattle.std.specs.Option.{option_to_list};
 ghost use Rattle.gz_model.specs.declared.casts.Cast.{Cast};
 ghost use Rattle.gz_world.specs.Audit.{is_listed, with_cast, with_casts, listed_in, is_known, cast_at, cast_of, casts_of};
 
-use gz_model::Cast;
 use gz_core::{Column, Key, Row, SiteId, Version, Vote};
+use gz_model::Cast;
 use std::alloc::{AllocError, Global};
 use std::collections::BTreeMap;
 
@@ -101,7 +101,12 @@ impl Casts {
 }
 
 /// The vote in a column of a site's row, where one stands.
-fn cast_of(site: SiteId, key: &Key, version: Version, column: &Column) -> Result<Option<Cast>, AllocError>
+fn cast_of(
+    site: SiteId,
+    key: &Key,
+    version: Version,
+    column: &Column,
+) -> Result<Option<Cast>, AllocError>
     ensures { IfOk result (λ cast. cast ≡ cast_of site key.now version column.now) }
 {
     match column {
@@ -111,7 +116,12 @@ fn cast_of(site: SiteId, key: &Key, version: Version, column: &Column) -> Result
 }
 
 /// The vote of a site at a version, where one stands.
-fn cast_with(site: SiteId, key: &Key, version: Version, vote: &Option<Vote>) -> Result<Option<Cast>, AllocError>
+fn cast_with(
+    site: SiteId,
+    key: &Key,
+    version: Version,
+    vote: &Option<Vote>,
+) -> Result<Option<Cast>, AllocError>
     ensures { IfOk result (λ cast. cast ≡ option_map (cast_at site key.now version) vote.now) }
 {
     match vote {

@@ -33,7 +33,12 @@ fn read_reply(read: RowRead) -> Reply
 }
 
 /// The votes that the reply to a read shows.
-fn casts_read(alloc: Global, site: SiteId, key: &Key, reply: &Reply) -> Result<Vec<Cast>, AllocError>
+fn casts_read(
+    alloc: Global,
+    site: SiteId,
+    key: &Key,
+    reply: &Reply,
+) -> Result<Vec<Cast>, AllocError>
     ensures { IfOk result (λ casts. casts.items ≡ casts_in site (Op.ReadRow key.now) reply.now) }
 {
     match reply {
@@ -53,7 +58,13 @@ fn add_casts(casts: &mut Casts, fresh: Vec<Cast>) -> Result<(), AllocError>
 }
 
 /// Keeps the votes that the reply to a read shows.
-fn audit_read(alloc: Global, casts: &mut Casts, site: SiteId, key: &Key, reply: Reply) -> Result<Reply, AllocError>
+fn audit_read(
+    alloc: Global,
+    casts: &mut Casts,
+    site: SiteId,
+    key: &Key,
+    reply: Reply,
+) -> Result<Reply, AllocError>
     ensures reply { IfOk result (λ r. r ≡ reply) }
     ensures ok { OnOk result (casts.new.list.items ≡ with_casts casts.old.list.items (casts_in site (Op.ReadRow key.now) reply)) }
     ensures err { OnErr result (casts.new.list.items ≡ casts.old.list.items) }
@@ -64,7 +75,13 @@ fn audit_read(alloc: Global, casts: &mut Casts, site: SiteId, key: &Key, reply: 
 }
 
 /// Reads a row at a site.
-fn read<S: Site>(alloc: Global, sites: &mut Vec<S>, casts: &mut Casts, site: SiteId, key: &Key) -> Result<Reply, AllocError>
+fn read<S: Site>(
+    alloc: Global,
+    sites: &mut Vec<S>,
+    casts: &mut Casts,
+    site: SiteId,
+    key: &Key,
+) -> Result<Reply, AllocError>
     requires { site < length sites.old.items }
     ensures kind { IfOk result (λ reply. IsReplyTo (Op.ReadRow key.now) reply) }
     ensures step { IfOk result (λ reply. TellsAt S.told sites.old.items site sites.new.items (λ old new. Answers old (Op.ReadRow key.now) reply new)) }
@@ -128,7 +145,13 @@ fn write<S: Site>(
 }
 
 /// Performs an operation at a site. Memory is taken before the site is changed.
-fn perform<S: Site>(alloc: Global, sites: &mut Vec<S>, casts: &mut Casts, site: SiteId, op: &Op) -> Result<Reply, AllocError>
+fn perform<S: Site>(
+    alloc: Global,
+    sites: &mut Vec<S>,
+    casts: &mut Casts,
+    site: SiteId,
+    op: &Op,
+) -> Result<Reply, AllocError>
     requires { site < length sites.old.items }
     ensures kind { IfOk result (λ reply. IsReplyTo op.now reply) }
     ensures step { IfOk result (λ reply. TellsAt S.told sites.old.items site sites.new.items (λ old new. Answers old op.now reply new)) }
@@ -141,12 +164,22 @@ fn perform<S: Site>(alloc: Global, sites: &mut Vec<S>, casts: &mut Casts, site: 
 {
     match op {
         Op::ReadRow { key } => read(alloc, sites, casts, site, key),
-        Op::WriteRow { key, expect, row, .. } => write(alloc, sites, casts, site, key, *expect, row),
+        Op::WriteRow {
+            key,
+            expect,
+            row,
+            ..
+        } => write(alloc, sites, casts, site, key, *expect, row),
     }
 }
 
 /// Performs a request at its site.
-fn performed<S: Site>(alloc: Global, sites: &mut Vec<S>, casts: &mut Casts, request: &Request) -> Result<Reply, AllocError>
+fn performed<S: Site>(
+    alloc: Global,
+    sites: &mut Vec<S>,
+    casts: &mut Casts,
+    request: &Request,
+) -> Result<Reply, AllocError>
     requires { request.now.site < length sites.old.items }
     ensures kind { IfOk result (λ reply. IsReplyTo request.now.op reply) }
     ensures step { IfOk result (λ reply. TellsAt S.told sites.old.items request.now.site sites.new.items (λ old new. Answers old request.now.op reply new)) }

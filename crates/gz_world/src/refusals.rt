@@ -128,7 +128,9 @@ impl<S: Site> World<S> {
         ensures { result ≡ reply_refusal which (numbered (map request_of self.now.net.items) n) }
     {
         match self.request(n) {
-            Some(request) if which == 0 || request.replies.len() < which as usize => Some(Skip::NoReply),
+            Some(request) if which == 0 || request.replies.len() < which as usize => Some(
+                Skip::NoReply,
+            ),
             _ => None,
         }
     }
@@ -166,14 +168,19 @@ impl<S: Site> World<S> {
         match event {
             Event::OpenSession => Some(Session(self.clients.len() as u32 + 1)),
             Event::Begin { session, .. } | Event::Crash { session } => self.named_session(*session),
-            Event::Deliver { n } | Event::Reply { n, .. } | Event::GiveUp { n } => self.session_of_request(*n),
+            Event::Deliver { n } | Event::Reply { n, .. } | Event::GiveUp { n } =>
+                self.session_of_request(*n),
         }
     }
 
     fn named_session(&self, session: Session) -> Option<Session>
         ensures { result ≡ open_session (length self.now.clients.items) session }
     {
-        if self.is_open(session) { Some(session) } else { None }
+        if self.is_open(session) {
+            Some(session)
+        } else {
+            None
+        }
     }
 
     fn session_of_request(&self, n: u32) -> Option<Session>

@@ -4,7 +4,7 @@ ghost use Rattle.gz_core.specs.Configurations.{IsConfig};
 ghost use Rattle.gz_world.specs.Fits.{IsFitting, IsBounded};
 
 use super::*;
-use gz_core::{Answer, Call, Config, Items, Key, PutName, Session, Version};
+use gz_core::{Answer, Call, Config, Items, Key, Phase, PutName, Session, Version};
 use gz_site::MemSite;
 use std::alloc::{AllocError, Global};
 use std::test::Fail;
@@ -105,7 +105,14 @@ fn a_put_and_a_get_over_three_sites(rt: HostRuntime) -> Result<(), Fail> {
     assert_eq!(rt; (first.begin, first.end), (2, Some(14)));
     assert_eq!(rt; first.answer, Some(Answer::Ok { version }));
     assert_eq!(rt; (second.begin, second.end), (15, Some(21)));
-    assert_eq!(rt; second.answer, Some(Answer::Bytes { version, name, bytes }));
+    assert_eq!(rt;
+        second.answer,
+        Some(Answer::Bytes {
+            version,
+            name,
+            bytes
+        })
+    );
     assert_eq!(rt; world.journal.len(), 21);
     Ok(())
 }
@@ -127,7 +134,33 @@ fn two_sites_are_too_few(rt: HostRuntime) -> Result<(), Fail> {
 fn four_million_events_are_the_most(rt: HostRuntime) -> Result<(), Fail> {
     let mut world = three_sites(rt.alloc())?;
     crash_often(&mut world, Session(1), 4_000_000)?;
-    let next = world.apply(Event::Crash { session: Session(1) });
+    let next = world.apply(Event::Crash {
+        session: Session(1),
+    });
     assert_eq!(rt; next, Err(ApplyError::Full));
+    Ok(())
+}
+
+#[test]
+fn a_call_whose_requests_are_given_up(rt: HostRuntime) -> Result<(), Fail> {
+    let alloc = rt.alloc();
+    let session = Session(1);
+    let get = Call::Get {
+        key: key_of(alloc, b'a')?,
+    };
+    let mut world = three_sites(alloc)?;
+    apply(&mut world, Event::OpenSession)?;
+    apply(&mut world, Event::Begin { session, call: get })?;
+    let first = apply(&mut world, Event::GiveUp { n: 1 })?;
+    let second = apply(&mut world, Event::GiveUp { n: 2 })?;
+    let crash = apply(&mut world, Event::Crash { session })?;
+    let none = Answer::NoQuorum {
+        phase: Phase::Look,
+        heard: 0,
+    };
+    assert_eq!(rt; [first.answer, second.answer], [None, Some(none)]);
+    assert_eq!(rt; [first.live, second.live], [Some(2), None]);
+    assert_eq!(rt; crash.outcome, Outcome::Done);
+    assert_eq!(rt; world.into_sites().len(), 3);
     Ok(())
 }

@@ -57,7 +57,12 @@ fn capped_len(len: usize) -> u32
 }
 
 /// The client after it begins a call, and its turn.
-fn begun(alloc: Global, client: &Client, call: Call, first: u32) -> Result<(Client, Turn), AllocError>
+fn begun(
+    alloc: Global,
+    client: &Client,
+    call: Call,
+    first: u32,
+) -> Result<(Client, Turn), AllocError>
     requires begin { CanBegin client.now }
     requires within { IsWithin call }
     requires first { first < 2 ^ 31 }
@@ -71,7 +76,13 @@ fn begun(alloc: Global, client: &Client, call: Call, first: u32) -> Result<(Clie
 }
 
 /// The client after a reply of a request was handed to it, and its turn.
-fn handed(alloc: Global, client: &Client, n: u32, reply: &Reply, first: u32) -> Result<(Client, Turn), AllocError>
+fn handed(
+    alloc: Global,
+    client: &Client,
+    n: u32,
+    reply: &Reply,
+    first: u32,
+) -> Result<(Client, Turn), AllocError>
     requires told { CanBeTold client.now n first }
     requires first { first < 2 ^ 31 }
     ensures holds { IfOk result (λ p. Extends client.now p.0 n first (λ a. Handed a reply.now) p.1) }
@@ -83,7 +94,12 @@ fn handed(alloc: Global, client: &Client, n: u32, reply: &Reply, first: u32) -> 
 }
 
 /// The client after a request was given up, and its turn.
-fn given_up(alloc: Global, client: &Client, n: u32, first: u32) -> Result<(Client, Turn), AllocError>
+fn given_up(
+    alloc: Global,
+    client: &Client,
+    n: u32,
+    first: u32,
+) -> Result<(Client, Turn), AllocError>
     requires told { CanBeTold client.now n first }
     requires first { first < 2 ^ 31 }
     ensures holds { IfOk result (λ p. Extends client.now p.0 n first (λ a. GaveUp a) p.1) }
@@ -181,7 +197,14 @@ impl<S: Site> World<S> {
     }
 
     /// Sends the requests of a turn, and puts the client after it in its place. Takes no memory.
-    fn settle(&mut self, session: Session, client: Client, last: Option<usize>, name: PutName, send: Vec<Out>)
+    fn settle(
+        &mut self,
+        session: Session,
+        client: Client,
+        last: Option<usize>,
+        name: PutName,
+        send: Vec<Out>,
+    )
         requires opened { session ≤ length self.old.clients.items }
         requires room { vec_len self.old.net + length send.items ≤ vec_capacity self.old.net }
         requires events { length self.old.journal.items < 4000000 }
@@ -294,7 +317,15 @@ impl<S: Site> World<S> {
     }
 
     /// Goes on with a call that begins, after its client's first turn. Takes no memory.
-    fn start(&mut self, session: Session, name: PutName, tick: u32, call: Call, client: Client, turn: Turn)
+    fn start(
+        &mut self,
+        session: Session,
+        name: PutName,
+        tick: u32,
+        call: Call,
+        client: Client,
+        turn: Turn,
+    )
         requires opened { session ≤ length self.old.clients.items }
         requires calls { vec_len self.old.calls < vec_capacity self.old.calls }
         requires room { vec_len self.old.net + length turn.send ≤ vec_capacity self.old.net }

@@ -1,4 +1,4 @@
-use Rattle.std.proofs.Common.{[], ◌+◌, length, refl, sym, ap}
+use Rattle.std.proofs.Common.{[], ◌+◌, refl, sym, ap}
 use Rattle.gz_core.specs.Names.{Name}
 use Rattle.gz_round.specs.History.{Caller, begun}
 use Rattle.gz_client.proofs.Holding.{begun_holds}

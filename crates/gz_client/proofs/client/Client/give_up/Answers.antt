@@ -1,8 +1,8 @@
 use Rattle.std.proofs.Common.{◌∷◌}
 use Rattle.gz_round.specs.History.{GaveUp}
-use Rattle.gz_round.proofs.Numbers.{numbered_handed, numbered_gave_up}
+use Rattle.gz_round.proofs.Numbers.{numbered_gave_up}
 use Rattle.gz_client.specs.Tales.{CanBeTold}
-use Rattle.gz_client.proofs.Holding.{HasRun, run_held, about, awaited_site, turned_extends}
+use Rattle.gz_client.proofs.Holding.{run_held, about, turned_extends}
 use Rattle.gz_client.proofs.client.Client.give_up.Goals as goal
 
 pub act-requires-clause-ready : goal.act-requires-clause-ready

@@ -1,7 +1,7 @@
-use Rattle.std.proofs.Common.{◌≡◌, arith, true, false, cond, Some, sym, ap, ◌∙◌, rules}
+use Rattle.std.proofs.Common.{◌≡◌, arith, true, cond, Some, ap, ◌∙◌}
 use Rattle.std.proofs.lemmas.Grind.{common_steps}
 use Rattle.gz_model.specs.declared.casts.Cast.{Cast}
-use Rattle.gz_world.specs.Audit.{same_cast, is_listed, listed_in, is_known}
+use Rattle.gz_world.specs.Audit.{same_cast, is_listed, listed_in}
 use Rattle.gz_world.proofs.CastOrder.{tied_added, tied_same, known_written}
 use Rattle.gz_world.proofs.audit.Casts.add.Goals as goal
 
@@ -10,7 +10,7 @@ invariant_of-self c =
     let w : (q : Cast) → listed_in (c.get_mut.follows.lender true).entries q ≡ cond (same_cast c.args.cast q) (Some true) (listed_in c.args.self.now.index.entries q) = λ q. grind (arith, common_steps) in
     record {
       tied = λ q. ap (λ xs. is_listed xs q) c.push_reserved.ensures.items
-        ∙ tied_added c.args.self.now.list.items c.args.self.now.index.entries (c.get_mut.follows.lender true).entries c.args.cast w c.args.self.now.tied q;
+          ∙ tied_added c.args.self.now.list.items c.args.self.now.index.entries (c.get_mut.follows.lender true).entries c.args.cast w c.args.self.now.tied q;
     }
 
 pub invariant_of-self-else-not-listed : goal.invariant_of-self-else-not-listed

@@ -1,4 +1,4 @@
-use Rattle.std.proofs.Common.{◌≡◌, ◌∙◌, sym, ap, refl, arith, Ok}
+use Rattle.std.proofs.Common.{◌∙◌, sym, ap, refl, arith}
 use Rattle.gz_world.specs.Steps.{quiet}
 use Rattle.gz_world.specs.declared.events.Outcome.TheVariants as outcomes
 use Rattle.gz_world.proofs.Faults.{skipped_counts}
@@ -22,7 +22,7 @@ happen-requires g c = record {
 pub returns-in-Some : goal.returns-in-Some
 returns-in-Some g c = record {
   acts = skip_acts g.S.Site.told c.args.self.now c.args.event.now c.in-Some.why c.quiet.result c.requires.small (λ tales fits. sym c.in-Some.is ∙ c.refusal.ensures tales fits)
-    (λ tales. c.quiet.ensures ∙ ap (λ o. quiet (outcomes.Skipped c.in-Some.why) o) (c.session_of.ensures tales));
+      (λ tales. c.quiet.ensures ∙ ap (λ o. quiet (outcomes.Skipped c.in-Some.why) o) (c.session_of.ensures tales));
   err = tt;
   journal = refl;
   fault = skipped_counts g.S.Site.told g.S.Site.faults c.args.self.now c.requires.fits.0 c.args.event.now c.in-Some.why (sym c.in-Some.is ∙ c.refusal.ensures c.requires.fits.0 c.requires.fits.1);

@@ -5,7 +5,7 @@ use Rattle.gz_world.proofs.world.World.apply.Goals as goal
 pub returns-in-Ok-clause-step : goal.returns-in-Ok-clause-step
 returns-in-Ok-clause-step g c =
     steps_then g.S.Site.told c.args.self.now c.perform.new.self (record c.perform.new.self { spent = false }) c.args.event c.in-Ok.applied c.in-Ok.ensures.step
-      (record { cfg = refl; sites = refl; net = refl; clients = refl; calls = refl; casts = refl; held = refl; journal = refl })
+    (record { cfg = refl; sites = refl; net = refl; clients = refl; calls = refl; casts = refl; held = refl; journal = refl })
 
 pub returns-in-Ok-clause-fits : goal.returns-in-Ok-clause-fits
 returns-in-Ok-clause-fits g c =
@@ -18,7 +18,7 @@ returns-in-Ok-clause-reached g c = reached_step g.S.Site.told c.args.self.now (r
 pub returns-in-Err-clause-err : goal.returns-in-Err-clause-err
 returns-in-Err-clause-err g c =
     stays_then g.S.Site.told c.args.self.now c.perform.new.self (record c.perform.new.self { spent = true }) c.in-Err.ensures.err
-      (stays_reserved g.S.Site.told c.perform.new.self (record c.perform.new.self { spent = true }) (record { cfg = refl; sites = refl; net = refl; clients = refl; calls = refl; casts = refl; held = refl; journal = refl }))
+    (stays_reserved g.S.Site.told c.perform.new.self (record c.perform.new.self { spent = true }) (record { cfg = refl; sites = refl; net = refl; clients = refl; calls = refl; casts = refl; held = refl; journal = refl }))
 
 pub returns-in-Err-clause-fits : goal.returns-in-Err-clause-fits
 returns-in-Err-clause-fits g c = let k = returns-in-Err-clause-err g c c.requires.fits.0 c.requires.fits.1 in (c.requires.fits.0, k.0)

@@ -1,4 +1,4 @@
-use Rattle.std.proofs.Common.{◌≡◌, ℕ, ◌+◌, ◌-◌, ◌∷◌, ◌∙◌, sym, ap, subst, refl, Some, map, length}
+use Rattle.std.proofs.Common.{◌≡◌, ◌+◌, ◌-◌, ◌∷◌, ◌∙◌, sym, ap, subst, Some, length}
 use Rattle.std.specs.Prelude.{slice_get}
 use Rattle.gz_round.specs.History.{begun}
 use Rattle.gz_client.specs.Tales.{Holds}
@@ -29,9 +29,19 @@ returns-clause-ok g c =
     } in
     let started = c.start.ensures m (subst (λ v. slice_get v.items (c.args.session - 1) ≡ Some m) (sym c.make_room.ensures.clients) there) in
     let effect : c.told.result ≡ (let e : Effect = record { outcome = outcomes.Done; session = Some c.args.session; sent = sent_pair first turn.send; answer = turn.answer } in e) =
-      c.told.ensures ∙ ap (λ s. let e : Effect = record { outcome = outcomes.Done; session = Some c.args.session; sent = s; answer = c.in_ok-answer.answer } in e) (c.sent_pair-sent.ensures ∙ ap (sent_pair first) c.as_slice.ensures)
-      ∙ ap (λ a. let e : Effect = record { outcome = outcomes.Done; session = Some c.args.session; sent = sent_pair first turn.send; answer = a } in e) c.in_ok-answer.ensures in
-    (m, (client, (turn, (c.next_name-name.result,
-      began_parts old room c.start.new.self c.args.session c.args.call.now c.in_ok-kept.kept m client turn c.next_name-name.result first tick c.told.result
-        all c.next_number-first.ensures.same c.next_tick-tick.ensures c.member_of-member.ensures.positive c.in_ok-kept.ensures there
-        (λ next ts h. subst (λ q. Holds client (first + length turn.send) (begun m.client.session q first turn ts ∷ ts)) c.in_ok-own.ensures (c.in_ok-client.ensures.holds next ts h)) c.in_ok-client.ensures.same c.next_name-name.ensures started effect))))
+    c.told.ensures ∙ ap (λ s. let e : Effect = record { outcome = outcomes.Done; session = Some c.args.session; sent = s; answer = c.in_ok-answer.answer } in e) (c.sent_pair-sent.ensures ∙ ap (sent_pair first) c.as_slice.ensures)
+    ∙ ap (λ a. let e : Effect = record { outcome = outcomes.Done; session = Some c.args.session; sent = sent_pair first turn.send; answer = a } in e) c.in_ok-answer.ensures in (
+      m,
+      (
+        client,
+        (
+          turn,
+          (
+            c.next_name-name.result,
+            began_parts old room c.start.new.self c.args.session c.args.call.now c.in_ok-kept.kept m client turn c.next_name-name.result first tick c.told.result
+                all c.next_number-first.ensures.same c.next_tick-tick.ensures c.member_of-member.ensures.positive c.in_ok-kept.ensures there
+                (λ next ts h. subst (λ q. Holds client (first + length turn.send) (begun m.client.session q first turn ts ∷ ts)) c.in_ok-own.ensures (c.in_ok-client.ensures.holds next ts h)) c.in_ok-client.ensures.same c.next_name-name.ensures started effect,
+          ),
+        ),
+      ),
+    )

@@ -1,14 +1,10 @@
-use Rattle.std.proofs.Common.{◌≡◌, ℕ, ◌≤◌, List, Some, None, sym, subst, map, length, refl}
-use Rattle.std.specs.Prelude.{IsSome}
-use Rattle.gz_round.specs.History.{Tale}
+use Rattle.std.proofs.Common.{◌≡◌, None, sym, subst, map, refl}
 use Rattle.gz_world.specs.States.{numbered, request_of}
 use Rattle.gz_world.specs.Bridge.{state_of}
 use Rattle.gz_world.specs.Refusals.{refusal_of}
 use Rattle.gz_world.specs.Told.{ActsBy, StaysBy}
 use Rattle.gz_world.specs.Turns.{IsSameWorld, Began, WasHanded, WasGivenUp}
-use Rattle.gz_world.specs.Deliveries.{IsSameTold, IsCountedFor, WasDelivered, WasOpened, WasCrashed}
-use Rattle.gz_world.specs.declared.events.Effect.{Effect}
-use Rattle.gz_world.specs.declared.events.Event.{Event}
+use Rattle.gz_world.specs.Deliveries.{IsSameTold, IsCountedFor, WasDelivered, WasOpened}
 use Rattle.gz_world.specs.declared.events.Event.TheVariants as events
 use Rattle.gz_world.proofs.Results.{if_ok_map, if_ok_any, on_err_map}
 use Rattle.gz_world.proofs.Faults.{IsCountedAfter, delivery_counts, other_counts}
@@ -54,7 +50,7 @@ returns-in-OpenSession g c =
     let new = c.open_session.new.self in
     record {
       acts = if_ok_map c.open_session.result (λ effect. WasOpened old new effect) (λ effect. ActsBy told old c.args.event.now new effect)
-        (λ effect h. subst (λ e. ActsBy told old e new effect) (sym c.in-OpenSession.is) (open_acts told old new effect c.requires.small h)) c.open_session.ensures.ok;
+          (λ effect h. subst (λ e. ActsBy told old e new effect) (sym c.in-OpenSession.is) (open_acts told old new effect c.requires.small h)) c.open_session.ensures.ok;
       err = on_err_map c.open_session.result (IsSameWorld old new) (StaysBy told old new) (stays_same told old new) c.open_session.ensures.err;
       journal = both_keep c.open_session.result (λ effect. WasOpened old new effect) (IsSameWorld old new) (new.journal ≡ old.journal) c.open_session.ensures.ok c.open_session.ensures.err (λ effect h. h.1.rest.journal) (λ s. s.rest.journal);
       fault = if_ok_any c.open_session.result (λ effect. IsCountedAfter g.S.Site.faults old c.args.event.now new) (λ effect. other_counts g.S.Site.faults old new c.args.event.now events.OpenSession c.in-OpenSession.is refl);
@@ -67,7 +63,7 @@ returns-in-Begin g c =
     let new = c.begin.new.self in
     record {
       acts = if_ok_map c.begin.result (λ effect. Began old new c.in-Begin.session c.in-Begin.call effect) (λ effect. ActsBy told old c.args.event.now new effect)
-        (λ effect h. subst (λ e. ActsBy told old e new effect) (sym c.in-Begin.is) (begin_acts told old new c.in-Begin.session c.in-Begin.call effect c.requires.small (λ tales fits. subst (λ e. refusal_of (state_of told tales old) e ≡ None) c.in-Begin.is (c.requires.happens tales fits)) h)) c.begin.ensures.ok;
+          (λ effect h. subst (λ e. ActsBy told old e new effect) (sym c.in-Begin.is) (begin_acts told old new c.in-Begin.session c.in-Begin.call effect c.requires.small (λ tales fits. subst (λ e. refusal_of (state_of told tales old) e ≡ None) c.in-Begin.is (c.requires.happens tales fits)) h)) c.begin.ensures.ok;
       err = on_err_map c.begin.result (IsSameWorld old new) (StaysBy told old new) (stays_same told old new) c.begin.ensures.err;
       journal = both_keep c.begin.result (λ effect. Began old new c.in-Begin.session c.in-Begin.call effect) (IsSameWorld old new) (new.journal ≡ old.journal) c.begin.ensures.ok c.begin.ensures.err (λ effect h. h.1.1.1.1.rest.journal) (λ s. s.rest.journal);
       fault = if_ok_any c.begin.result (λ effect. IsCountedAfter g.S.Site.faults old c.args.event.now new) (λ effect. other_counts g.S.Site.faults old new c.args.event.now (events.Begin c.in-Begin.session c.in-Begin.call) c.in-Begin.is refl);
@@ -80,7 +76,7 @@ returns-in-Deliver g c =
     let new = c.deliver.new.self in
     record {
       acts = if_ok_map c.deliver.result (λ effect. WasDelivered told old new c.in-Deliver.n effect) (λ effect. ActsBy told old c.args.event.now new effect)
-        (λ effect h. subst (λ e. ActsBy told old e new effect) (sym c.in-Deliver.is) (deliver_acts told old new c.in-Deliver.n effect c.requires.small (λ tales fits. subst (λ e. refusal_of (state_of told tales old) e ≡ None) c.in-Deliver.is (c.requires.happens tales fits)) h)) c.deliver.ensures.ok;
+          (λ effect h. subst (λ e. ActsBy told old e new effect) (sym c.in-Deliver.is) (deliver_acts told old new c.in-Deliver.n effect c.requires.small (λ tales fits. subst (λ e. refusal_of (state_of told tales old) e ≡ None) c.in-Deliver.is (c.requires.happens tales fits)) h)) c.deliver.ensures.ok;
       err = on_err_map c.deliver.result (IsSameTold told old new) (StaysBy told old new) (stays_told told old new) c.deliver.ensures.err;
       journal = both_keep c.deliver.result (λ effect. WasDelivered told old new c.in-Deliver.n effect) (IsSameTold told old new) (new.journal ≡ old.journal) c.deliver.ensures.ok c.deliver.ensures.err (λ effect h. h.1.1.rest.journal) (λ s. s.journal);
       fault = if_ok_map c.deliver.result (λ effect. IsCountedFor g.S.Site.faults old c.in-Deliver.n new) (λ effect. IsCountedAfter g.S.Site.faults old c.args.event.now new) (λ effect h. delivery_counts g.S.Site.faults old new c.args.event.now c.in-Deliver.n c.in-Deliver.is h) c.deliver.ensures.fault;
@@ -93,7 +89,7 @@ returns-in-Reply g c =
     let new = c.hand.new.self in
     record {
       acts = if_ok_map c.hand.result (λ effect. WasHanded old new c.in-Reply.n c.in-Reply.which effect) (λ effect. ActsBy told old c.args.event.now new effect)
-        (λ effect h. subst (λ e. ActsBy told old e new effect) (sym c.in-Reply.is) (hand_acts told old new c.in-Reply.n c.in-Reply.which effect c.requires.small (λ tales fits. subst (λ e. refusal_of (state_of told tales old) e ≡ None) c.in-Reply.is (c.requires.happens tales fits)) h)) c.hand.ensures.ok;
+          (λ effect h. subst (λ e. ActsBy told old e new effect) (sym c.in-Reply.is) (hand_acts told old new c.in-Reply.n c.in-Reply.which effect c.requires.small (λ tales fits. subst (λ e. refusal_of (state_of told tales old) e ≡ None) c.in-Reply.is (c.requires.happens tales fits)) h)) c.hand.ensures.ok;
       err = on_err_map c.hand.result (IsSameWorld old new) (StaysBy told old new) (stays_same told old new) c.hand.ensures.err;
       journal = both_keep c.hand.result (λ effect. WasHanded old new c.in-Reply.n c.in-Reply.which effect) (IsSameWorld old new) (new.journal ≡ old.journal) c.hand.ensures.ok c.hand.ensures.err (λ effect h. h.1.1.1.1.1.1.1.1.rest.journal) (λ s. s.rest.journal);
       fault = if_ok_any c.hand.result (λ effect. IsCountedAfter g.S.Site.faults old c.args.event.now new) (λ effect. other_counts g.S.Site.faults old new c.args.event.now (events.Reply c.in-Reply.n c.in-Reply.which) c.in-Reply.is refl);
@@ -106,7 +102,7 @@ returns-in-GiveUp g c =
     let new = c.give_up.new.self in
     record {
       acts = if_ok_map c.give_up.result (λ effect. WasGivenUp old new c.in-GiveUp.n effect) (λ effect. ActsBy told old c.args.event.now new effect)
-        (λ effect h. subst (λ e. ActsBy told old e new effect) (sym c.in-GiveUp.is) (give_up_acts told old new c.in-GiveUp.n effect c.requires.small (λ tales fits. subst (λ e. refusal_of (state_of told tales old) e ≡ None) c.in-GiveUp.is (c.requires.happens tales fits)) h)) c.give_up.ensures.ok;
+          (λ effect h. subst (λ e. ActsBy told old e new effect) (sym c.in-GiveUp.is) (give_up_acts told old new c.in-GiveUp.n effect c.requires.small (λ tales fits. subst (λ e. refusal_of (state_of told tales old) e ≡ None) c.in-GiveUp.is (c.requires.happens tales fits)) h)) c.give_up.ensures.ok;
       err = on_err_map c.give_up.result (IsSameWorld old new) (StaysBy told old new) (stays_same told old new) c.give_up.ensures.err;
       journal = both_keep c.give_up.result (λ effect. WasGivenUp old new c.in-GiveUp.n effect) (IsSameWorld old new) (new.journal ≡ old.journal) c.give_up.ensures.ok c.give_up.ensures.err (λ effect h. h.1.1.1.1.1.1.rest.journal) (λ s. s.rest.journal);
       fault = if_ok_any c.give_up.result (λ effect. IsCountedAfter g.S.Site.faults old c.args.event.now new) (λ effect. other_counts g.S.Site.faults old new c.args.event.now (events.GiveUp c.in-GiveUp.n) c.in-GiveUp.is refl);
