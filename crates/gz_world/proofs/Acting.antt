@@ -1,5 +1,5 @@
 -- What the program does at an event is what the event does to the state, and the world still fits.
-use Rattle.std.proofs.Common.{◌≡◌, ◌≢◌, ℕ, zero, suc, ◌+◌, ◌-◌, ◌*◌, ◌^◌, ◌<◌, ◌≤◌, ◌⊎◌, inl, inr, List, [], ◌∷◌, ◌++◌, Some, None, Bool, true, false, length, map, refl, ap, sym, ◌∙◌, subst, arith, length-append, length-set}
+use Rattle.std.proofs.Common.{◌≡◌, ◌≢◌, ℕ, ◌+◌, ◌-◌, ◌*◌, ◌^◌, ◌<◌, ◌≤◌, inl, inr, List, [], ◌∷◌, ◌++◌, Some, None, true, length, map, refl, ap, sym, ◌∙◌, subst, arith, length-append, length-set}
 use Rattle.std.specs.Prelude.{Option, min, slice_get, slice_set}
 use Rattle.std.proofs.lemmas.Bool.{cases_eq}
 use Rattle.std.proofs.lemmas.List.{length-map}
@@ -8,26 +8,23 @@ use Rattle.gz_core.specs.Configurations.{IsConfig}
 use Rattle.gz_core.specs.declared.calls.Call.{Call}
 use Rattle.gz_core.specs.declared.configuration.Config.{Config}
 use Rattle.gz_core.specs.declared.requests.Out.{Out}
-use Rattle.gz_core.specs.declared.requests.Reply.{Reply}
 use Rattle.gz_core.specs.declared.requests.Turn.{Turn}
-use Rattle.gz_round.specs.History.{Asked, Moment, Sent, Handed, GaveUp, Caller, Tale, IsClosing, begun, turned, sent_from}
-use Rattle.gz_round.specs.Sending.{AreAllowed}
+use Rattle.gz_round.specs.History.{Asked, Moment, Tale, begun, turned, sent_from}
 use Rattle.gz_client.specs.declared.client.Client.{Client}
-use Rattle.gz_client.specs.Tales.{Holds, AreTold, IsAwaited, Extends, IsSameClient}
+use Rattle.gz_client.specs.Tales.{Holds, AreTold, IsAwaited}
 use Rattle.gz_history.specs.declared.record.CallRec.{CallRec}
 use Rattle.gz_site.specs.Told.{Told}
 use Rattle.gz_site.specs.Many.{told_at}
-use Rattle.gz_world.specs.States.{RequestAt, State, request_of, numbered, with_tales, with_handed, with_given_up, sent_request, sent_requests, end_at}
+use Rattle.gz_world.specs.States.{RequestAt, request_of, with_tales, sent_request, sent_requests, end_at}
 use Rattle.gz_world.specs.Bridge.{crashed_in, state_of}
-use Rattle.gz_world.specs.Weights.{capped, call_bytes, outs_weight}
 use Rattle.gz_world.specs.Refusals.{is_live}
-use Rattle.gz_world.specs.Fits.{IsLast, StandsFor, IsPlaced, FitsBy, Fits}
-use Rattle.gz_world.specs.Steps.{answered, SitesStay, FrameStays, SessionMoves, TurnBy, TakesTurn, BeginsBy, Begins, Hands, GivesUp}
-use Rattle.gz_world.specs.Turns.{IsSmall, IsUntouched, ToldBy, BeganBy, Began, WasHanded, WasGivenUp}
+use Rattle.gz_world.specs.Fits.{IsLast, StandsFor, FitsBy, Fits}
+use Rattle.gz_world.specs.Steps.{answered, SitesStay, FrameStays, TurnBy, TakesTurn, Begins}
+use Rattle.gz_world.specs.Turns.{IsSmall, IsUntouched, ToldBy, Began}
 use Rattle.gz_world.specs.declared.events.Effect.{Effect}
 use Rattle.gz_world.specs.declared.world.Member.{Member}
 use Rattle.gz_world.specs.declared.world.World.{World}
-use Rattle.gz_world.proofs.Places.{get_set_same, get_set_other, get_append, get_below, get_last}
+use Rattle.gz_world.proofs.Places.{get_set_same, get_set_other, get_below, get_last}
 use Rattle.gz_world.proofs.Members.{numbered_place, place_numbered, member_stands}
 use Rattle.gz_world.proofs.Telling.{live_found}
 use Rattle.gz_world.proofs.Turning.{NamesStay, names_append, names_answered, stands_more, tales_same, tales_other, ArePlaced, placed_append, placed_set, placed_sent, allowed_sent, allowed_closed, outs_heavy, crashed_stays}

@@ -1,5 +1,5 @@
 -- A reply tells of a fault only where its site counted one.
-use Rattle.std.proofs.Common.{◌≡◌, ℕ, ◌+◌, ◌-◌, ◌≤◌, List, [], ◌∷◌, ◌++◌, Bool, true, false, Some, None, length, map, refl, ap, sym, ◌∙◌, subst, length-append, arith}
+use Rattle.std.proofs.Common.{◌≡◌, ℕ, ◌+◌, ◌-◌, ◌≤◌, List, [], ◌∷◌, ◌++◌, Bool, true, false, Some, None, length, map, ap, sym, ◌∙◌, subst, length-append, arith}
 use Rattle.std.specs.Prelude.{Option, is_none, if◌then◌else◌, slice_get, slice_set}
 use Rattle.std.proofs.lemmas.Option.{some_pair_parts}
 use Rattle.gz_core.specs.Causes.{Rose}

@@ -1,6 +1,6 @@
 -- The parts of a client's turn, as the program makes them one after another, are one turn.
-use Rattle.std.proofs.Common.{◌≡◌, ℕ, ◌+◌, ◌-◌, ◌<◌, ◌≤◌, List, [], ◌∷◌, ◌++◌, Some, None, length, map, refl, ap, sym, ◌∙◌, subst}
-use Rattle.std.specs.Prelude.{Option, slice_get, slice_set}
+use Rattle.std.proofs.Common.{◌≡◌, ℕ, ◌+◌, ◌-◌, ◌≤◌, List, [], ◌∷◌, ◌++◌, Some, length, map, ap, ◌∙◌, subst}
+use Rattle.std.specs.Prelude.{slice_get, slice_set}
 use Rattle.gz_core.specs.Names.{Name}
 use Rattle.gz_core.specs.declared.calls.Call.{Call}
 use Rattle.gz_core.specs.declared.requests.Turn.{Turn}
@@ -12,7 +12,7 @@ use Rattle.gz_world.specs.States.{RequestAt, request_of, numbered, sent_requests
 use Rattle.gz_world.specs.Weights.{capped, call_bytes, outs_weight}
 use Rattle.gz_world.specs.Fits.{Fits}
 use Rattle.gz_world.specs.Steps.{answered}
-use Rattle.gz_world.specs.Turns.{IsUntouched, IsSameWorld, effect_of, Started, WentOn, BeganBy, ToldBy}
+use Rattle.gz_world.specs.Turns.{IsSameWorld, effect_of, Started, WentOn, BeganBy, ToldBy}
 use Rattle.gz_world.specs.declared.events.Effect.{Effect}
 use Rattle.gz_world.specs.declared.world.Member.{Member}
 use Rattle.gz_world.specs.declared.world.World.{World}

@@ -1,23 +1,20 @@
 -- What the world knows of a session by its number.
-use Rattle.std.proofs.Common.{◌≡◌, ◌≢◌, ℕ, zero, suc, ◌+◌, ◌-◌, ◌<◌, ◌≤◌, ◌⊎◌, inl, inr, List, [], ◌∷◌, Some, None, Bool, true, false, length, map, refl, ap, sym, ◌∙◌, subst, arith}
+use Rattle.std.proofs.Common.{◌≡◌, ℕ, zero, suc, ◌+◌, ◌-◌, ◌<◌, ◌≤◌, ◌⊎◌, inl, inr, List, [], ◌∷◌, Some, None, Bool, true, false, length, map, refl, ap, sym, ◌∙◌, subst, arith}
 use Rattle.std.proofs.lemmas.Bool.Decides.{nat_tests}
-use Rattle.gz_core.specs.Names.{Name}
 use Rattle.gz_world.specs.Steps.{last_name, name_at}
 use Rattle.std.specs.Prelude.{Option, IsSome, option_map, ◌==◌, if◌then◌else◌, ◌↔◌, IsTrue, is_none, slice_get}
 use Rattle.std.specs.Option.{ForSome, option_map_or}
 use Rattle.gz_core.specs.declared.calls.Answer.{Answer}
 use Rattle.gz_core.specs.declared.configuration.Config.{Config}
 use Rattle.gz_round.specs.History.{Tale}
-use Rattle.gz_client.specs.declared.client.Client.{Client}
 use Rattle.gz_client.specs.Tales.{Holds, AreTold, IsRunning}
 use Rattle.gz_history.specs.declared.record.CallRec.{CallRec}
-use Rattle.gz_world.specs.States.{RequestAt, request_of, numbered}
+use Rattle.gz_world.specs.States.{request_of, numbered}
 use Rattle.gz_world.specs.Refusals.{is_running, is_live}
-use Rattle.gz_world.specs.Fits.{IsLast, StandsFor, IsPlaced, FitsBy, Fits}
-use Rattle.gz_world.specs.declared.requests.Request.{Request}
+use Rattle.gz_world.specs.Fits.{IsLast, StandsFor, FitsBy, Fits}
 use Rattle.gz_world.specs.declared.world.Member.{Member}
 use Rattle.gz_world.specs.declared.world.World.{World}
-use Rattle.gz_world.proofs.Places.{get_below, get_there}
+use Rattle.gz_world.proofs.Places.{get_below}
 
 -- an element with a number that is not 0
 pub numbered_suc : {A : Type 0} (xs : List A) (n : ℕ) → numbered xs (suc n) ≡ slice_get xs n

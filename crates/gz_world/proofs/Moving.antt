@@ -1,27 +1,24 @@
 -- Deliveries, and changes of the list of sessions: what they do to the state, and that the world still fits.
-use Rattle.std.proofs.Common.{◌≡◌, ◌≢◌, ℕ, zero, suc, ◌+◌, ◌-◌, ◌*◌, ◌^◌, ◌<◌, ◌≤◌, ◌⊎◌, inl, inr, List, [], ◌∷◌, ◌++◌, Some, None, Bool, true, false, length, map, refl, ap, sym, ◌∙◌, subst, arith, length-append, length-set}
-use Rattle.std.specs.Prelude.{Option, ◌==◌, min, slice_get, slice_set, option_map, option_and_then, unwrap_or, if◌then◌else◌}
+use Rattle.std.proofs.Common.{◌≡◌, ◌≢◌, ℕ, zero, suc, ◌+◌, ◌-◌, ◌≤◌, inl, inr, List, [], ◌∷◌, ◌++◌, Some, None, true, false, length, map, refl, ap, sym, ◌∙◌, subst, arith, length-append, length-set}
+use Rattle.std.specs.Prelude.{Option, ◌==◌, slice_get, slice_set, option_map, option_and_then, unwrap_or, if◌then◌else◌}
 use Rattle.std.proofs.lemmas.Bool.{cases_eq}
 use Rattle.std.proofs.lemmas.Bool.Decides.{nat_tests}
 use Rattle.gz_core.specs.Configurations.{IsConfig}
 use Rattle.gz_core.specs.declared.configuration.Config.{Config}
-use Rattle.gz_core.specs.declared.requests.Reply.{Reply}
 use Rattle.gz_round.specs.History.{Tale}
-use Rattle.gz_client.specs.declared.client.Client.{Client}
 use Rattle.gz_client.specs.Tales.{Holds}
 use Rattle.gz_site.specs.Told.{Told}
 use Rattle.gz_site.specs.Many.{told_at}
-use Rattle.gz_world.specs.States.{RequestAt, State, request_of, numbered, with_reply}
+use Rattle.gz_world.specs.States.{request_of, with_reply}
 use Rattle.gz_world.specs.Bridge.{crashed_in, state_of}
-use Rattle.gz_world.specs.Weights.{capped}
-use Rattle.gz_world.specs.Fits.{IsLast, StandsFor, IsPlaced, FitsBy, Fits}
-use Rattle.gz_world.specs.Steps.{SitesStay, SessionsStay, FrameStays, SameState, OpensSession, Crashes, Delivers, quiet}
-use Rattle.gz_world.specs.Turns.{IsSmall, IsUntouched, IsSameWorld}
-use Rattle.gz_world.specs.Deliveries.{AreTheSame, SessionsUntouched, IsSameTold, DeliveredBy, WasDelivered, ListsUntouched, OpenedBy, WasOpened, CrashedBy, WasCrashed}
+use Rattle.gz_world.specs.Fits.{StandsFor, FitsBy, Fits}
+use Rattle.gz_world.specs.Steps.{SitesStay, FrameStays, SameState, OpensSession, Crashes, Delivers}
+use Rattle.gz_world.specs.Turns.{IsSmall, IsSameWorld}
+use Rattle.gz_world.specs.Deliveries.{IsSameTold, WasDelivered, ListsUntouched, WasOpened, WasCrashed}
 use Rattle.gz_world.specs.declared.events.Effect.{Effect}
 use Rattle.gz_world.specs.declared.world.Member.{Member}
 use Rattle.gz_world.specs.declared.world.World.{World}
-use Rattle.gz_world.proofs.Places.{get_set_same, get_set_other, get_append, get_of_two, get_one, get_below}
+use Rattle.gz_world.proofs.Places.{get_set_same, get_set_other, get_of_two, get_one}
 use Rattle.gz_world.proofs.Members.{numbered_place, numbered_suc}
 use Rattle.gz_world.proofs.Turning.{ArePlaced, placed_set}
 

@@ -1,16 +1,16 @@
 -- A world that was opened fits, and is reached.
-use Rattle.std.proofs.Common.{◌≡◌, ℕ, zero, suc, ◌+◌, ◌*◌, ◌^◌, ◌<◌, ◌≤◌, List, [], Some, None, length, map, refl, ap, sym, ◌∙◌, subst, arith, false}
-use Rattle.std.specs.Prelude.{Option, IfSome, min, slice_get, option_map, unwrap_or}
+use Rattle.std.proofs.Common.{◌≡◌, ℕ, zero, suc, ◌≤◌, List, [], Some, length, map, refl, ap, sym, ◌∙◌, subst, arith, false}
+use Rattle.std.specs.Prelude.{Option, IfSome, slice_get, option_map, unwrap_or}
 use Rattle.gz_core.specs.Configurations.{IsConfig}
 use Rattle.gz_core.specs.declared.configuration.Config.{Config}
 use Rattle.gz_round.specs.History.{Tale}
 use Rattle.gz_site.specs.Told.{Told, IsEmpty}
 use Rattle.gz_site.specs.Many.{told_at}
-use Rattle.gz_world.specs.States.{RequestAt, request_of, numbered}
+use Rattle.gz_world.specs.States.{request_of}
 use Rattle.gz_world.specs.Bridge.{state_of, crashed_in}
-use Rattle.gz_world.specs.Fits.{StandsFor, IsPlaced, FitsBy, Fits, IsFitting}
+use Rattle.gz_world.specs.Fits.{Fits}
 use Rattle.gz_world.specs.Opening.{AreEmpty, IsOpened}
-use Rattle.gz_world.specs.Reached.{IsOpening, IsReached, opened}
+use Rattle.gz_world.specs.Reached.{opened}
 use Rattle.gz_world.specs.Told.{IsReachedBy}
 use Rattle.gz_world.specs.declared.world.Member.{Member}
 use Rattle.gz_world.specs.declared.world.World.{World}

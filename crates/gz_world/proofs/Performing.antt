@@ -1,7 +1,7 @@
 -- What is done at an event is one step of the state, and the world fits afterwards.
-use Rattle.std.proofs.Common.{◌≡◌, ℕ, suc, ◌+◌, ◌-◌, ◌*◌, ◌^◌, ◌<◌, ◌≤◌, ◌⊎◌, inl, inr, List, [], ◌∷◌, ◌++◌, Some, None, Ok, Err, Bool, true, false, length, map, refl, ap, sym, ◌∙◌, subst, arith, length-append}
+use Rattle.std.proofs.Common.{◌≡◌, ℕ, ◌+◌, ◌-◌, ◌<◌, ◌≤◌, inl, inr, List, [], ◌∷◌, Some, None, Ok, Err, Bool, true, false, length, map, refl, ap, sym, ◌∙◌, subst, arith}
 use Rattle.std.proofs.lemmas.Bool.Decides.{nat_tests}
-use Rattle.std.specs.Prelude.{Option, IsSome, is_none, nat_le, nat_lt, option_map, ◌==◌, ◌||◌, not, ◌&&◌, if◌then◌else◌, Result, IfOk, OnErr, MatchOption, min, slice_get}
+use Rattle.std.specs.Prelude.{Option, IsSome, is_none, nat_le, nat_lt, option_map, ◌==◌, ◌||◌, not, ◌&&◌, if◌then◌else◌, Result, IfOk, OnErr, MatchOption, slice_get}
 use Rattle.std.proofs.lemmas.Bool.{cases_lt}
 use Rattle.std.proofs.lemmas.List.{length-map}
 use Rattle.std.proofs.lemmas.Option.{slice_get-map}
@@ -12,7 +12,7 @@ use Rattle.gz_world.specs.declared.world.Member.{Member}
 use Rattle.gz_core.specs.Configurations.{IsConfig}
 use Rattle.gz_core.specs.declared.configuration.Config.{Config}
 use Rattle.gz_core.specs.declared.calls.Call.{Call}
-use Rattle.gz_round.specs.History.{Asked, Handed, GaveUp, Tale}
+use Rattle.gz_round.specs.History.{Handed, GaveUp, Tale}
 use Rattle.gz_site.specs.Told.{Told}
 use Rattle.gz_site.specs.Many.{told_at}
 use Rattle.gz_world.specs.States.{RequestAt, State, request_of, numbered, with_handed, with_given_up}
@@ -21,7 +21,7 @@ use Rattle.gz_world.specs.Counting.{IsFull}
 use Rattle.gz_world.specs.Refusals.{refusal_of, session_refusal, is_running, request_refusal, reply_refusal, or_else, is_live, is_open}
 use Rattle.gz_world.specs.Fits.{IsLast, StandsFor, FitsBy, Fits, IsFitting}
 use Rattle.gz_world.specs.Reached.{IsReached, stepped}
-use Rattle.gz_world.specs.Steps.{SameState, Does, Skips, Acts, Records, Step, quiet, session_of}
+use Rattle.gz_world.specs.Steps.{SameState, Does, Skips, Acts, Step, quiet, session_of}
 use Rattle.gz_world.specs.Turns.{IsSmall, IsNumber, IsTellable, HasCall, IsSameWorld, Began, WasHanded, WasGivenUp}
 use Rattle.gz_world.specs.Deliveries.{IsSameTold, WasDelivered, WasOpened, WasCrashed}
 use Rattle.gz_world.specs.Told.{ActsBy, StaysBy, RecordedBy, IsToldOf, TellsStep, StepsBy, IsReachedBy}

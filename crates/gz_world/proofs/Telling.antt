@@ -1,5 +1,5 @@
 -- A live request is one that the running call awaits, as its client knows it.
-use Rattle.std.proofs.Common.{◌≡◌, ◌≢◌, ℕ, zero, suc, ◌+◌, ◌<◌, ◌≤◌, ◌⊎◌, inl, inr, List, [], ◌∷◌, ◌++◌, Some, None, Bool, true, false, cond, length, refl, ap, sym, ◌∙◌, subst, arith}
+use Rattle.std.proofs.Common.{◌≡◌, ℕ, zero, suc, ◌<◌, List, [], ◌∷◌, Some, None, Bool, true, false, cond, refl, sym, ◌∙◌, subst, arith}
 use Rattle.std.proofs.lemmas.Bool.Decides.{nat_tests}
 use Rattle.std.specs.Prelude.{Option, ◌==◌, nat_lt, not, is_some, if◌then◌else◌}
 use Rattle.gz_core.specs.Counts.{count_sites}
@@ -10,7 +10,7 @@ use Rattle.gz_round.specs.History.{Asked, Tale}
 use Rattle.gz_round.specs.Sites.{site_now}
 use Rattle.gz_client.specs.declared.client.Client.{Client}
 use Rattle.gz_client.specs.Lowest.{awaits_number, live, live_in}
-use Rattle.gz_client.specs.Tales.{Holds, HoldsRun, IsAwaited, CanBeTold}
+use Rattle.gz_client.specs.Tales.{Holds, HoldsRun, IsAwaited}
 use Rattle.gz_world.specs.States.{RequestAt, State}
 use Rattle.gz_world.specs.Refusals.{is_live, request_refusal}
 use Rattle.gz_world.specs.declared.events.Skip.{Skip}

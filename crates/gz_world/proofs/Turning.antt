@@ -1,29 +1,25 @@
 -- A client's turn keeps the parts of the world in fit.
-use Rattle.std.proofs.Common.{◌≡◌, ◌≢◌, ℕ, zero, suc, ◌+◌, ◌-◌, ◌*◌, ◌^◌, ◌<◌, ◌≤◌, ◌⊎◌, inl, inr, List, [], ◌∷◌, ◌++◌, Some, None, Bool, true, false, cond, length, map, refl, ap, sym, ◌∙◌, subst, arith, length-append, add-one}
+use Rattle.std.proofs.Common.{◌≡◌, ◌≢◌, ℕ, zero, suc, ◌+◌, ◌*◌, ◌<◌, ◌≤◌, inl, inr, List, [], ◌∷◌, ◌++◌, Some, None, true, false, length, refl, ap, sym, ◌∙◌, subst, arith}
 use Rattle.std.proofs.lemmas.Bool.Decides.{nat_tests}
-use Rattle.std.specs.Prelude.{Option, ◌==◌, min, sum_by, slice_get, slice_set, option_map, unwrap_or, if◌then◌else◌}
+use Rattle.std.specs.Prelude.{Option, ◌==◌, slice_get, slice_set, option_map, unwrap_or, if◌then◌else◌}
 use Rattle.gz_core.specs.Names.{Name}
 use Rattle.gz_core.specs.declared.configuration.Config.{Config}
 use Rattle.gz_core.specs.declared.requests.Op.{Op}
 use Rattle.gz_core.specs.declared.requests.Op.TheVariants as ops
 use Rattle.gz_core.specs.declared.requests.Out.{Out}
-use Rattle.gz_round.specs.History.{Asked, Moment, Sent, GaveIn, Caller, Tale, IsClosing, asked_of, sent_from}
+use Rattle.gz_round.specs.History.{Moment, Sent, GaveIn, Caller, Tale, IsClosing, asked_of, sent_from}
 use Rattle.gz_round.specs.Sending.{AreAllowed}
-use Rattle.gz_client.specs.declared.client.Client.{Client}
-use Rattle.gz_client.specs.Tales.{Holds, AreTold}
 use Rattle.gz_history.specs.declared.record.CallRec.{CallRec}
-use Rattle.gz_world.specs.States.{RequestAt, request_of, numbered, with_tales, sent_requests, sent_request}
+use Rattle.gz_world.specs.States.{RequestAt, with_tales, sent_requests, sent_request}
 use Rattle.gz_world.specs.Bridge.{crashed_in}
-use Rattle.gz_world.specs.Weights.{capped, op_weight, outs_weight}
-use Rattle.gz_world.specs.Fits.{IsLast, StandsFor, IsPlaced, FitsBy, Fits}
+use Rattle.gz_world.specs.Weights.{op_weight, outs_weight}
+use Rattle.gz_world.specs.Fits.{IsLast, StandsFor, IsPlaced}
 use Rattle.gz_world.specs.Steps.{answered}
-use Rattle.gz_world.specs.Turns.{IsSmall, IsUntouched}
 use Rattle.gz_world.specs.declared.world.Member.{Member}
-use Rattle.gz_world.specs.declared.world.World.{World}
 use Rattle.std.proofs.lemmas.Bool.{cases_eq}
 use Rattle.std.proofs.lemmas.List.Sums.{sum_by-cons}
 use Rattle.gz_world.proofs.Members.{numbered_suc}
-use Rattle.gz_world.proofs.Places.{get_set_same, get_set_other, get_append, get_of_two, get_mapped, get_below}
+use Rattle.gz_world.proofs.Places.{get_set_same, get_set_other, get_append, get_of_two, get_mapped}
 
 -- the records keep their names
 abbrev pub NamesStay : List CallRec → List CallRec → Type 0

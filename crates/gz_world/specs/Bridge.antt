@@ -1,5 +1,5 @@
 -- The state of a world of the program, given the tales of its sessions.
-use Rattle.std.specs.Prelude.{ℕ, ◌+◌, Bool, true, false, List, length, map, Option, Some, None, option_map, unwrap_or}
+use Rattle.std.specs.Prelude.{ℕ, Bool, false, List, length, map, Option, option_map, unwrap_or}
 use Rattle.gz_round.specs.History.{Tale}
 use Rattle.gz_site.specs.Told.{Told}
 use Rattle.gz_site.specs.Many.{told_at}

@@ -1,5 +1,5 @@
 -- The bound at which the world takes no more events.
-use Rattle.std.specs.Prelude.{ℕ, ◌≤◌, ◌⊎◌, List, length}
+use Rattle.std.specs.Prelude.{◌≤◌, ◌⊎◌, length}
 use Rattle.gz_world.specs.declared.world.World.{World}
 
 -- 4,000,000 events are in the journal, or 1,073,741,824 bytes are held

@@ -1,8 +1,7 @@
 -- The other events, as the program makes them: over the world's own lists.
-use Rattle.std.specs.Prelude.{ℕ, ◌≡◌, ◌≢◌, ◌≤◌, ◌<◌, ◌+◌, ◌-◌, vec_len, vec_capacity, ◌++◌, ◌∷◌, [], true, false, List, length, map, Option, Some, None, Result, Ok, Err, slice_get, slice_set}
+use Rattle.std.specs.Prelude.{ℕ, ◌≡◌, ◌≤◌, ◌<◌, ◌+◌, ◌-◌, vec_len, vec_capacity, ◌++◌, ◌∷◌, [], true, false, List, length, map, Option, Some, None, slice_get, slice_set}
 use Rattle.gz_core.specs.declared.requests.Reply.{Reply}
 use Rattle.gz_core.specs.declared.requests.Reply.TheVariants as replies
-use Rattle.gz_core.specs.declared.requests.Op.{Op}
 use Rattle.gz_client.specs.declared.client.Client.{Client}
 use Rattle.gz_client.specs.Tales.{Holds}
 use Rattle.gz_site.specs.Told.{Told}
@@ -12,8 +11,6 @@ use Rattle.gz_site.specs.declared.sites.RowRead.{RowRead}
 use Rattle.gz_site.specs.declared.sites.RowRead.TheVariants as reads
 use Rattle.gz_site.specs.declared.sites.RowWrite.{RowWrite}
 use Rattle.gz_site.specs.declared.sites.RowWrite.TheVariants as writes
-use Rattle.gz_site.specs.declared.sites.SiteFault.{SiteFault}
-use Rattle.gz_site.specs.declared.sites.SiteFault.TheVariants as faults
 use Rattle.gz_model.specs.declared.casts.Cast.{Cast}
 use Rattle.gz_world.specs.Audit.{with_casts}
 use Rattle.gz_world.specs.declared.requests.Request.{Request}

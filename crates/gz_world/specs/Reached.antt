@@ -1,7 +1,7 @@
 -- The worlds that are reached: from sites that hold nothing, by one event after another.
-use Rattle.std.specs.Prelude.{ℕ, ◌≡◌, ◌<◌, false, List, [], Option, Some, None, IfSome, IsSome}
+use Rattle.std.specs.Prelude.{ℕ, ◌≡◌, ◌<◌, false, [], IfSome, IsSome}
 use Rattle.gz_core.specs.Configurations.{IsConfig}
-use Rattle.gz_site.specs.Told.{Told, IsEmpty}
+use Rattle.gz_site.specs.Told.{IsEmpty}
 use Rattle.gz_world.specs.States.{State}
 use Rattle.gz_world.specs.Steps.{Step}
 use Rattle.gz_world.specs.declared.events.Event.{Event}

@@ -1,12 +1,12 @@
 -- What applying an event promises: one step of the state, whatever the sites tell.
-use Rattle.std.specs.Prelude.{ℕ, ◌≡◌, ◌+◌, List, length, Option, Some, None}
+use Rattle.std.specs.Prelude.{ℕ, ◌≡◌, ◌+◌, List, length, Option}
 use Rattle.gz_round.specs.History.{Tale}
 use Rattle.gz_site.specs.Told.{Told}
 use Rattle.gz_world.specs.States.{State}
 use Rattle.gz_world.specs.Bridge.{state_of}
 use Rattle.gz_world.specs.Fits.{FitsBy, Fits}
 use Rattle.gz_world.specs.Reached.{IsReached}
-use Rattle.gz_world.specs.Steps.{Acts, Records, Step, SameState}
+use Rattle.gz_world.specs.Steps.{Acts, Records, SameState}
 use Rattle.gz_world.specs.declared.events.Applied.{Applied}
 use Rattle.gz_world.specs.declared.events.Effect.{Effect}
 use Rattle.gz_world.specs.declared.events.Entry.{Entry}

@@ -1,4 +1,4 @@
-use Rattle.std.proofs.Common.{◌≡◌, ℕ, ◌∙◌, ap, sym, ◌++◌, take}
+use Rattle.std.proofs.Common.{ℕ, ◌∙◌, ap, sym, ◌++◌}
 use Rattle.std.specs.Option.{option_to_list}
 use Rattle.gz_core.specs.declared.rows.Column.{Column}
 use Rattle.gz_world.specs.Audit.{cast_of}

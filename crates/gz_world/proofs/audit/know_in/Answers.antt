@@ -1,4 +1,4 @@
-use Rattle.std.proofs.Common.{◌≡◌, arith, true, false, cond, Some, sym, ap, ◌∙◌}
+use Rattle.std.proofs.Common.{◌≡◌, arith, false, cond, Some}
 use Rattle.std.proofs.lemmas.Grind.{common_steps}
 use Rattle.gz_model.specs.declared.casts.Cast.{Cast}
 use Rattle.gz_world.specs.Audit.{same_cast, listed_in, is_known}

@@ -1,5 +1,5 @@
-use Rattle.std.proofs.Common.{◌≡◌, Some, ◌<◌, sym, ◌∙◌, subst, ap}
-use Rattle.std.specs.Prelude.{vec_len, vec_capacity, slice_get, slice_set}
+use Rattle.std.proofs.Common.{◌≡◌, Some, ◌<◌, sym, ◌∙◌, subst}
+use Rattle.std.specs.Prelude.{vec_len, vec_capacity, slice_set}
 use Rattle.std.proofs.lemmas.Option.{slice_get-get_or}
 use Rattle.gz_world.specs.Deliveries.{HasRoomAt}
 use Rattle.gz_world.specs.declared.requests.Request.{Request}

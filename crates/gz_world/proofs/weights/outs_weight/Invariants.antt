@@ -1,4 +1,4 @@
-use Rattle.std.proofs.Common.{◌≡◌, ℕ, ◌+◌, take}
+use Rattle.std.proofs.Common.{◌≡◌, take}
 use Rattle.std.specs.Prelude.{sum_by}
 use Rattle.gz_core.specs.declared.requests.Out.{Out}
 use Rattle.gz_world.specs.Weights.{capped, op_weight}

@@ -1,7 +1,7 @@
-use Rattle.std.proofs.Common.{◌≡◌, arith, true, false, cond, Some, sym, ap, ◌∙◌, rules}
+use Rattle.std.proofs.Common.{◌≡◌, arith, true, cond, Some, ap, ◌∙◌}
 use Rattle.std.proofs.lemmas.Grind.{common_steps}
 use Rattle.gz_model.specs.declared.casts.Cast.{Cast}
-use Rattle.gz_world.specs.Audit.{same_cast, is_listed, listed_in, is_known}
+use Rattle.gz_world.specs.Audit.{same_cast, is_listed, listed_in}
 use Rattle.gz_world.proofs.CastOrder.{tied_added, tied_same, known_written}
 use Rattle.gz_world.proofs.audit.Casts.add.Goals as goal
 

@@ -1,5 +1,5 @@
-use Rattle.std.proofs.Common.{◌≡◌, ℕ, take, ◌+◌, ◌≤◌, ◌<◌, length, true}
-use Rattle.std.specs.Prelude.{vec_len, vec_capacity, slice_get, Some}
+use Rattle.std.proofs.Common.{◌≡◌, ℕ, ◌<◌, true}
+use Rattle.std.specs.Prelude.{slice_get, Some}
 use Rattle.gz_model.specs.declared.casts.Cast.{Cast}
 use Rattle.gz_world.specs.Audit.{is_known}
 use Rattle.gz_world.proofs.audit.Casts.prepare.Given as goal

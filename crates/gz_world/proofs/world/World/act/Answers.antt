@@ -1,4 +1,4 @@
-use Rattle.std.proofs.Common.{◌≡◌, ◌∙◌, sym, ap, refl, arith, Ok}
+use Rattle.std.proofs.Common.{◌∙◌, sym, ap, refl, arith}
 use Rattle.gz_world.specs.Steps.{quiet}
 use Rattle.gz_world.specs.declared.events.Outcome.TheVariants as outcomes
 use Rattle.gz_world.proofs.Faults.{skipped_counts}

@@ -1,4 +1,4 @@
-use Rattle.std.proofs.Common.{◌≡◌, ℕ, ◌+◌, ◌-◌, ◌∷◌, ◌∙◌, sym, ap, subst, refl, Some, map, length}
+use Rattle.std.proofs.Common.{◌≡◌, ◌+◌, ◌-◌, ◌∷◌, ◌∙◌, sym, ap, subst, Some, length}
 use Rattle.std.specs.Prelude.{slice_get}
 use Rattle.gz_round.specs.History.{begun}
 use Rattle.gz_client.specs.Tales.{Holds}

@@ -1,4 +1,4 @@
-use Rattle.std.proofs.Common.{◌≡◌, ◌<◌, ◌≤◌, ◌-◌, refl, sym, subst, arith, length, Some, true}
+use Rattle.std.proofs.Common.{◌≡◌, ◌<◌, ◌≤◌, ◌-◌, refl, subst, arith, length, Some, true}
 use Rattle.std.specs.Prelude.{slice_get, slice_set}
 use Rattle.gz_world.proofs.Places.{get_there}
 use Rattle.gz_world.proofs.world.World.crash.Goals as goal

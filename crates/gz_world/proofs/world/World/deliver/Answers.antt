@@ -1,10 +1,9 @@
-use Rattle.std.proofs.Common.{◌≡◌, ℕ, ◌+◌, ◌-◌, ◌^◌, ◌∙◌, sym, ap, subst, refl, arith, Some, map, length}
+use Rattle.std.proofs.Common.{◌≡◌, ◌-◌, ◌∙◌, ap, subst, refl, arith, Some, map}
 use Rattle.std.specs.Prelude.{slice_get, slice_set, option_map}
 use Rattle.std.proofs.lemmas.Option.{slice_get-map}
 use Rattle.gz_world.specs.States.{request_of, with_reply}
 use Rattle.gz_world.specs.Steps.{quiet}
 use Rattle.gz_world.specs.declared.events.Outcome.TheVariants as outcomes
-use Rattle.gz_world.specs.Weights.{capped, reply_weight}
 use Rattle.gz_world.proofs.Faults.{fault_kept}
 use Rattle.gz_world.proofs.Members.{place_numbered, positive_by}
 use Rattle.gz_world.proofs.world.World.deliver.Goals as goal

@@ -1,7 +1,7 @@
-use Rattle.std.proofs.Common.{◌≡◌, ℕ, ◌+◌, ◌-◌, ◌∙◌, sym, ap, subst, refl, Some, map, length}
+use Rattle.std.proofs.Common.{◌≡◌, ◌+◌, ◌-◌, ◌∙◌, sym, ap, subst, refl, Some, map, length}
 use Rattle.std.specs.Prelude.{slice_get, slice_set, option_map}
 use Rattle.std.proofs.lemmas.Option.{slice_get-map}
-use Rattle.gz_round.specs.History.{Asked, Handed}
+use Rattle.gz_round.specs.History.{Handed}
 use Rattle.gz_world.specs.States.{RequestAt, request_of, with_handed}
 use Rattle.gz_world.specs.Steps.{sent_pair}
 use Rattle.gz_world.specs.Turns.{HasCall, WentOn}

@@ -1,14 +1,10 @@
-use Rattle.std.proofs.Common.{◌≡◌, ℕ, ◌≤◌, List, Some, None, sym, subst, map, length, refl}
-use Rattle.std.specs.Prelude.{IsSome}
-use Rattle.gz_round.specs.History.{Tale}
+use Rattle.std.proofs.Common.{◌≡◌, None, sym, subst, map, refl}
 use Rattle.gz_world.specs.States.{numbered, request_of}
 use Rattle.gz_world.specs.Bridge.{state_of}
 use Rattle.gz_world.specs.Refusals.{refusal_of}
 use Rattle.gz_world.specs.Told.{ActsBy, StaysBy}
 use Rattle.gz_world.specs.Turns.{IsSameWorld, Began, WasHanded, WasGivenUp}
-use Rattle.gz_world.specs.Deliveries.{IsSameTold, IsCountedFor, WasDelivered, WasOpened, WasCrashed}
-use Rattle.gz_world.specs.declared.events.Effect.{Effect}
-use Rattle.gz_world.specs.declared.events.Event.{Event}
+use Rattle.gz_world.specs.Deliveries.{IsSameTold, IsCountedFor, WasDelivered, WasOpened}
 use Rattle.gz_world.specs.declared.events.Event.TheVariants as events
 use Rattle.gz_world.proofs.Results.{if_ok_map, if_ok_any, on_err_map}
 use Rattle.gz_world.proofs.Faults.{IsCountedAfter, delivery_counts, other_counts}

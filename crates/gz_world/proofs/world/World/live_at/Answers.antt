@@ -1,4 +1,4 @@
-use Rattle.std.proofs.Common.{◌≡◌, ◌∙◌, sym, ap, subst, refl, None}
+use Rattle.std.proofs.Common.{sym, subst, refl, None}
 use Rattle.gz_client.specs.Tales.{IsLiveAtIn}
 use Rattle.gz_world.proofs.Members.{member_stands, no_tales}
 use Rattle.gz_world.proofs.world.World.live_at.Goals as goal

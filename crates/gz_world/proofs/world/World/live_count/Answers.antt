@@ -1,4 +1,4 @@
-use Rattle.std.proofs.Common.{◌≡◌, ◌∙◌, sym, ap, subst, refl, true}
+use Rattle.std.proofs.Common.{◌≡◌, sym, ap, subst, true}
 use Rattle.gz_client.specs.Tales.{live}
 use Rattle.gz_world.proofs.Members.{member_stands, no_tales}
 use Rattle.gz_world.proofs.world.World.live_count.Goals as goal

@@ -1,4 +1,4 @@
-use Rattle.std.proofs.Common.{◌≡◌, ◌∙◌, sym, ap, subst, true}
+use Rattle.std.proofs.Common.{sym, ap, subst, true}
 use Rattle.gz_client.specs.Lowest.{live}
 use Rattle.gz_client.specs.Lowest.{IsLowestLive}
 use Rattle.gz_world.proofs.Members.{member_stands, no_tales}
