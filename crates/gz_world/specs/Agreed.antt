@@ -65,6 +65,7 @@ abbrev pub IsSentIn : List ℕ → Act → List Tale → Type 0
 IsSentIn key act [] = ⊥
 IsSentIn key act (t ∷ ts) = ((key_of t.caller.call ≡ key) × SentStep t.moments act) ⊎ IsSentIn key act ts
 
+-- agreement on the object: on votes, on what is chosen, and on what calls are shown and answer
 pub record AreAgreed (key : List ℕ) (s : State) : Type 0 where
   -- each vote of a classic ballot that was sent is safe, and so is each that stands or was cast
   pub sent : (session v : ℕ) (b : BallotAt) (x : Name) → IsSentIn key (VotesClassic v b x) (s.tales session) → IsSafe s.cfg.n s.cfg.qc s.cfg.qf (stands_for s key v) b x
