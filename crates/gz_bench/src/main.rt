@@ -1,12 +1,14 @@
-//! Cuts objects into pieces and rebuilds them, for `bench/code` to time. With no words it codes a few objects and prints
-//! sums of their pieces.
+//! Cuts objects into pieces and rebuilds them, for `bench/code` to time, and plays schedules, for `bench/growth`. With no words
+//! it codes a few objects and prints sums of their pieces.
 #![tactic(auto)]
 
+mod growth;
 mod work;
 
 ghost use Rattle.std.specs.Prelude.{◌+◌, ◌≤◌};
 
 use anyhow::{Result, bail, ensure};
+use growth::play_calls;
 use gz_code::{join, split, split_plainly};
 use std::env;
 use std::time::Instant;
@@ -83,6 +85,11 @@ fn show_sums(rt: &HostRuntime) -> Result<()> {
 fn run(rt: &HostRuntime, words: &[String]) -> Result<()> {
     match words {
         [_] => show_sums(rt),
+        [_, task, calls, rounds] if task == "growth" => {
+            let played = play_calls(rt, calls.parse()?, rounds.parse()?)?;
+            println!(rt; "{} {}", played.nanoseconds, played.events)?;
+            Ok(())
+        }
         [_, task, k, m, len, rounds] => {
             let k: usize = k.parse()?;
             let m: usize = m.parse()?;
@@ -97,7 +104,7 @@ fn run(rt: &HostRuntime, words: &[String]) -> Result<()> {
             println!(rt; "{best}")?;
             Ok(())
         }
-        _ => bail!("usage: gz_bench [TASK K M LENGTH ROUNDS]"),
+        _ => bail!("usage: gz_bench [TASK K M LENGTH ROUNDS | growth CALLS ROUNDS]"),
     }
 }
 

@@ -1,0 +1,107 @@
+//! Calls on many objects, played over three sites in memory.
+ghost use Rattle.std.specs.Prelude.{◌≡◌, ◌<◌, ◌≤◌, IfOk, All};
+ghost use Rattle.gz_core.specs.Configurations.{IsConfig};
+ghost use Rattle.gz_script.specs.Schedule.{IsBounded};
+ghost use Rattle.gz_world.specs.Fits.{IsFitting};
+
+use anyhow::{Result, bail, ensure};
+use gz_core::{Call, Config, Items, Key, Session};
+use gz_script::{Line, play};
+use gz_site::MemSite;
+use gz_world::World;
+use std::alloc::Global;
+use std::time::Instant;
+
+/// What a run took.
+#[derive(Clone, Copy)]
+pub struct Played {
+    pub nanoseconds: u128,
+    pub events: usize,
+}
+
+/// Plays so many calls, of which every other one puts an object of its own and the next one gets it, and tells the time
+/// that the fastest of the rounds took.
+pub fn play_calls(rt: &HostRuntime, calls: u32, rounds: u32) -> Result<Played> {
+    let lines = lines_of(rt.alloc(), calls)?;
+    let mut best = play_once(rt, &lines)?;
+    for _ in 1..rounds {
+        let played = play_once(rt, &lines)?;
+        if played.nanoseconds < best.nanoseconds {
+            best = played;
+        }
+    }
+    Ok(best)
+}
+
+fn play_once(rt: &HostRuntime, lines: &[Line]) -> Result<Played>
+    requires { All IsBounded lines.now }
+{
+    let mut world = open(rt.alloc())?;
+    let start = Instant::now(rt)?;
+    if play(lines, &mut world).is_err() {
+        bail!("the schedule is too long");
+    }
+    Ok(Played {
+        nanoseconds: start.elapsed(rt)?.as_nanos(),
+        events: world.journal.len(),
+    })
+}
+
+/// A world over three empty sites.
+fn open(alloc: Global) -> Result<World<MemSite>>
+    ensures { IfOk result (λ world. IsFitting world) }
+{
+    let config = Config::DEFAULT;
+    ensure!(config.check().is_ok(), "no configuration");
+    let mut sites = Vec::new(alloc);
+    for _ in 0..3 {
+        sites.push(MemSite::new(alloc, Vec::new(alloc)))?;
+    }
+    match World::open(alloc, config, sites) {
+        Ok(world) => Ok(world),
+        Err(_) => bail!("too few sites"),
+    }
+}
+
+/// The lines of the calls of one session.
+fn lines_of(alloc: Global, calls: u32) -> Result<Vec<Line>>
+    ensures { IfOk result (λ lines. All IsBounded lines.items) }
+{
+    let mut lines = Vec::new(alloc);
+    lines.push(Line::OpenSession)?;
+    for i in 0..calls {
+        lines.push(begin(alloc, i)?)?;
+        lines.push(settle(alloc))?;
+    }
+    Ok(lines)
+}
+
+/// A put of eight bytes, or a get of what the call before put.
+fn begin(alloc: Global, i: u32) -> Result<Line>
+    ensures { IfOk result (λ line. IsBounded line) }
+{
+    let Some(key) = Key::new(format!(in alloc; "key-{}", i / 2)?.into_bytes()) else {
+        bail!("no key");
+    };
+    let call = if i.is_multiple_of(2) {
+        Call::Put {
+            key,
+            bytes: Items::from_slice(alloc, &[1, 2, 3, 4, 5, 6, 7, 8])?,
+        }
+    } else {
+        Call::Get { key }
+    };
+    Ok(Line::Begin {
+        session: Session(1),
+        call,
+    })
+}
+
+fn settle(alloc: Global) -> Line
+    ensures { IsBounded result }
+{
+    Line::Settle {
+        session: Session(1),
+        without: Items::new(alloc),
+    }
+}
