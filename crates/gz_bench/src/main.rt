@@ -85,7 +85,7 @@ fn show_sums(rt: &HostRuntime) -> Result<()> {
 fn run(rt: &HostRuntime, words: &[String]) -> Result<()> {
     match words {
         [_] => show_sums(rt),
-        [_, task, calls, rounds] if task == "growth" => {
+        [_, task, calls, rounds] if task.as_str() == "growth" => {
             let played = play_calls(rt, calls.parse()?, rounds.parse()?)?;
             println!(rt; "{} {}", played.nanoseconds, played.events)?;
             Ok(())
