@@ -1,13 +1,13 @@
 -- Lines that are read one after another.
-use Rattle.std.proofs.Common.{ℕ, ◌≡◌, ◌≤◌, List, [], ◌∷◌, ◌++◌, length, refl, arith}
+use denote.Ref.{Bor}
+use Rattle.std.proofs.Common.{ℕ, ◌≡◌, ◌+◌, ◌<◌, ◌≤◌, List, [], ◌∷◌, ◌++◌, length, map, take, get_or, refl, ap, ◌∙◌, arith}
 use Rattle.std.specs.Prelude.{Option, Some, None, filter_map}
-use Rattle.std.proofs.lemmas.List.{append-nil}
+use Rattle.std.proofs.lemmas.List.{append-nil, take_more, map-append}
 use Rattle.std.proofs.lemmas.List.Elements.{filter_map-append}
-use Rattle.gz_script.specs.declared.line.Reading.TheVariants.{Unbuilt}
-use Rattle.gz_script.specs.Grammar.{reading_of}
+use Rattle.gz_script.specs.Grammar.{line_from}
 
 -- no line has five fields
-pub five-fields : (fields : List (List ℕ)) → 5 ≤ length fields → Unbuilt ≡ reading_of fields
+pub five-fields : (fields : List (List ℕ)) → 5 ≤ length fields → None ≡ line_from fields
 five-fields [] h = absurd (omega arith)
 five-fields (a ∷ []) h = absurd (omega arith)
 five-fields (a ∷ b ∷ []) h = absurd (omega arith)
@@ -22,3 +22,10 @@ filter_map-some f xs x y h = rw (filter_map-append, h) refl
 -- one more element that gives nothing
 pub filter_map-none : {X Y : Type 0} (f : X → Option Y) (xs : List X) (x : X) → f x ≡ None → filter_map f (xs ++ x ∷ []) ≡ filter_map f xs
 filter_map-none f xs x h = rw (filter_map-append, h) (append-nil (filter_map f xs))
+
+-- one more of the fields that are lent
+pub lent_more : (xs : List (Bor (List ℕ))) (i : ℕ) (d : Bor (List ℕ)) → i < length xs
+    → map (λ x. x.now) (take (i + 1) xs) ≡ map (λ x. x.now) (take i xs) ++ (get_or xs i d).now ∷ []
+lent_more xs i d h =
+    ap (λ (ys : List (Bor (List ℕ))). map (λ x. x.now) ys) (take_more xs i d h)
+    ∙ map-append (λ (x : Bor (List ℕ)). x.now) (take i xs) (get_or xs i d ∷ [])

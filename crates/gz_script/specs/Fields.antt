@@ -1,6 +1,6 @@
 -- The forms of fields.
-use Rattle.std.specs.Prelude.{ℕ, ◌+◌, ◌-◌, ◌*◌, ◌^◌, ◌==◌, ◌&&◌, ◌||◌, slice_index, Bool, nat_lt, nat_le, if◌then◌else◌, List, [], ◌∷◌, length, fold, Option, Some, None, option_and_then}
-use Rattle.std.specs.List.{list_all}
+use Rattle.std.specs.Prelude.{ℕ, ◌+◌, ◌-◌, ◌*◌, ◌^◌, ◌==◌, ◌&&◌, ◌||◌, slice_index, Bool, nat_lt, nat_le, if◌then◌else◌, List, [], ◌∷◌, length, map, filter_map, fold, Option, Some, None, option_and_then}
+use Rattle.std.specs.List.{list_all, slice_split}
 use Rattle.std.specs.Char.{is_ascii_digit}
 use Rattle.std.specs.Result.{result_ok}
 use Rattle.hex.specs.Hex.{decode_of}
@@ -24,6 +24,21 @@ from_one n = if nat_le 1 n then Some n else None
 -- the number of a session
 abbrev pub session_of : List ℕ → Option ℕ
 session_of field = option_and_then from_one (number_of field)
+
+-- a site: a number below 16
+abbrev pub below_sixteen : ℕ → Option ℕ
+below_sixteen n = if nat_lt n 16 then Some n else None
+
+abbrev pub site_of : List ℕ → Option ℕ
+site_of field = option_and_then below_sixteen (number_of field)
+
+-- the sites of a list, where each of its parts is one
+abbrev pub sites_in : List (List ℕ) → Option (List ℕ)
+sites_in parts = if length (filter_map site_of parts) == length parts then Some (filter_map site_of parts) else None
+
+-- one or more sites with commas between
+abbrev pub sites_of : List ℕ → Option (List ℕ)
+sites_of field = sites_in (slice_split (λ b. b == 44) field)
 
 -- a printable character of ASCII that is no blank
 abbrev pub is_printable : ℕ → Bool

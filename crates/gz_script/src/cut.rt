@@ -6,8 +6,8 @@ ghost use Rattle.gz_script.specs.Texts.{lines, fields, without_return, last_line
 
 use std::alloc::{AllocError, Global};
 
-// The parts between separators.
-fn parts<'a>(alloc: Global, bytes: &'a [u8], separator: u8) -> Result<Vec<&'a [u8]>, AllocError>
+/// The parts between separators.
+pub fn parts<'a>(alloc: Global, bytes: &'a [u8], separator: u8) -> Result<Vec<&'a [u8]>, AllocError>
     ensures { IfOk result (λ v. map (λ x. x.now) v.items ≡ slice_split (λ b. b == separator) bytes.now) }
 {
     bytes.split(|byte| *byte == separator).collect(alloc)

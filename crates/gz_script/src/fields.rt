@@ -1,10 +1,11 @@
-//! The forms of fields: numbers, keys and bytes.
-ghost use Rattle.std.specs.Prelude.{◌≡◌, ◌==◌, ◌<◌, ◌≤◌, ◌^◌, IfOk, IsTrue, min, slice_index};
+//! The forms of fields: numbers, sites, keys and bytes.
+ghost use Rattle.std.specs.Prelude.{◌≡◌, ◌==◌, ◌<◌, ◌≤◌, ◌^◌, IfOk, IsTrue, min, slice_index, map, filter_map};
 ghost use Rattle.std.specs.List.{list_all};
 ghost use Rattle.std.specs.Char.{is_ascii_digit};
-ghost use Rattle.gz_script.specs.Fields.{is_numeral, value_of, number_of, session_of, is_printable, is_key_field, key_of, bytes_of};
+ghost use Rattle.gz_script.specs.Fields.{is_numeral, value_of, number_of, session_of, site_of, sites_of, is_printable, is_key_field, key_of, bytes_of};
 
-use gz_core::{Items, Key, Session};
+use crate::cut;
+use gz_core::{Items, Key, Session, SiteId};
 use std::alloc::{AllocError, Global};
 
 /// The most bytes that a line may write.
@@ -72,6 +73,44 @@ pub fn session(field: &[u8]) -> Option<Session>
         Some(Session(number))
     } else {
         None
+    }
+}
+
+// A site: a number below 16.
+fn site(field: &[u8]) -> Option<SiteId>
+    ensures { result ≡ site_of field.now }
+{
+    let number = number(field)?;
+    if number < SiteId::MOST as u32 {
+        Some(SiteId(number as u8))
+    } else {
+        None
+    }
+}
+
+// The sites among the parts of a list.
+fn sites_among(alloc: Global, parts: &[&[u8]]) -> Result<Vec<SiteId>, AllocError>
+    ensures { IfOk result (λ sites. sites.items ≡ filter_map site_of (map (λ x. x.now) parts.now)) }
+{
+    let mut sites = Vec::new(alloc);
+    for part in parts {
+        if let Some(site) = site(part) {
+            sites.push(site)?;
+        }
+    }
+    Ok(sites)
+}
+
+/// A list: one or more sites with commas between.
+pub fn sites(alloc: Global, field: &[u8]) -> Result<Option<Items<SiteId>>, AllocError>
+    ensures { IfOk result (λ sites. sites ≡ sites_of field.now) }
+{
+    let parts = cut::parts(alloc, field, b',')?;
+    let sites = sites_among(alloc, parts.as_slice())?;
+    if sites.len() == parts.len() {
+        Ok(Some(Items::from_vec(sites)))
+    } else {
+        Ok(None)
     }
 }
 

@@ -1,6 +1,6 @@
 //! What a line of a schedule reads as.
 ghost use Rattle.std.specs.Prelude.{◌≡◌, IfOk, map};
-ghost use Rattle.gz_script.specs.Grammar.{open_line, settle_line, get_line, put_line, reading_of, read_line};
+ghost use Rattle.gz_script.specs.Grammar.{line_of_word, line_of_one, line_of_two, line_of_three, get_line, reply_line, put_line, settle_line, line_from, reading_of, read_line};
 
 use crate::line::{Line, Reading};
 use crate::{cut, fields};
@@ -25,78 +25,147 @@ pub fn read_line(alloc: Global, line: &[u8]) -> Result<Reading, AllocError>
 fn reading(alloc: Global, fields: &[&[u8]]) -> Result<Reading, AllocError>
     ensures { IfOk result (λ reading. reading ≡ reading_of (map (λ x. x.now) fields.now)) }
 {
-    match fields {
-        [] => Ok(Reading::Skipped),
-        [verb] => Ok(open(verb)),
-        [verb, session] => Ok(settle(alloc, verb, session)),
-        [verb, session, key] => get(alloc, verb, session, key),
-        [verb, session, key, bytes] => put(alloc, verb, session, key, bytes),
-        [_, _, _, _, _, ..] => Ok(Reading::Unbuilt),
+    if fields.is_empty() {
+        return Ok(Reading::Skipped);
+    }
+    match line(alloc, fields)? {
+        Some(line) => Ok(Reading::Is(line)),
+        None => Ok(Reading::Unbuilt),
     }
 }
 
-fn open(verb: &[u8]) -> Reading
-    ensures { result ≡ open_line verb.now }
+// The line of these fields.
+fn line(alloc: Global, fields: &[&[u8]]) -> Result<Option<Line>, AllocError>
+    ensures { IfOk result (λ line. line ≡ line_from (map (λ x. x.now) fields.now)) }
+{
+    match fields {
+        [] => Ok(None),
+        [verb] => Ok(line_of_word(verb)),
+        [verb, field] => Ok(line_of_one(alloc, verb, field)),
+        [verb, first, second] => line_of_two(alloc, verb, first, second),
+        [verb, first, second, third] => line_of_three(alloc, verb, first, second, third),
+        [_, _, _, _, _, ..] => Ok(None),
+    }
+}
+
+// A line of one word.
+fn line_of_word(verb: &[u8]) -> Option<Line>
+    ensures { result ≡ line_of_word verb.now }
 {
     if verb == b"session".as_slice() {
-        Reading::Is(Line::OpenSession)
+        Some(Line::OpenSession)
     } else {
-        Reading::Unbuilt
+        None
     }
 }
 
-fn settle(alloc: Global, verb: &[u8], session: &[u8]) -> Reading
-    ensures { result ≡ settle_line verb.now session.now }
+// A line of a word and a field.
+fn line_of_one(alloc: Global, verb: &[u8], field: &[u8]) -> Option<Line>
+    ensures { result ≡ line_of_one verb.now field.now }
 {
-    if verb != b"settle".as_slice() {
-        return Reading::Unbuilt;
-    }
-    match fields::session(session) {
-        None => Reading::Unbuilt,
-        Some(session) => Reading::Is(Line::Settle {
+    if verb == b"deliver".as_slice() {
+        fields::number(field).map(|n| Line::Deliver { n })
+    } else if verb == b"giveup".as_slice() {
+        fields::number(field).map(|n| Line::GiveUp { n })
+    } else if verb == b"take".as_slice() {
+        fields::number(field).map(|n| Line::Take { n })
+    } else if verb == b"crash".as_slice() {
+        fields::session(field).map(|session| Line::Crash { session })
+    } else if verb == b"drain".as_slice() {
+        fields::session(field).map(|session| Line::Drain { session })
+    } else if verb == b"settle".as_slice() {
+        fields::session(field).map(|session| Line::Settle {
             session,
             without: Items::new(alloc),
-        }),
+        })
+    } else {
+        None
     }
 }
 
-fn get(alloc: Global, verb: &[u8], session: &[u8], key: &[u8]) -> Result<Reading, AllocError>
-    ensures { IfOk result (λ reading. reading ≡ get_line verb.now session.now key.now) }
-{
-    if verb != b"get".as_slice() {
-        return Ok(Reading::Unbuilt);
-    }
-    let Some(session) = fields::session(session) else {
-        return Ok(Reading::Unbuilt);
-    };
-    let Some(key) = fields::key(alloc, key)? else {
-        return Ok(Reading::Unbuilt);
-    };
-    let call = Call::Get { key };
-    Ok(Reading::Is(Line::Begin { session, call }))
-}
-
-fn put(
+// A line of a word and two fields.
+fn line_of_two(
     alloc: Global,
     verb: &[u8],
-    session: &[u8],
-    key: &[u8],
-    bytes: &[u8],
-) -> Result<Reading, AllocError>
-    ensures { IfOk result (λ reading. reading ≡ put_line verb.now session.now key.now bytes.now) }
+    first: &[u8],
+    second: &[u8],
+) -> Result<Option<Line>, AllocError>
+    ensures { IfOk result (λ line. line ≡ line_of_two verb.now first.now second.now) }
 {
-    if verb != b"put".as_slice() {
-        return Ok(Reading::Unbuilt);
+    if verb == b"get".as_slice() {
+        get(alloc, first, second)
+    } else if verb == b"reply".as_slice() {
+        Ok(reply(first, second))
+    } else {
+        Ok(None)
     }
+}
+
+// A line of a word and three fields.
+fn line_of_three(
+    alloc: Global,
+    verb: &[u8],
+    first: &[u8],
+    second: &[u8],
+    third: &[u8],
+) -> Result<Option<Line>, AllocError>
+    ensures { IfOk result (λ line. line ≡ line_of_three verb.now first.now second.now third.now) }
+{
+    if verb == b"put".as_slice() {
+        put(alloc, first, second, third)
+    } else if verb == b"settle".as_slice() && second == b"without".as_slice() {
+        settle(alloc, first, third)
+    } else {
+        Ok(None)
+    }
+}
+
+fn get(alloc: Global, session: &[u8], key: &[u8]) -> Result<Option<Line>, AllocError>
+    ensures { IfOk result (λ line. line ≡ get_line session.now key.now) }
+{
     let Some(session) = fields::session(session) else {
-        return Ok(Reading::Unbuilt);
+        return Ok(None);
     };
     let Some(key) = fields::key(alloc, key)? else {
-        return Ok(Reading::Unbuilt);
+        return Ok(None);
+    };
+    let call = Call::Get { key };
+    Ok(Some(Line::Begin { session, call }))
+}
+
+fn reply(n: &[u8], which: &[u8]) -> Option<Line>
+    ensures { result ≡ reply_line n.now which.now }
+{
+    let n = fields::number(n)?;
+    let which = fields::number(which)?;
+    Some(Line::Reply { n, which })
+}
+
+fn put(alloc: Global, session: &[u8], key: &[u8], bytes: &[u8]) -> Result<Option<Line>, AllocError>
+    ensures { IfOk result (λ line. line ≡ put_line session.now key.now bytes.now) }
+{
+    let Some(session) = fields::session(session) else {
+        return Ok(None);
+    };
+    let Some(key) = fields::key(alloc, key)? else {
+        return Ok(None);
     };
     let Some(bytes) = fields::bytes(alloc, bytes)? else {
-        return Ok(Reading::Unbuilt);
+        return Ok(None);
     };
     let call = Call::Put { key, bytes };
-    Ok(Reading::Is(Line::Begin { session, call }))
+    Ok(Some(Line::Begin { session, call }))
+}
+
+// A call that is carried to its end without some sites.
+fn settle(alloc: Global, session: &[u8], without: &[u8]) -> Result<Option<Line>, AllocError>
+    ensures { IfOk result (λ line. line ≡ settle_line session.now without.now) }
+{
+    let Some(session) = fields::session(session) else {
+        return Ok(None);
+    };
+    let Some(without) = fields::sites(alloc, without)? else {
+        return Ok(None);
+    };
+    Ok(Some(Line::Settle { session, without }))
 }

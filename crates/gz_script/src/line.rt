@@ -1,7 +1,7 @@
 //! A line of a schedule.
 use gz_core::{Call, Items, Session, SiteId};
 
-/// What a line of a schedule asks for.
+/// What a line of a schedule asks for. Requests and replies count from 1.
 #[derive(Clone, Debug, PartialEq, Eq, Drop)]
 pub enum Line {
     /// A new session: 1, 2, 3, ..
@@ -11,10 +11,36 @@ pub enum Line {
         session: Session,
         call: Call,
     },
-    /// A session's call is carried to its end, without the sites in the list.
+    /// A request reaches its site, for the first time or again.
+    Deliver {
+        n: u32,
+    },
+    /// A reply of a request reaches its client.
+    Reply {
+        n: u32,
+        which: u32,
+    },
+    /// The client is told that a request won't be answered.
+    GiveUp {
+        n: u32,
+    },
+    /// A session does nothing any more.
+    Crash {
+        session: Session,
+    },
+    /// A request is delivered, unless it has a reply, and its first reply reaches the client.
+    Take {
+        n: u32,
+    },
+    /// A session's call is carried to its end: of its live requests the lowest is taken, again and again, or given
+    /// up where it goes to a site of the list.
     Settle {
         session: Session,
         without: Items<SiteId>,
+    },
+    /// The requests of a session that have no reply are delivered.
+    Drain {
+        session: Session,
     },
 }
 

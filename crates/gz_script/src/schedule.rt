@@ -1,11 +1,11 @@
 //! A schedule: the lines that the program plays.
-ghost use Rattle.std.specs.Prelude.{◌≡◌, ◌<◌, ◌≤◌, ◌+◌, ◌-◌, ◌^◌, length, map, filter_map, take, drop, count_by, IfOk, MatchOption, All};
-ghost use Rattle.gz_script.specs.Schedule.{readings, line_of, opens, settles, settles_next, is_skipped, is_built_at, AreBuilt, IsFirstUnbuilt, IsBounded, Reads};
+ghost use Rattle.std.specs.Prelude.{◌≡◌, ◌<◌, ◌≤◌, ◌+◌, ◌-◌, ◌^◌, length, map, filter_map, IfOk, MatchOption, All};
+ghost use Rattle.gz_script.specs.Schedule.{readings, line_of, is_built, is_built_at, AreBuilt, IsFirstUnbuilt, IsBounded, Reads};
 
 use crate::cut;
 use crate::grammar::read_line;
 use crate::line::{Line, Reading};
-use gz_core::{Session, TextError, Why};
+use gz_core::{TextError, Why};
 use std::alloc::{AllocError, Global};
 
 /// The lines of a schedule, or the first line that can't be played, counted from 1.
@@ -66,74 +66,24 @@ fn line_of(reading: Reading) -> Option<Line>
     }
 }
 
-// The first line that can't be played where it stands, counted from 1.
+// The first line that can't be played, counted from 1.
 fn first_unbuilt(readings: &[Reading]) -> Option<u32>
     requires { length readings.now < 2 ^ 32 }
     ensures { MatchOption result (AreBuilt readings.now (length readings.now)) (IsFirstUnbuilt readings.now) }
 {
-    let mut opened = 0u32;
     for i in 0..readings.len() {
-        if !is_built(readings, i, opened) {
+        if !is_built(&readings[i]) {
             return Some(i as u32 + 1);
-        }
-        if opens(&readings[i]) {
-            opened += 1;
         }
     }
     None
 }
 
-// Whether a line can be played where it stands, below so many lines that open a session.
-fn is_built(readings: &[Reading], at: usize, opened: u32) -> bool
-    requires within { at < length readings.now }
-    requires opened { opened ≡ count_by opens (take at readings.now) }
-    ensures { result ≡ is_built_at readings.now at }
+fn is_built(reading: &Reading) -> bool
+    ensures { result ≡ is_built reading.now }
 {
-    match &readings[at] {
+    match reading {
         Reading::Unbuilt => false,
-        Reading::Is(Line::Begin { session, .. }) => {
-            session.number() <= opened && settles_next(*session, readings.split_at(at + 1).1)
-        }
         _ => true,
-    }
-}
-
-fn opens(reading: &Reading) -> bool
-    ensures { result ≡ opens reading.now }
-{
-    match reading {
-        Reading::Is(Line::OpenSession) => true,
-        _ => false,
-    }
-}
-
-// Whether the first line that is not skipped settles the session.
-fn settles_next(session: Session, readings: &[Reading]) -> bool
-    ensures { result ≡ settles_next session readings.now }
-{
-    for reading in readings {
-        if !is_skipped(reading) {
-            return settles(session, reading);
-        }
-    }
-    false
-}
-
-fn is_skipped(reading: &Reading) -> bool
-    ensures { result ≡ is_skipped reading.now }
-{
-    match reading {
-        Reading::Skipped => true,
-        _ => false,
-    }
-}
-
-// Whether the line settles the session and leaves no site out.
-fn settles(settled: Session, reading: &Reading) -> bool
-    ensures { result ≡ settles settled reading.now }
-{
-    match reading {
-        Reading::Is(Line::Settle { session, without }) => *session == settled && without.is_empty(),
-        _ => false,
     }
 }

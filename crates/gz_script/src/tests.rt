@@ -1,6 +1,6 @@
 //! Texts of schedules, read and refused.
 use super::*;
-use gz_core::{Call, Items, Key, Session, TextError, Why};
+use gz_core::{Call, Items, Key, Session, SiteId, TextError, Why};
 use std::alloc::Global;
 use std::test::Fail;
 
@@ -63,27 +63,85 @@ fn schedules_are_read(rt: HostRuntime) -> Result<(), Fail> {
     Ok(())
 }
 
+/// A line of each kind but those of calls.
+fn other_lines(alloc: Global) -> Result<[Line; 9], Fail> {
+    let session = Session(2);
+    let without = Items::from_slice(alloc, &[SiteId(0), SiteId(15), SiteId(15)])?;
+    Ok([
+        Line::Deliver { n: 0 },
+        Line::Reply { n: 7, which: 0 },
+        Line::GiveUp { n: 4_294_967_295 },
+        Line::Crash { session },
+        Line::Take { n: 10 },
+        Line::Drain { session },
+        Line::Settle { session, without },
+        Line::Settle {
+            session,
+            without: Items::from_slice(alloc, &[SiteId(3)])?,
+        },
+        Line::OpenSession,
+    ])
+}
+
+#[test]
+fn each_other_line_is_read(rt: HostRuntime) -> Result<(), Fail> {
+    let text: &[u8] =
+        b"deliver 0\n reply  7 0 \ngiveup 4294967295\ncrash 2\n#\ntake 10\ndrain 2\nsettle 2 without 0,15,15\nsettle 2 without 3\nsession";
+    assert!(rt; text.len() < 200);
+    let lines = other_lines(rt.alloc())?;
+    let read = read_schedule(rt.alloc(), text)?;
+    assert_eq!(rt; read.as_slice(), lines.as_slice());
+    Ok(())
+}
+
+/// The line that a text is refused at, if it is.
+fn refused_at(alloc: Global, text: &[u8]) -> Option<u32> {
+    if text.len() >= 100 {
+        return None;
+    }
+    match read_schedule(alloc, text) {
+        Err(
+            TextError::Bad {
+                line,
+                why: Why::Unbuilt,
+            },
+        ) => Some(line),
+        _ => None,
+    }
+}
+
 #[test]
 fn the_first_line_that_is_not_built_is_told(rt: HostRuntime) {
-    let cases: [(&[u8], u32); 6] = [
+    let cases: [(&[u8], u32); 20] = [
         (b"session\ndelete 1 a\n", 2),
-        (b"session\nput 1 a x:01\n", 2),
         (b"session\npat 1 a\n", 2),
         (b"# c\n\nsession\nput 1 a x:0\nsettle 1\n", 4),
-        (b"put 1 a x:01\nsettle 1\n", 1),
         (b"session\nput 01 a x:01\nsettle 1\n", 2),
+        (b"deliver 1\ndeliver 01\n", 2),
+        (b"deliver 4294967296\n", 1),
+        (b"deliver\n", 1),
+        (b"take 1\ntake -1\n", 2),
+        (b"giveup 1 2\n", 1),
+        (b"crash 1\ncrash 0\n", 2),
+        (b"drain x\n", 1),
+        (b"reply 1\n", 1),
+        (b"reply 1 1\nreply 1 1 1\n", 2),
+        (b"settle 0\n", 1),
+        (b"settle 1 without\n", 1),
+        (b"settle 1 with 1\n", 1),
+        (b"settle 1 without 16\n", 1),
+        (b"settle 1 without 1,\n", 1),
+        (b"settle 1 without 1, 2\n", 1),
+        (b"settle 1 without ,1\n", 1),
     ];
     for (text, line) in cases {
-        assert!(rt; text.len() < 100);
-        let told = TextError::Bad {
-            line,
-            why: Why::Unbuilt,
-        };
-        assert_eq!(rt;
-            read_schedule(rt.alloc(), text).err(),
-            Some(told),
-            "line {line}"
-        );
+        assert_eq!(rt; refused_at(rt.alloc(), text), Some(line), "line {line}");
     }
-    assert!(rt; read_schedule(rt.alloc(), b"settle 1\n").is_ok());
+}
+
+#[test]
+fn calls_need_no_session_above_and_no_line_below(rt: HostRuntime) {
+    assert_eq!(rt; refused_at(rt.alloc(), b"put 1 a x:01\nget 2 a\n"), None);
+    assert!(rt; read_schedule(rt.alloc(), b"put 1 a x:01\nget 2 a\n").is_ok());
+    assert!(rt; read_schedule(rt.alloc(), b"").is_ok());
 }

@@ -2,7 +2,7 @@ use denote.Ref.{Bor}
 use Rattle.std.proofs.Common.{ℕ, List, map, length, ◌≤◌}
 use Rattle.std.proofs.lemmas.List.{length-map}
 use Rattle.gz_script.proofs.ReadLemmas.{five-fields}
-use Rattle.gz_script.proofs.grammar.reading.Goals as goal
+use Rattle.gz_script.proofs.grammar.line.Goals as goal
 
 pub returns-in-len5-up : goal.returns-in-len5-up
 returns-in-len5-up c =
