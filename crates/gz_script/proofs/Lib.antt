@@ -1,3 +1,8 @@
-mod CutLemmas
-mod ReadLemmas
 mod Bounds
+mod CutLemmas
+mod Growing
+mod LineLemmas
+mod Listing
+mod PlayLemmas
+mod Reaching
+mod ReadLemmas

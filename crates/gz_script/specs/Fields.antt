@@ -1,5 +1,5 @@
 -- The forms of fields.
-use Rattle.std.specs.Prelude.{ℕ, ◌+◌, ◌-◌, ◌*◌, ◌^◌, ◌==◌, ◌&&◌, ◌||◌, slice_index, Bool, nat_lt, nat_le, if◌then◌else◌, List, [], ◌∷◌, length, map, filter_map, fold, Option, Some, None, option_and_then}
+use Rattle.std.specs.Prelude.{ℕ, ◌+◌, ◌-◌, ◌*◌, ◌^◌, ◌==◌, ◌&&◌, ◌||◌, slice_index, Bool, nat_lt, nat_le, if◌then◌else◌, List, [], ◌∷◌, length, filter_map, fold, Option, Some, None, option_and_then}
 use Rattle.std.specs.List.{list_all, slice_split}
 use Rattle.std.specs.Char.{is_ascii_digit}
 use Rattle.std.specs.Result.{result_ok}

@@ -4,8 +4,7 @@ use Rattle.std.specs.Option.{option_map_or}
 use Rattle.std.specs.declared.alloc.Global.{Global}
 use Rattle.gz_core.specs.declared.texts.TextError.{TextError}
 use Rattle.gz_core.specs.declared.texts.TextError.TheVariants.{Bad, TooLong, NoMemory}
-use Rattle.gz_core.specs.declared.calls.Call.{Call}
-use Rattle.gz_core.specs.declared.calls.Call.TheVariants as calls
+use Rattle.gz_round.specs.Starting.{IsWithin}
 use Rattle.gz_script.specs.declared.line.Line.{Line}
 use Rattle.gz_script.specs.declared.line.Line.TheVariants.{OpenSession, Begin, Deliver, Reply, GiveUp, Crash, Take, Settle, Drain}
 use Rattle.gz_script.specs.declared.line.Reading.{Reading}
@@ -13,15 +12,10 @@ use Rattle.gz_script.specs.declared.line.Reading.TheVariants.{Skipped, Unbuilt, 
 use Rattle.gz_script.specs.Texts.{lines}
 use Rattle.gz_script.specs.Grammar.{read_line}
 
--- what a call writes is at most 1,048,576 bytes
-abbrev pub IsBoundedCall : Call → Type 0
-IsBoundedCall (calls.Put key bytes) = length bytes ≤ 1048576
-IsBoundedCall (calls.Get key) = Unit {0}
-
 -- the line's call keeps to the bounds of an object
 abbrev pub IsBounded : Line → Type 0
 IsBounded OpenSession = Unit {0}
-IsBounded (Begin session call) = IsBoundedCall call
+IsBounded (Begin session call) = IsWithin call
 IsBounded (Deliver n) = Unit {0}
 IsBounded (Reply n which) = Unit {0}
 IsBounded (GiveUp n) = Unit {0}

@@ -1,13 +1,16 @@
-//! The texts that the program reads: schedules.
+//! Schedules: their texts, and how they are played.
 #![tactic(auto)]
 
 mod cut;
 pub mod fields;
 mod grammar;
 pub mod line;
+pub mod outboxes;
+pub mod playing;
 pub mod schedule;
 #[cfg(test)]
 mod tests;
 
 pub use line::Line;
+pub use playing::play;
 pub use schedule::read_schedule;

@@ -1,5 +1,5 @@
 use denote.Ref.{Bor}
-use Rattle.std.proofs.Common.{ℕ, ◌≡◌, ◌+◌, ◌++◌, ◌∷◌, List, [], map, take, get_or, filter_map, ap, sym, ◌∙◌}
+use Rattle.std.proofs.Common.{ℕ, List, [], map, take, get_or, filter_map, ap, sym, ◌∙◌}
 use Rattle.gz_script.proofs.ReadLemmas.{lent_more, filter_map-some, filter_map-none}
 use Rattle.gz_script.specs.Fields.{site_of}
 use Rattle.gz_script.proofs.fields.sites_among.Goals as goal

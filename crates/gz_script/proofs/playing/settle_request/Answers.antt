@@ -1,0 +1,52 @@
+use Rattle.std.proofs.Common.{◌≡◌, true, false, List, [], ◌∷◌, sym, ◌∙◌, subst, map}
+use Rattle.gz_world.proofs.Results.{on_ok_map, on_err_map}
+use Rattle.gz_world.specs.Bridge.{state_of}
+use Rattle.gz_world.specs.States.{request_of, numbered}
+use Rattle.gz_world.specs.declared.events.Event.{Event}
+use Rattle.gz_world.specs.declared.events.Event.TheVariants as events
+use Rattle.gz_script.specs.Plays.{Happen, HappenInPart, ChangesBy, is_left_out, taken, settled}
+use Rattle.gz_script.proofs.PlayLemmas.{happen_as, part_none, changes_as, settled_out, settled_in}
+use Rattle.gz_script.proofs.playing.settle_request.Goals as goal
+
+pub returns-then-is_left_out-clause-ok : goal.returns-then-is_left_out-clause-ok
+returns-then-is_left_out-clause-ok g c =
+    let told = g.S.Site.told in
+    let old = c.args.world.now in
+    let n = c.args.n in
+    let without = c.args.without.now in
+    let out : is_left_out without (numbered (map request_of old.net.items) n) ≡ true = sym c.is_left_out.ensures ∙ c.if-is_left_out.true in
+    on_ok_map c.happen.result (ChangesBy told (Happen (events.GiveUp n ∷ [])) old c.happen.new.world) (ChangesBy told (λ s. Happen (settled without n s) s) old c.happen.new.world)
+    (happen_as told (settled without n) (events.GiveUp n ∷ []) old c.happen.new.world (λ tales. settled_out without n (state_of told tales old) out)) c.happen.ensures.ok
+
+pub returns-then-is_left_out-clause-err : goal.returns-then-is_left_out-clause-err
+returns-then-is_left_out-clause-err g c =
+    let told = g.S.Site.told in
+    let old = c.args.world.now in
+    let n = c.args.n in
+    let without = c.args.without.now in
+    on_err_map c.happen.result (ChangesBy told (Happen []) old c.happen.new.world) (ChangesBy told (λ s. HappenInPart (settled without n s) s) old c.happen.new.world)
+    (part_none told (settled without n) old c.happen.new.world) c.happen.ensures.none
+
+pub returns-clause-ok : goal.returns-clause-ok
+returns-clause-ok g c =
+    let told = g.S.Site.told in
+    let old = c.args.world.now in
+    let n = c.args.n in
+    let without = c.args.without.now in
+    let other : is_left_out without (numbered (map request_of old.net.items) n) ≡ false = sym c.is_left_out.ensures ∙ c.if-is_left_out.false in
+    on_ok_map c.take.result (ChangesBy told (λ s. Happen (taken n s) s) old c.take.new.world) (ChangesBy told (λ s. Happen (settled without n s) s) old c.take.new.world)
+    (changes_as told (λ s. Happen (taken n s) s) (λ s. Happen (settled without n s) s) old c.take.new.world
+    (λ tales y h. subst (λ (es : List Event). Happen es (state_of told tales old) y) (settled_in without n (state_of told tales old) other) h))
+    c.take.ensures.ok
+
+pub returns-clause-err : goal.returns-clause-err
+returns-clause-err g c =
+    let told = g.S.Site.told in
+    let old = c.args.world.now in
+    let n = c.args.n in
+    let without = c.args.without.now in
+    let other : is_left_out without (numbered (map request_of old.net.items) n) ≡ false = sym c.is_left_out.ensures ∙ c.if-is_left_out.false in
+    on_err_map c.take.result (ChangesBy told (λ s. HappenInPart (taken n s) s) old c.take.new.world) (ChangesBy told (λ s. HappenInPart (settled without n s) s) old c.take.new.world)
+    (changes_as told (λ s. HappenInPart (taken n s) s) (λ s. HappenInPart (settled without n s) s) old c.take.new.world
+    (λ tales y h. subst (λ (es : List Event). HappenInPart es (state_of told tales old) y) (settled_in without n (state_of told tales old) other) h))
+    c.take.ensures.err

@@ -1,0 +1,23 @@
+-- Lists of the requests that sessions have sent.
+use Rattle.std.specs.Prelude.{ℕ, ◌≡◌, ◌+◌, ◌≤◌, ◌==◌, if◌then◌else◌, List, [], ◌∷◌, ◌++◌, length, take, slice_get, unwrap_or}
+use Rattle.gz_world.specs.States.{RequestAt}
+use Rattle.gz_script.specs.declared.outboxes.Outboxes.{Outboxes}
+use Rattle.gz_script.specs.Plays.{sent_by, unanswered}
+
+-- the list of a session, by its place
+abbrev pub listed : List (List ℕ) → ℕ → List ℕ
+listed lists s = unwrap_or (slice_get lists s) []
+
+-- the list of each session has those of its requests that have no reply, among the first that were seen; it may have some
+-- that were answered since
+pub record AreListed (boxes : Outboxes) (net : List RequestAt) : Type 0 where
+  pub seen : boxes.seen ≤ length net
+  pub lists : (s : ℕ) → unanswered net (listed boxes.lists.items s) ≡ unanswered net (sent_by (s + 1) (take boxes.seen net))
+
+-- a request was put at the end of a session's list
+abbrev pub IsPut : List (List ℕ) → ℕ → ℕ → List (List ℕ) → Type 0
+IsPut old session n new = (s : ℕ) → listed new s ≡ (if session == s + 1 then listed old s ++ n ∷ [] else listed old s)
+
+-- the list of a session was replaced
+abbrev pub IsReplaced : List (List ℕ) → ℕ → List ℕ → List (List ℕ) → Type 0
+IsReplaced old at ns new = (s : ℕ) → listed new s ≡ (if s == at then ns else listed old s)
