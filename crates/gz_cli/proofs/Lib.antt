@@ -1,10 +1,5 @@
-mod LaterLemmas
-mod RowLemmas
-mod KeyLemmas
-mod PutLemmas
-mod HoldLemmas
 mod CodeLemmas
-mod CountLemmas
-mod FreshLemmas
-mod LegalLemmas
+mod TellLemmas
+mod PlayLemmas
+mod WorldLemmas
 mod RunLemmas

@@ -1,6 +1,4 @@
 pub mod Words
 pub mod Codes
-pub mod Sites
-pub mod Replays
-pub mod Kept
+pub mod Worlds
 pub mod Runs

@@ -1,9 +1,7 @@
 -- What a run promises: the cause of each status, and what it leaves.
-use Rattle.std.specs.Prelude.{ℕ, ◌⊎◌, ◌≡◌, ◌<◌, ◌≤◌, ◌++◌, List, [], length, map, filter_map, take, Option, Some, None, option_map, slice_get}
+use Rattle.std.specs.Prelude.{ℕ, ◌⊎◌, ◌≡◌, ◌≤◌, ◌++◌, List, length, filter_map, Option, Some, None, option_map}
 use Rattle.gz_core.specs.Causes.{Rose}
-use Rattle.gz_core.specs.declared.calls.Call.{Call}
-use Rattle.gz_core.specs.declared.calls.Call.TheVariants.{Get}
-use Rattle.gz_site.specs.Told.{IsEmpty}
+use Rattle.gz_site.specs.Told.{Told}
 use Rattle.gz_site.specs.Files.{Exceeds, IsSomePart}
 use Rattle.gz_core.specs.declared.texts.TextError.{TextError}
 use Rattle.gz_core.specs.declared.texts.TextError.TheVariants.{Bad, TooLong, NoMemory as NoTextMemory}
@@ -11,18 +9,16 @@ use Rattle.gz_site.specs.declared.shelves.ShelfError.{ShelfError}
 use Rattle.gz_site.specs.declared.shelves.ShelfError.TheVariants.{Failed, NoSuch, TooLarge}
 use Rattle.gz_site.specs.declared.sinks.SinkError.{SinkError}
 use Rattle.gz_site.specs.declared.sinks.SinkError.TheVariants.{Failed as SinkFailed, NoMemory as NoSinkMemory}
-use Rattle.gz_site.specs.declared.memory.MemSite.{MemSite}
-use Rattle.gz_history.specs.Log.{log_of}
-use Rattle.gz_history.specs.declared.record.CallRec.{CallRec}
+use Rattle.gz_script.specs.Plays.{Plays, PlaysInPart}
 use Rattle.gz_script.specs.Schedule.{readings, line_of, AreBuilt, IsFirstUnbuilt}
 use Rattle.gz_script.specs.declared.line.Line.{Line}
-use Rattle.gz_script.specs.declared.line.Line.TheVariants.{OpenSession, Begin, Settle}
+use Rattle.gz_world.specs.States.{State}
+use Rattle.gz_world.specs.declared.world.World.{World}
 use Rattle.gz_cli.specs.declared.status.Status.{Status}
-use Rattle.gz_cli.specs.declared.status.Status.TheVariants.{Done, Usage, ShelfFault, NoFile, FileTooLarge, BadText, SinkFault, NoMemory}
+use Rattle.gz_cli.specs.declared.status.Status.TheVariants.{Done, Usage, ShelfFault, NoFile, FileTooLarge, BadText, Full, SinkFault, NoMemory}
 use Rattle.gz_cli.specs.Codes.{Codes}
-use Rattle.gz_cli.specs.Sites.{site_at}
 use Rattle.gz_cli.specs.Words.{Task, replay, code}
-use Rattle.gz_cli.specs.Replays.{puts_of, latest_of, played, HoldsRows}
+use Rattle.gz_cli.specs.Worlds.{PlaysSome, Leaves, IsFilled, log_of_world}
 
 -- the files of a shelf, none where it does not tell them
 abbrev pub Files : Type 0
@@ -71,6 +67,7 @@ LoadCause files name old new (ShelfFault n) = (n ≡ name) × Rose old.faults ne
 LoadCause files name old new (NoFile n) = (n ≡ name) × (Rose old.absences new.absences × FileIs files name (λ file. file ≡ None))
 LoadCause files name old new (FileTooLarge n) = (n ≡ name) × (Rose old.excesses new.excesses × FileIs files name (λ file. Exceeds file 65536))
 LoadCause files name old new (BadText line why) = IsUnbuiltAt files name line
+LoadCause files name old new (Full events held) = ⊥
 LoadCause files name old new SinkFault = ⊥
 LoadCause files name old new NoMemory = Unit {0}
 
@@ -82,6 +79,7 @@ ShelfCause name error (ShelfFault n) = (n ≡ name) × (error ≡ Failed)
 ShelfCause name error (NoFile n) = (n ≡ name) × (error ≡ NoSuch)
 ShelfCause name error (FileTooLarge n) = (n ≡ name) × (error ≡ TooLarge)
 ShelfCause name error (BadText line why) = ⊥
+ShelfCause name error (Full events held) = ⊥
 ShelfCause name error SinkFault = ⊥
 ShelfCause name error NoMemory = Unit {0}
 
@@ -106,6 +104,7 @@ Cause files name old new (ShelfFault n) = (n ≡ name) × Rose old.faults new.fa
 Cause files name old new (NoFile n) = (n ≡ name) × (Rose old.absences new.absences × FileIs files name (λ file. file ≡ None))
 Cause files name old new (FileTooLarge n) = (n ≡ name) × (Rose old.excesses new.excesses × FileIs files name (λ file. Exceeds file 65536))
 Cause files name old new (BadText line why) = IsUnbuiltAt files name line
+Cause files name old new (Full events held) = IsLoaded files name
 Cause files name old new SinkFault = IsLoaded files name × Rose old.sink new.sink
 Cause files name old new NoMemory = Unit {0}
 
@@ -117,6 +116,7 @@ IsRefusal (ShelfFault name) = Unit {0}
 IsRefusal (NoFile name) = Unit {0}
 IsRefusal (FileTooLarge name) = Unit {0}
 IsRefusal (BadText line why) = Unit {0}
+IsRefusal (Full events held) = ⊥
 IsRefusal SinkFault = ⊥
 IsRefusal NoMemory = ⊥
 
@@ -128,10 +128,11 @@ HasPlayed (ShelfFault name) = ⊥
 HasPlayed (NoFile name) = ⊥
 HasPlayed (FileTooLarge name) = ⊥
 HasPlayed (BadText line why) = ⊥
+HasPlayed (Full events held) = ⊥
 HasPlayed SinkFault = Unit {0}
 HasPlayed NoMemory = ⊥
 
--- the cause of a status once the lines are known, over the sink's count of faults before and after
+-- the cause of a status once the output is known, over the sink's count of faults before and after
 abbrev pub WriteCause : ℕ → ℕ → Status → Type 0
 WriteCause old new Done = Unit {0}
 WriteCause old new Usage = ⊥
@@ -139,6 +140,7 @@ WriteCause old new (ShelfFault name) = ⊥
 WriteCause old new (NoFile name) = ⊥
 WriteCause old new (FileTooLarge name) = ⊥
 WriteCause old new (BadText line why) = ⊥
+WriteCause old new (Full events held) = ⊥
 WriteCause old new SinkFault = Rose old new
 WriteCause old new NoMemory = Unit {0}
 
@@ -155,64 +157,41 @@ IsCode None = ⊥
 IsCode (Some (replay name)) = ⊥
 IsCode (Some (code k m digits)) = Unit {0}
 
--- the words ask for a replay, and the schedule was played to its end
-abbrev pub HasReplayed : Option Task → Status → Type 0
-HasReplayed None status = ⊥
-HasReplayed (Some (replay name)) status = HasPlayed status
-HasReplayed (Some (code k m digits)) status = ⊥
-
 -- the status of an output that could not be written
 abbrev pub sink_status : SinkError → Status
 sink_status SinkFailed = SinkFault
 sink_status NoSinkMemory = NoMemory
 
--- the session and the call that a line begins
-abbrev pub begun_by : Line → Option (ℕ × Call)
-begun_by OpenSession = None
-begun_by (Begin session call) = Some (session, call)
-begun_by (Settle session without) = None
-
--- the calls are those of the lines, in their order
-abbrev pub AreCallsOf : List Line → List CallRec → Type 0
-AreCallsOf lines calls = map (λ c. (c.name.session, c.call)) calls ≡ filter_map begun_by lines
-
--- each get answers the last put of its key above it, or that there is none
-abbrev pub GetsLatest : List CallRec → Type 0
-GetsLatest calls = (i : ℕ) (c : CallRec) (key : List ℕ) → slice_get calls i ≡ Some c → c.call ≡ Get key → c.answer ≡ Some (latest_of (puts_of key (take i calls)))
-
--- for each key the rows of sites 0, 1 and 2 have exactly the columns 1, 2, .., each with the fast vote of its put
-pub record RowsHold (calls : List CallRec) (sites : List MemSite) : Type 0 where
-  pub first : HoldsRows calls (site_at sites 0).told
-  pub second : HoldsRows calls (site_at sites 1).told
-  pub third : HoldsRows calls (site_at sites 2).told
-
 -- the whole of an output was written
 abbrev pub Whole : Option (List ℕ) → List ℕ → Option (List ℕ) → Type 0
 Whole before log after = after ≡ option_map (λ b. b ++ log) before
 
--- the file was played: its calls with their ticks and answers, and how much of their log was written
-pub record Replayed (files : Files) (name : List ℕ) (calls : List CallRec) (Written : List ℕ → Type 0) : Type 0 where
-  pub lines : List Line
-  pub loaded : Loads files name lines
-  pub plays : calls ≡ (played lines).calls
-  pub order : AreCallsOf lines calls
-  pub written : Written (log_of calls (played lines).ticks 0)
+-- the file was loaded, and a world is left in which its lines were played so and of which this holds
+abbrev pub Replays : {S : Type 0} → (S → Option Told) → (List Line → State → State → Type 0) → Files → List ℕ → List S → Option (World S) → (World S → Type 0) → Type 0
+Replays told Change files name sites left Holds = (lines : List Line) × (Loads files name lines × Leaves told sites (Change lines) left Holds)
 
--- what the words ask for was done: the file was played and its log written, or the text of the pieces was written
-abbrev pub Writes : Option Task → Files → List CallRec → (List ℕ → Type 0) → Type 0
-Writes None files calls Written = ⊥
-Writes (Some (replay name)) files calls Written = Replayed files name calls Written
-Writes (Some (code k m digits)) files calls Written = Codes k m digits Written
+-- what the words ask for was done: the file was played and the log of its world written, or the text of the pieces was written
+abbrev pub Writes : {S : Type 0} → (S → Option Told) → Option Task → Files → List S → Option (World S) → (List ℕ → Type 0) → Type 0
+Writes told None files sites left Written = ⊥
+Writes told (Some (replay name)) files sites left Written = Replays told Plays files name sites left (λ w. Written (log_of_world w))
+Writes told (Some (code k m digits)) files sites left Written = Codes k m digits Written
 
--- want of memory came before anything was written, or some first part of the log of the file was written
-abbrev pub IsCutShort : Files → List ℕ → Option (List ℕ) → Option (List ℕ) → Type 0
-IsCutShort files name before after = (after ≡ before) ⊎ ((lines : List Line) × (Loads files name lines × IsSomePart before (log_of (played lines).calls (played lines).ticks 0) after))
+-- the world that is left took no more events, in the course of the lines
+abbrev pub Fills : {S : Type 0} → (S → Option Told) → Option Task → Files → List S → Option (World S) → ℕ → ℕ → Type 0
+Fills told None files sites left events held = ⊥
+Fills told (Some (replay name)) files sites left events held = Replays told PlaysInPart files name sites left (IsFilled events held)
+Fills told (Some (code k m digits)) files sites left events held = ⊥
+
+-- want of memory came before a world was opened, or the lines were played, to their end or in part, and some first part of the log was written
+abbrev pub IsCutShort : {S : Type 0} → (S → Option Told) → Files → List ℕ → List S → Option (World S) → Option (List ℕ) → Option (List ℕ) → Type 0
+IsCutShort told files name sites left before after =
+    ((left ≡ None) × (after ≡ before)) ⊎ Replays told PlaysSome files name sites left (λ w. IsSomePart before (log_of_world w) after)
 
 -- the same for what the words ask for
-abbrev pub IsCut : Option Task → Files → Option (List ℕ) → Option (List ℕ) → Type 0
-IsCut None files before after = ⊥
-IsCut (Some (replay name)) files before after = IsCutShort files name before after
-IsCut (Some (code k m digits)) files before after = (after ≡ before) ⊎ Codes k m digits (λ text. IsSomePart before text after)
+abbrev pub IsCut : {S : Type 0} → (S → Option Told) → Option Task → Files → List S → Option (World S) → Option (List ℕ) → Option (List ℕ) → Type 0
+IsCut told None files sites left before after = ⊥
+IsCut told (Some (replay name)) files sites left before after = IsCutShort told files name sites left before after
+IsCut told (Some (code k m digits)) files sites left before after = (after ≡ before) ⊎ Codes k m digits (λ text. IsSomePart before text after)
 
 -- the shelf tells that the file has these bytes
 abbrev pub TellsBytes : Files → List ℕ → List ℕ → Type 0
@@ -237,8 +216,26 @@ pub record AreSteady (old new : Counts) : Type 0 where
   pub shelf : Rose old.faults new.faults → ⊥
   pub sink : Rose old.sink new.sink → ⊥
 
--- the sites are empty, and the first three never fail
-pub record AreFresh (sites : List MemSite) : Type 0 where
-  pub enough : 16 ≤ length sites
-  pub empty : (i : ℕ) → i < length sites → IsEmpty (site_at sites i).told
-  pub works : (i : ℕ) → i < 3 → (site_at sites i).fails ≡ []
+-- a run that can be done ends so: it was done, the world was full, or memory ran out
+abbrev pub IsAnswered : Status → Type 0
+IsAnswered Done = Unit {0}
+IsAnswered Usage = ⊥
+IsAnswered (ShelfFault name) = ⊥
+IsAnswered (NoFile name) = ⊥
+IsAnswered (FileTooLarge name) = ⊥
+IsAnswered (BadText line why) = ⊥
+IsAnswered (Full events held) = Unit {0}
+IsAnswered SinkFault = ⊥
+IsAnswered NoMemory = Unit {0}
+
+-- the cause of a status once the lines are known, over the sink's count of faults before and after
+abbrev pub PlayCause : ℕ → ℕ → Status → Type 0
+PlayCause old new Done = Unit {0}
+PlayCause old new Usage = ⊥
+PlayCause old new (ShelfFault name) = ⊥
+PlayCause old new (NoFile name) = ⊥
+PlayCause old new (FileTooLarge name) = ⊥
+PlayCause old new (BadText line why) = ⊥
+PlayCause old new (Full events held) = Unit {0}
+PlayCause old new SinkFault = Rose old new
+PlayCause old new NoMemory = Unit {0}

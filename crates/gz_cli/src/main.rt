@@ -1,4 +1,4 @@
-//! The program `giza`: it replays a schedule over sites in memory and prints the log, or cuts bytes into the pieces of
+//! The program `giza`: it replays a schedule in a world of sites in memory and prints the log, or cuts bytes into the pieces of
 //! a code.
 #![tactic(auto)]
 
@@ -8,9 +8,7 @@ mod load;
 mod output;
 mod pieces;
 mod replay;
-mod rows;
 mod run;
-mod sequence;
 mod status;
 #[cfg(test)]
 mod tests;

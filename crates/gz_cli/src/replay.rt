@@ -1,197 +1,140 @@
-//! A schedule is played, one call at a time.
-ghost use Rattle.std.specs.Prelude.{◌≡◌, ◌<◌, ◌≤◌, ◌+◌, ◌^◌, ◌∷◌, [], ◌++◌, length, All, IfOk, OnOk, Some};
-ghost use Rattle.gz_core.specs.Calls.{own_value};
-ghost use Rattle.gz_script.specs.Schedule.{IsBounded, IsBoundedCall};
-ghost use Rattle.gz_script.specs.declared.line.Line.TheVariants.{Begin};
-ghost use Rattle.gz_cli.specs.Replays.{answer_to, lasts, begun, next_call, after_line, played, start, ThreeHold};
-ghost use Rattle.gz_history.specs.declared.record.CallRec.{CallRec};
-ghost use Rattle.gz_cli.specs.Kept.{play_of, IsCounted, IsPlaying};
+//! A schedule is played over a world that is opened for it, and the log of the world is written.
+ghost use Rattle.std.specs.Prelude.{◌≡◌, ◌≤◌, ℕ, length, All, count_by, IfSome, None};
+ghost use Rattle.gz_site.specs.Files.{IsSomePart};
+ghost use Rattle.gz_history.specs.Legal.{IsLegal};
+ghost use Rattle.gz_script.specs.Plays.{Plays, PlaysInPart, ChangesBy};
+ghost use Rattle.gz_script.specs.Schedule.{IsBounded};
+ghost use Rattle.gz_world.specs.Fits.{IsFitting};
+ghost use Rattle.gz_world.specs.Opening.{AreEmpty, IsOpened};
+ghost use Rattle.gz_world.specs.Told.{IsReachedBy};
+ghost use Rattle.gz_cli.specs.Runs.{PlayCause, HasPlayed, Whole, WriteCause};
+ghost use Rattle.gz_cli.specs.Worlds.{default, AreFresh, AllTellAt, PlaysSome, Leaves, IsFilled, log_of_world, was_skipped, is_skipped, AgreesBy};
 
-use crate::sequence::{get, put};
-use gz_core::{Answer, Call, Items, PutName, PutValue, Session, Value};
-use gz_history::CallRec;
-use gz_script::Line;
-use gz_site::MemSite;
-use std::alloc::{AllocError, Global};
-use std::collections::BTreeMap;
+use crate::bench::Bench;
+use crate::output::write;
+use crate::status::Status;
+use gz_core::Config;
+use gz_history::log_text;
+use gz_script::{Line, play};
+use gz_site::{Sink, Site};
+use gz_world::{ApplyError, Entry, Outcome, World};
+use std::alloc::Global;
+use std::mem;
 
-/// How far a schedule has been played: the calls, how many each session began, and the ticks that passed.
-#[derive(Drop)]
-pub struct Replay {
-    pub calls: Vec<CallRec>,
-    pub begun: BTreeMap<Session, u32>,
-    pub ticks: u32,
-}
-
-impl Replay {
-    /// Nothing was played yet.
-    pub fn new(alloc: Global) -> Replay
-        ensures start { play_of result ≡ start }
-        ensures counted { IsCounted result }
-    {
-        Replay {
-            calls: Vec::new(alloc),
-            begun: BTreeMap::new(alloc),
-            ticks: 0,
-        }
-    }
-
-    // Plays a line.
-    fn step(
-        &mut self,
-        alloc: Global,
-        sites: &mut Vec<MemSite>,
-        line: &Line,
-    ) -> Result<(), AllocError>
-        requires playing { IsPlaying self.old sites.old.items }
-        requires room { self.old.ticks + 13 < 2 ^ 32 }
-        requires bounded { IsBounded line.now }
-        ensures after { OnOk result (play_of self.new ≡ after_line (play_of self.old) line.now) }
-        ensures playing { OnOk result (IsPlaying self.new sites.new.items) }
-        ensures soon { OnOk result (self.new.ticks ≤ self.old.ticks + 13) }
-        ensures len { length sites.new.items ≡ length sites.old.items }
-    {
-        match line {
-            Line::OpenSession => {
-                self.ticks += 1;
-                Ok(())
-            }
-            Line::Begin { session, call } => self.call(alloc, sites, *session, call),
-            Line::Settle { .. } => Ok(()),
-        }
-    }
-
-    // Begins a call, and carries it to its end.
-    fn call(
-        &mut self,
-        alloc: Global,
-        sites: &mut Vec<MemSite>,
-        session: Session,
-        call: &Call,
-    ) -> Result<(), AllocError>
-        requires playing { IsPlaying self.old sites.old.items }
-        requires room { self.old.ticks + 13 < 2 ^ 32 }
-        requires bounded { IsBoundedCall call.now }
-        ensures after { OnOk result (play_of self.new ≡ after_line (play_of self.old) (Begin session call.now)) }
-        ensures playing { OnOk result (IsPlaying self.new sites.new.items) }
-        ensures soon { OnOk result (self.new.ticks ≤ self.old.ticks + 13) }
-        ensures len { length sites.new.items ≡ length sites.old.items }
-    {
-        let name = self.next_name(session);
-        let answer = self.answer(alloc, sites, name, call)?;
-        let begin = self.ticks + 1;
-        let end = begin + lasts(&answer);
-        let made = CallRec {
-            name,
-            call: copied(call)?,
-            begin,
-            end: Some(end),
-            answer: Some(answer),
-        };
-        self.add(made)?;
-        self.ticks = end;
-        Ok(())
-    }
-
-    // The name of a session's next call.
-    fn next_name(&self, session: Session) -> PutName
-        requires counted { IsCounted self.now }
-        requires few { length self.now.calls.items + 1 < 2 ^ 32 }
-        ensures { result ≡ record { session = session; seq = begun session self.now.calls.items + 1 } }
-    {
-        PutName {
-            session,
-            seq: self.begun(session) + 1,
-        }
-    }
-
-    // How many calls the session began.
-    fn begun(&self, session: Session) -> u32
-        requires { IsCounted self.now }
-        ensures exact { result ≡ begun session self.now.calls.items }
-        ensures few { result ≤ length self.now.calls.items }
-    {
-        match self.begun.get(&session) {
-            Some(begun) => *begun,
-            None => 0,
-        }
-    }
-
-    // Adds a call at the end, and counts it for its session.
-    fn add(&mut self, made: CallRec) -> Result<(), AllocError>
-        requires counted { IsCounted self.old }
-        requires next { made.name.seq ≡ begun made.name.session self.old.calls.items + 1 }
-        ensures ticks { self.new.ticks ≡ self.old.ticks }
-        ensures added { OnOk result (self.new.calls.items ≡ self.old.calls.items ++ made ∷ []) }
-        ensures counted { OnOk result (IsCounted self.new) }
-    {
-        let name = made.name;
-        self.calls.push(made)?;
-        self.begun.insert(name.session, name.seq)?;
-        Ok(())
-    }
-
-    // The answer of the next call, over the sites that hold the calls so far.
-    fn answer(
-        &self,
-        alloc: Global,
-        sites: &mut Vec<MemSite>,
-        name: PutName,
-        call: &Call,
-    ) -> Result<Answer, AllocError>
-        requires holds { ThreeHold self.now.calls.items sites.old.items }
-        requires few { length self.now.calls.items < 2 ^ 32 }
-        requires bounded { IsBoundedCall call.now }
-        ensures answer { IfOk result (λ answer. answer ≡ answer_to self.now.calls.items call.now) }
-        ensures holds { (c : CallRec) → c.name ≡ name → c.call ≡ call.now → OnOk result (ThreeHold (self.now.calls.items ++ c ∷ []) sites.new.items) }
-        ensures len { length sites.new.items ≡ length sites.old.items }
-    {
-        match call {
-            Call::Put { key, bytes } => {
-                let bytes = Items::from_slice(alloc, bytes.as_slice())?;
-                let value = Value::Put(PutValue { name, bytes });
-                let version = put(alloc, sites, key, &value)?;
-                Ok(Answer::Ok { version })
-            }
-            Call::Get { key } => {
-                let answer = get(alloc, sites, key)?;
-                Ok(answer)
-            }
-        }
-    }
-}
-
-// A copy of a call.
-fn copied(call: &Call) -> Result<Call, AllocError>
-    ensures { IfOk result (λ copy. copy ≡ call.now) }
-{
-    call.clone()
-}
-
-// How many ticks a call takes after its beginning, by its answer: a delivery and a reply of each request.
-fn lasts(answer: &Answer) -> u32
-    ensures exact { result ≡ lasts answer.now }
-    ensures most { result ≤ 12 }
-{
-    match answer {
-        Answer::Ok { .. } => 12,
-        Answer::Bytes { .. } => 6,
-        Answer::Absent => 4,
-        _ => 0,
-    }
-}
-
-/// Plays the lines in their order, over three sites that hold nothing and never fail.
-pub fn play(alloc: Global, sites: &mut Vec<MemSite>, lines: &[Line]) -> Result<Replay, AllocError>
-    requires holds { ThreeHold [] sites.old.items }
-    requires few { length lines.now ≤ 65537 }
+/// Opens a world over the sites, plays the lines in it, and writes its log.
+pub fn replay_lines<O: Sink, S: Site>(
+    alloc: Global,
+    lines: &[Line],
+    out: &mut O,
+    bench: &mut Bench<S>,
+) -> Status
+    requires fresh { AreFresh S.told bench.old.sites.items }
     requires bounded { All IsBounded lines.now }
-    ensures played { IfOk result (λ replay. play_of replay ≡ played lines.now) }
-    ensures holds { IfOk result (λ replay. ThreeHold replay.calls.items sites.new.items) }
+    ensures cause { PlayCause (O.faults out.old) (O.faults out.new) result }
+    ensures done { result ≡ Status.Done → Leaves S.told bench.old.sites.items (Plays lines.now) bench.new.world (λ w. Whole (O.written out.old) (log_of_world w) (O.written out.new)) }
+    ensures unwritten { result ≡ Status.SinkFault → Leaves S.told bench.old.sites.items (Plays lines.now) bench.new.world (λ w. IsSomePart (O.written out.old) (log_of_world w) (O.written out.new)) }
+    ensures full { (events held : ℕ) → result ≡ Status.Full events held → Leaves S.told bench.old.sites.items (PlaysInPart lines.now) bench.new.world (IsFilled events held) × (O.written out.new ≡ O.written out.old) }
+    ensures some { Leaves S.told bench.old.sites.items (PlaysSome lines.now) bench.new.world (λ w. IsSomePart (O.written out.old) (log_of_world w) (O.written out.new)) }
+    ensures reached { IfSome bench.new.world (λ w. IsReachedBy S.told w) }
+    ensures legal { AllTellAt S.told bench.old.sites.items → IfSome bench.new.world (λ w. IsLegal w.calls.items) }
+    ensures agreed { AllTellAt S.told bench.old.sites.items → IfSome bench.new.world (λ w. AgreesBy S.told w) }
 {
-    let mut replay = Replay::new(alloc);
-    for line in lines {
-        replay.step(alloc, sites, line)?;
+    let mut world = open(alloc, bench);
+    let status = play_and_write(alloc, lines, out, &mut world);
+    bench.world = Some(world);
+    status
+}
+
+// A world over the sites of the bench, of which there are enough.
+fn open<S: Site>(alloc: Global, bench: &mut Bench<S>) -> World<S>
+    requires { AreFresh S.told bench.old.sites.items }
+    ensures opened { IsOpened default bench.old.sites.items result }
+    ensures fits { IsFitting result }
+{
+    let sites = mem::replace(&mut bench.sites, Vec::new(alloc));
+    match World::open(alloc, Config::DEFAULT, sites) {
+        Ok(world) => world,
+        Err(_) => unreachable!(),
     }
-    Ok(replay)
+}
+
+// Plays the lines, and writes the log of the world.
+fn play_and_write<O: Sink, S: Site>(
+    alloc: Global,
+    lines: &[Line],
+    out: &mut O,
+    world: &mut World<S>,
+) -> Status
+    requires fits { IsFitting world.old }
+    requires bounded { All IsBounded lines.now }
+    ensures cause { PlayCause (O.faults out.old) (O.faults out.new) result }
+    ensures plays { HasPlayed result → ChangesBy S.told (Plays lines.now) world.old world.new }
+    ensures some { ChangesBy S.told (PlaysSome lines.now) world.old world.new }
+    ensures full { (events held : ℕ) → result ≡ Status.Full events held → ChangesBy S.told (PlaysInPart lines.now) world.old world.new × IsFilled events held world.new × (O.written out.new ≡ O.written out.old) }
+    ensures done { result ≡ Status.Done → Whole (O.written out.old) (log_of_world world.new) (O.written out.new) }
+    ensures part { IsSomePart (O.written out.old) (log_of_world world.new) (O.written out.new) }
+{
+    match play(lines, world) {
+        Ok(()) => write_log(alloc, world, out),
+        Err(ApplyError::Full) => filled(world),
+        Err(ApplyError::NoMemory) => Status::NoMemory,
+    }
+}
+
+// The status of a world that takes no more events.
+fn filled<S: Site>(world: &World<S>) -> Status
+    requires { IsFitting world.now }
+    ensures { result ≡ Status.Full (length world.now.journal.items) world.now.held }
+{
+    Status::Full {
+        events: events(world),
+        held: world.held,
+    }
+}
+
+// Writes the log of a world.
+fn write_log<O: Sink, S: Site>(alloc: Global, world: &World<S>, out: &mut O) -> Status
+    requires { IsFitting world.now }
+    ensures cause { WriteCause (O.faults out.old) (O.faults out.new) result }
+    ensures done { result ≡ Status.Done → Whole (O.written out.old) (log_of_world world.now) (O.written out.new) }
+    ensures part { IsSomePart (O.written out.old) (log_of_world world.now) (O.written out.new) }
+{
+    let events = events(world);
+    let skipped = skipped(world.journal.as_slice());
+    match log_text(alloc, world.calls.as_slice(), events, skipped) {
+        Ok(log) => write(out, log.as_slice()),
+        Err(_) => Status::NoMemory,
+    }
+}
+
+// How many events there were.
+fn events<S: Site>(world: &World<S>) -> u32
+    requires { IsFitting world.now }
+    ensures exact { result ≡ length world.now.journal.items }
+    ensures few { length world.now.journal.items ≤ 4000000 }
+{
+    world.journal.len() as u32
+}
+
+// How many events were skipped.
+fn skipped(journal: &[Entry]) -> u32
+    requires { length journal.now ≤ 4000000 }
+    ensures { result ≡ count_by is_skipped journal.now }
+{
+    let mut skipped = 0;
+    for entry in journal {
+        if was_skipped(entry.outcome) {
+            skipped += 1;
+        }
+    }
+    skipped
+}
+
+fn was_skipped(outcome: Outcome) -> bool
+    ensures { result ≡ was_skipped outcome }
+{
+    match outcome {
+        Outcome::Done => false,
+        Outcome::Skipped { .. } => true,
+    }
 }

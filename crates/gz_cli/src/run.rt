@@ -1,58 +1,59 @@
 //! The top call of the program.
-ghost use Rattle.std.specs.Prelude.{◌≡◌, ◌↔◌, ◌≤◌, ◌⊎◌, List, ℕ, length, All, OnOk, None};
-ghost use Rattle.gz_script.specs.Schedule.{IsBounded};
-ghost use Rattle.gz_history.specs.Log.{log_of};
+ghost use Rattle.std.specs.Prelude.{◌≡◌, ◌↔◌, ◌⊎◌, ℕ, None, IfSome};
 ghost use Rattle.gz_history.specs.Legal.{IsLegal};
+ghost use Rattle.gz_script.specs.Plays.{Plays, PlaysInPart};
 ghost use Rattle.gz_site.specs.Files.{IsSomePart};
+ghost use Rattle.gz_world.specs.Told.{IsReachedBy};
 ghost use Rattle.gz_cli.specs.Words.{task_in};
-ghost use Rattle.gz_cli.specs.Replays.{played, ThreeHold};
-ghost use Rattle.gz_cli.specs.Runs.{AreFresh, Cause, RunCause, Replayed, Writes, IsCutShort, IsCut, IsFeasible, AreSteady, IsCode, HasReplayed, GetsLatest, RowsHold, IsRefusal, Whole, WriteCause, HasPlayed};
+ghost use Rattle.gz_cli.specs.Worlds.{AreFresh, AllTellAt, AgreesBy, PlaysSome, IsFilled, log_of_world};
+ghost use Rattle.gz_cli.specs.Runs.{Cause, RunCause, Replays, Writes, Fills, IsCutShort, IsCut, IsFeasible, AreSteady, IsAnswered, IsCode, IsRefusal, Whole};
 
 use crate::bench::Bench;
 use crate::load::load;
-use crate::output::write;
 use crate::pieces::write_pieces;
-use crate::replay::play;
+use crate::replay::replay_lines;
 use crate::status::Status;
 use crate::words::{Command, command_of};
 use gz_core::Word;
-use gz_history::log_text;
-use gz_script::Line;
-use gz_site::{Shelf, Sink};
+use gz_site::{Shelf, Sink, Site};
 use std::alloc::Global;
 
-/// Does what the words ask for: replays a schedule and writes the log of its calls, or cuts bytes into pieces and
-/// writes a line for each.
+/// Does what the words ask for: plays a schedule in a world over the bench's sites and writes the log of its calls, or
+/// cuts bytes into pieces and writes a line for each.
 ///
-/// A refusal leaves the bench as it was, and writes nothing. After a fault of the sink the calls stand and some
-/// first part of the output was written; after want of memory no more is said of the bench.
-pub fn run<F: Shelf, O: Sink>(
+/// A refusal leaves the bench as it was, and writes nothing. Once a world was opened, the bench holds it, with the sites
+/// in it.
+pub fn run<F: Shelf, O: Sink, S: Site>(
     alloc: Global,
     words: &[Word],
     shelf: &mut F,
     out: &mut O,
-    bench: &mut Bench,
+    bench: &mut Bench<S>,
 ) -> Status
-    requires { AreFresh bench.old.sites.items }
+    requires fresh { AreFresh S.told bench.old.sites.items }
+    requires closed { bench.old.world ≡ None }
 
     // Each status has its cause, and comes nowhere else.
     ensures usage { (result ≡ Status.Usage) ↔ (task_in words.now ≡ None) }
     ensures cause { RunCause (task_in words.now) (F.files shelf.old) (record { faults = F.faults shelf.old; absences = F.absences shelf.old; excesses = F.excesses shelf.old; sink = O.faults out.old }) (record { faults = F.faults shelf.new; absences = F.absences shelf.new; excesses = F.excesses shelf.new; sink = O.faults out.new }) result }
-    ensures complete { IsFeasible (task_in words.now) (F.files shelf.old) → AreSteady (record { faults = F.faults shelf.old; absences = F.absences shelf.old; excesses = F.excesses shelf.old; sink = O.faults out.old }) (record { faults = F.faults shelf.new; absences = F.absences shelf.new; excesses = F.excesses shelf.new; sink = O.faults out.new }) → (result ≡ Status.Done) ⊎ (result ≡ Status.NoMemory) }
+    ensures complete { IsFeasible (task_in words.now) (F.files shelf.old) → AreSteady (record { faults = F.faults shelf.old; absences = F.absences shelf.old; excesses = F.excesses shelf.old; sink = O.faults out.old }) (record { faults = F.faults shelf.new; absences = F.absences shelf.new; excesses = F.excesses shelf.new; sink = O.faults out.new }) → IsAnswered result }
 
-    // What Done means: the calls of the lines and their whole log, or the whole text of the pieces.
-    ensures done { result ≡ Status.Done → Writes (task_in words.now) (F.files shelf.old) bench.new.calls.items (λ text. Whole (O.written out.old) text (O.written out.new)) }
-    ensures gets { HasReplayed (task_in words.now) result → GetsLatest bench.new.calls.items }
-    ensures legal { HasReplayed (task_in words.now) result → IsLegal bench.new.calls.items }
-    ensures rows { HasReplayed (task_in words.now) result → RowsHold bench.new.calls.items bench.new.sites.items }
+    // What Done means: the lines were played and the whole log of their world written, or the whole text of the pieces.
+    ensures done { result ≡ Status.Done → Writes S.told (task_in words.now) (F.files shelf.old) bench.old.sites.items bench.new.world (λ text. Whole (O.written out.old) text (O.written out.new)) }
+
+    // What holds of the world that is left, whatever the status.
+    ensures reached { IfSome bench.new.world (λ w. IsReachedBy S.told w) }
+    ensures legal { AllTellAt S.told bench.old.sites.items → IfSome bench.new.world (λ w. IsLegal w.calls.items) }
+    ensures agreed { AllTellAt S.told bench.old.sites.items → IfSome bench.new.world (λ w. AgreesBy S.told w) }
 
     // A code reads no file, and leaves the bench as it was.
     ensures untouched { IsCode (task_in words.now) → (shelf.new ≡ shelf.old) × (bench.new ≡ bench.old) }
 
     // What stands after another status.
     ensures refused { IsRefusal result → (bench.new ≡ bench.old) × (O.written out.new ≡ O.written out.old) }
-    ensures unwritten { result ≡ Status.SinkFault → Writes (task_in words.now) (F.files shelf.old) bench.new.calls.items (λ text. IsSomePart (O.written out.old) text (O.written out.new)) }
-    ensures memory { result ≡ Status.NoMemory → IsCut (task_in words.now) (F.files shelf.old) (O.written out.old) (O.written out.new) }
+    ensures full { (events held : ℕ) → result ≡ Status.Full events held → Fills S.told (task_in words.now) (F.files shelf.old) bench.old.sites.items bench.new.world events held × (O.written out.new ≡ O.written out.old) }
+    ensures unwritten { result ≡ Status.SinkFault → Writes S.told (task_in words.now) (F.files shelf.old) bench.old.sites.items bench.new.world (λ text. IsSomePart (O.written out.old) text (O.written out.new)) }
+    ensures memory { result ≡ Status.NoMemory → IsCut S.told (task_in words.now) (F.files shelf.old) bench.old.sites.items bench.new.world (O.written out.old) (O.written out.new) }
 {
     match command_of(words) {
         None => Status::Usage,
@@ -62,48 +63,27 @@ pub fn run<F: Shelf, O: Sink>(
 }
 
 // Replays the schedule of a name, and writes the log of its calls.
-fn replay<F: Shelf, O: Sink>(
+fn replay<F: Shelf, O: Sink, S: Site>(
     alloc: Global,
     schedule: &Word,
     shelf: &mut F,
     out: &mut O,
-    bench: &mut Bench,
+    bench: &mut Bench<S>,
 ) -> Status
-    requires { AreFresh bench.old.sites.items }
+    requires fresh { AreFresh S.told bench.old.sites.items }
+    requires closed { bench.old.world ≡ None }
     ensures cause { Cause (F.files shelf.old) schedule.now (record { faults = F.faults shelf.old; absences = F.absences shelf.old; excesses = F.excesses shelf.old; sink = O.faults out.old }) (record { faults = F.faults shelf.new; absences = F.absences shelf.new; excesses = F.excesses shelf.new; sink = O.faults out.new }) result }
-    ensures done { result ≡ Status.Done → Replayed (F.files shelf.old) schedule.now bench.new.calls.items (λ log. Whole (O.written out.old) log (O.written out.new)) }
-    ensures gets { HasPlayed result → GetsLatest bench.new.calls.items }
-    ensures legal { HasPlayed result → IsLegal bench.new.calls.items }
-    ensures rows { HasPlayed result → RowsHold bench.new.calls.items bench.new.sites.items }
+    ensures done { result ≡ Status.Done → Replays S.told Plays (F.files shelf.old) schedule.now bench.old.sites.items bench.new.world (λ w. Whole (O.written out.old) (log_of_world w) (O.written out.new)) }
+    ensures reached { IfSome bench.new.world (λ w. IsReachedBy S.told w) }
+    ensures legal { AllTellAt S.told bench.old.sites.items → IfSome bench.new.world (λ w. IsLegal w.calls.items) }
+    ensures agreed { AllTellAt S.told bench.old.sites.items → IfSome bench.new.world (λ w. AgreesBy S.told w) }
     ensures refused { IsRefusal result → (bench.new ≡ bench.old) × (O.written out.new ≡ O.written out.old) }
-    ensures unwritten { result ≡ Status.SinkFault → Replayed (F.files shelf.old) schedule.now bench.new.calls.items (λ log. IsSomePart (O.written out.old) log (O.written out.new)) }
-    ensures memory { result ≡ Status.NoMemory → IsCutShort (F.files shelf.old) schedule.now (O.written out.old) (O.written out.new) }
+    ensures full { (events held : ℕ) → result ≡ Status.Full events held → Replays S.told PlaysInPart (F.files shelf.old) schedule.now bench.old.sites.items bench.new.world (IsFilled events held) × (O.written out.new ≡ O.written out.old) }
+    ensures unwritten { result ≡ Status.SinkFault → Replays S.told Plays (F.files shelf.old) schedule.now bench.old.sites.items bench.new.world (λ w. IsSomePart (O.written out.old) (log_of_world w) (O.written out.new)) }
+    ensures memory { result ≡ Status.NoMemory → IsCutShort S.told (F.files shelf.old) schedule.now bench.old.sites.items bench.new.world (O.written out.old) (O.written out.new) }
 {
     match load(alloc, schedule, shelf) {
-        Ok(lines) => play_and_write(alloc, lines.as_slice(), out, bench),
+        Ok(lines) => replay_lines(alloc, lines.as_slice(), out, bench),
         Err(status) => status,
-    }
-}
-
-// Plays the lines over the sites, and writes the log of the calls.
-fn play_and_write<O: Sink>(alloc: Global, lines: &[Line], out: &mut O, bench: &mut Bench) -> Status
-    requires fresh { AreFresh bench.old.sites.items }
-    requires few { length lines.now ≤ 65537 }
-    requires bounded { All IsBounded lines.now }
-    ensures cause { WriteCause (O.faults out.old) (O.faults out.new) result }
-    ensures done { result ≡ Status.Done → Whole (O.written out.old) (log_of (played lines.now).calls (played lines.now).ticks 0) (O.written out.new) }
-    ensures part { IsSomePart (O.written out.old) (log_of (played lines.now).calls (played lines.now).ticks 0) (O.written out.new) }
-    ensures calls { HasPlayed result → bench.new.calls.items ≡ (played lines.now).calls }
-    ensures sites { HasPlayed result → ThreeHold bench.new.calls.items bench.new.sites.items }
-{
-    match play(alloc, &mut bench.sites, lines) {
-        Err(_) => Status::NoMemory,
-        Ok(replay) => {
-            bench.calls = replay.calls;
-            match log_text(alloc, bench.calls.as_slice(), replay.ticks, 0) {
-                Err(_) => Status::NoMemory,
-                Ok(log) => write(out, log.as_slice()),
-            }
-        }
     }
 }

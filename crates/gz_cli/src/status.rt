@@ -15,6 +15,8 @@ pub enum Status {
     FileTooLarge { name: Word },
     /// The first line of the schedule that can't be played, counted from 1.
     BadText { line: u32, why: Why },
+    /// The world took no more events: so many are in its journal, and so many bytes are held.
+    Full { events: u32, held: u64 },
     /// The sink failed.
     SinkFault,
     NoMemory,
@@ -30,6 +32,7 @@ impl Status {
             Status::NoFile { .. } => 4,
             Status::FileTooLarge { .. } => 5,
             Status::BadText { .. } => 7,
+            Status::Full { .. } => 9,
             Status::SinkFault => 11,
             Status::NoMemory => 12,
         }
@@ -57,6 +60,7 @@ impl fmt::Display for Status {
                 let why = word(*why);
                 write!(f, "line {line}: {why}")
             }
+            Status::Full { events, held } => write!(f, "full after {events} events, {held} bytes"),
             Status::SinkFault => write!(f, "cannot write"),
             Status::NoMemory => write!(f, "out of memory"),
         }

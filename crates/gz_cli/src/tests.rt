@@ -4,11 +4,8 @@ ghost use Rattle.std.specs.Prelude.{◌<◌, ◌≤◌, ◌-◌, ◌^◌, length
 use crate::bench::Bench;
 use crate::edge::{FileShelf, StdSink};
 use crate::run::run;
-use gz_core::{
-    Answer, Ballot, Call, Column, Items, Key, PutName, PutValue, Session, Value, Version, Vote,
-    Word,
-};
-use gz_history::CallRec;
+use crate::status::Status;
+use gz_core::{Key, Word};
 use gz_site::{MemShelf, MemSink, RowRead, Shelf, ShelfError, Sink, Site};
 use std::alloc::{AllocError, Global};
 use std::collections::BTreeMap;
@@ -114,16 +111,53 @@ fn each_status_of_a_schedule(rt: HostRuntime) -> Result<(), Fail> {
             "2.1 put b - 3 15 ok 1\n1.1 put b ff 16 28 ok 2\n2.2 get b - 29 35 bytes 2 1.1 ff\nend 3 35 0\n",
         ),
         ("session\ndelete 1 a\n", 7, "line 2: unbuilt", ""),
-        ("session\nput 1 a x:01\n", 7, "line 2: unbuilt", ""),
         ("session\npat 1 a\n", 7, "line 2: unbuilt", ""),
         (
-            "session\nput 2 a x:01\nsettle 2\n",
+            "session\nput 0 a x:01\nsettle 1\n",
             7,
             "line 2: unbuilt",
             "",
         ),
     ] {
         check(&rt, rt.alloc(), &played(text, number, status, log))?;
+    }
+    Ok(())
+}
+
+#[test]
+fn events_in_any_order(rt: HostRuntime) -> Result<(), Fail> {
+    for (text, log) in [
+        (
+            "session\nput 1 a x:01\n",
+            "1.1 put a 01 2 - open\nend 1 2 0\n",
+        ),
+        ("session\nreply 99 1\ncrash 1\ncrash 1\n", "end 0 4 2\n"),
+        (
+            "session\nput 1 a x:0102\ntake 1\ntake 2\ndeliver 4\ndeliver 4\nreply 4 2\nsettle 1\n",
+            "1.1 put a 0102 2 17 ok 1\nend 1 17 0\n",
+        ),
+        (
+            "session\nput 1 a x:0102\nsettle 1 without 1,2\n",
+            "1.1 put a 0102 2 6 noquorum look 1\nend 1 6 0\n",
+        ),
+        (
+            "session\nput 1 a x:0102\ntake 1\ntake 2\ndeliver 4\ndeliver 5\ngiveup 4\ngiveup 5\n",
+            "1.1 put a 0102 2 10 unsure noquorum fast 0\nend 1 10 0\n",
+        ),
+        (
+            "session\nput 1 a x:0102\nsettle 1 without 2\n",
+            "1.1 put a 0102 2 11 unsettled 1\nend 1 11 0\n",
+        ),
+        (
+            "session\nput 1 a x:0102\ntake 1\ntake 2\ntake 3\ndeliver 4\ncrash 1\nsession\nget 2 a\nsettle 2\n",
+            "1.1 put a 0102 2 - open\n2.1 get a - 12 18 unsettled 1\nend 2 18 0\n",
+        ),
+        (
+            "put 2 a x:01\nsession\nput 1 a x:02\nput 1 b x:03\ndrain 1\nreply 1 0\nreply 1 1\nreply 1 1\ndeliver 0\ngiveup 4\n",
+            "1.1 put a 02 3 - open\nend 1 12 6\n",
+        ),
+    ] {
+        check(&rt, rt.alloc(), &played(text, 0, "done", log))?;
     }
     Ok(())
 }
@@ -270,70 +304,8 @@ fn a_sink_of_pieces_fails_in_turn(rt: HostRuntime) -> Result<(), Fail> {
     Ok(())
 }
 
-fn key(alloc: Global) -> Result<Key, Fail> {
-    Ok(Key::new(Vec::from_slice(alloc, b"a")?).ok_or("a key")?)
-}
-
-fn bytes(alloc: Global) -> Result<Items<u8>, AllocError>
-    ensures { IfOk result (λ bytes. length bytes ≤ 2) }
-{
-    Items::from_slice(alloc, &[1, 2])
-}
-
-fn name(seq: u32) -> PutName {
-    PutName {
-        session: Session(1),
-        seq: seq.max(1),
-    }
-}
-
-fn put_call(alloc: Global) -> Result<CallRec, Fail> {
-    Ok(CallRec {
-        name: name(1),
-        call: Call::Put {
-            key: key(alloc)?,
-            bytes: bytes(alloc)?,
-        },
-        begin: 2,
-        end: Some(14),
-        answer: Some(Answer::Ok {
-            version: Version(1),
-        }),
-    })
-}
-
-fn get_call(alloc: Global) -> Result<CallRec, Fail> {
-    Ok(CallRec {
-        name: name(2),
-        call: Call::Get { key: key(alloc)? },
-        begin: 15,
-        end: Some(21),
-        answer: Some(Answer::Bytes {
-            version: Version(1),
-            name: name(1),
-            bytes: bytes(alloc)?,
-        }),
-    })
-}
-
-// The column of a fast vote for the put.
-fn voted(alloc: Global) -> Result<Column, AllocError> {
-    let value = Value::Put(PutValue {
-        name: name(1),
-        bytes: bytes(alloc)?,
-    });
-    let vote = Vote {
-        ballot: Ballot::fast(),
-        value,
-    };
-    Ok(Column::Open {
-        promise: Ballot::fast(),
-        vote: Some(vote),
-    })
-}
-
 #[test]
-fn a_put_and_a_get_leave_calls_and_rows(rt: HostRuntime) -> Result<(), Fail> {
+fn a_put_is_left_at_three_sites(rt: HostRuntime) -> Result<(), Fail> {
     let alloc = rt.alloc();
     let words = vec![in alloc; word(alloc, "replay")?, word(alloc, "s")?]?;
     let mut shelf = shelf(alloc, PUT_GET.as_bytes(), 0)?;
@@ -341,19 +313,31 @@ fn a_put_and_a_get_leave_calls_and_rows(rt: HostRuntime) -> Result<(), Fail> {
     let mut bench = Bench::new(alloc)?;
     let status = run(alloc, words.as_slice(), &mut shelf, &mut out, &mut bench);
     assert_eq!(rt; status.number(), 0);
-    let expected = vec![in alloc; put_call(alloc)?, get_call(alloc)?]?;
-    assert_eq!(rt; bench.calls.as_slice(), expected.as_slice());
-    let columns = vec![in alloc; (Version(1), voted(alloc)?)]?;
-    let key = key(alloc)?;
-    for (at, site) in bench.sites.iter_mut().enumerate() {
-        match site.read_row(alloc, &key) {
-            Ok(RowRead::Row { row, .. }) => {
-                assert!(rt; at < 3);
-                assert_eq!(rt; row.columns(), columns.as_slice());
-            }
-            _ => assert!(rt; at >= 3),
+    assert_eq!(rt; bench.sites.len(), 0);
+    let world = bench.world.ok_or("a world")?;
+    assert_eq!(rt; world.calls.len(), 2);
+    let key = Key::new(Vec::from_slice(alloc, b"a")?).ok_or("a key")?;
+    let mut rows = 0;
+    for mut site in world.into_sites() {
+        if let Ok(RowRead::Row { .. }) = site.read_row(alloc, &key) {
+            rows += 1;
         }
     }
+    assert_eq!(rt; rows, 3);
+    Ok(())
+}
+
+#[test]
+fn a_full_world_is_told(rt: HostRuntime) -> Result<(), Fail> {
+    let full = Status::Full {
+        events: 4_000_000,
+        held: 0,
+    };
+    assert_eq!(rt; full.number(), 9);
+    assert_eq!(rt;
+        full.to_string(rt.alloc())?.as_str(),
+        "full after 4000000 events, 0 bytes"
+    );
     Ok(())
 }
 
