@@ -35,13 +35,14 @@ stands_stage c w past run ms stage h = record {
   met_is = h.met_is;
   voted_is = h.voted_is;
   wrote_is = h.wrote_is;
+  round_is = h.round_is;
   sites = h.sites;
   allowed = h.allowed;
 }
 
 -- the fast ballot of a version begins
 pub votes_acts : (c : Config) (w : Caller) (past : List Tale) (run : Run) (ms : List Moment) (v : ℕ) → Ready c w past run ms → IsGoing c ms → NextMeans c w run ms (Vote v) → Acts c w past (record run { stage = Fast v }) ms
-votes_acts c w past run ms v r going n = record { ready = record { stands = stands_stage c w past run ms (Fast v) r.stands; stage = (n.0, n.2) }; going = going; unmet = n.1 }
+votes_acts c w past run ms v r going n = record { ready = record { stands = stands_stage c w past run ms (Fast v) r.stands; stage = (n.0, n.2, n.3) }; going = going; unmet = n.1 }
 
 -- the row of the value that was learnt has a put's value
 pub learnt_put : (c : Config) (w : Caller) (past : List Tale) (run : Run) (ms : List Moment) (v s : ℕ) → Stands c w past run ms → IsFound c w run ms v s → IsKnownPut run s v

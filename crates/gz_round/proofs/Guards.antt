@@ -49,7 +49,7 @@ classic_version : (x : Name) (v u : ℕ) (b : BallotAt) (value : Value) → pass
 classic_version x v u b value h = vote_version x v u value h
 
 -- a call votes at no other version while it votes at one
-clear_vote : (c : Config) (x : Name) (ms : List Moment) (a : Asked) (v : ℕ) → ((u : ℕ) → passes_sent (λ k. k == u) (of_step (vote_by x) a.op) ≡ true → v ≡ u) → IsClear c x ms v → IsClear c x (Sent a ∷ ms) v
+pub clear_vote : (c : Config) (x : Name) (ms : List Moment) (a : Asked) (v : ℕ) → ((u : ℕ) → passes_sent (λ k. k == u) (of_step (vote_by x) a.op) ≡ true → v ≡ u) → IsClear c x ms v → IsClear c x (Sent a ∷ ms) v
 clear_vote c x ms a v only clear u n h =
     elim (or_cases (passes_sent (λ k. k == u) (of_step (vote_by x) a.op)) (voted_at x ms u) h) [
       | inl e ↦ absurd (n (sym (only u e)))
@@ -61,7 +61,7 @@ only_vote : (x : Name) (op : Op) (v : ℕ) (value : Value) (u : ℕ) → IsOf op
 only_vote x (ReadRow key) v value u is h = absurd (false≢true h)
 only_vote x (WriteRow key expect step row) v value u is h = vote_version x v u value (subst (λ s. passes_sent (λ k. k == u) (vote_by x s) ≡ true) (sym (same_Some (FastVote v value) step (is.writes step refl))) h)
 
-only_classic : (x : Name) (op : Op) (v : ℕ) (b : BallotAt) (value : Value) (u : ℕ) → IsOf op (Some (ClassicVote v b value)) → passes_sent (λ k. k == u) (of_step (vote_by x) op) ≡ true → v ≡ u
+pub only_classic : (x : Name) (op : Op) (v : ℕ) (b : BallotAt) (value : Value) (u : ℕ) → IsOf op (Some (ClassicVote v b value)) → passes_sent (λ k. k == u) (of_step (vote_by x) op) ≡ true → v ≡ u
 only_classic x (ReadRow key) v b value u is h = absurd (false≢true h)
 only_classic x (WriteRow key expect step row) v b value u is h = classic_version x v u b value (subst (λ s. passes_sent (λ k. k == u) (vote_by x s) ≡ true) (sym (same_Some (ClassicVote v b value) step (is.writes step refl))) h)
 
@@ -73,7 +73,7 @@ fast_kept c w ms a v value is h = record {
   clear = clear_vote c w.name ms a v (λ (u : ℕ) (k : passes_sent (λ z. z == u) (of_step (vote_by w.name) a.op) ≡ true). only_vote w.name a.op v value u is k) h.clear;
 }
 
-promise_sent : (op : Op) (v : ℕ) (b : BallotAt) → IsOf op (Some (Promise v b)) → (of_step promise_by op ≡ None) ⊎ (of_step promise_by op ≡ Some (v, b))
+pub promise_sent : (op : Op) (v : ℕ) (b : BallotAt) → IsOf op (Some (Promise v b)) → (of_step promise_by op ≡ None) ⊎ (of_step promise_by op ≡ Some (v, b))
 promise_sent (ReadRow key) v b is = inl refl
 promise_sent (WriteRow key expect step row) v b is = inr (sym (ap (λ o. of_some promise_by o) (is.writes step refl)))
 
@@ -91,9 +91,9 @@ own_promise ms a v b (inl e) (inl h) = inl (ap (λ o. passes_sent (λ p. same_ba
 own_promise ms a v b (inr e) (inl h) = inr (ap (λ o. or_earlier o (last_promise ms)) e)
 own_promise ms a v b k (inr h) = inr (last_promised (of_step promise_by a.op) (last_promise ms) v b k h)
 
-pub promise_kept : (c : Config) (w : Caller) (past : List Tale) (ms : List Moment) (a : Asked) (v : ℕ) (b : BallotAt) → IsOf a.op (Some (Promise v b)) → MayPromise c w past ms v b → MayPromise c w past (Sent a ∷ ms) v b
-promise_kept c w past ms a v b is h =
-    let sent : (of_step promise_by a.op ≡ None) ⊎ (of_step promise_by a.op ≡ Some (v, b)) = promise_sent a.op v b is in
+-- where a request promises this ballot at the version, or none
+pub promise_still : (c : Config) (w : Caller) (past : List Tale) (ms : List Moment) (a : Asked) (v : ℕ) (b : BallotAt) → (of_step promise_by a.op ≡ None) ⊎ (of_step promise_by a.op ≡ Some (v, b)) → MayPromise c w past ms v b → MayPromise c w past (Sent a ∷ ms) v b
+promise_still c w past ms a v b sent h =
     record {
       above = h.above;
       classic = h.classic;
@@ -106,6 +106,9 @@ promise_kept c w past ms a v b is h =
           let old : has_promised_at ms v d ≡ true = promised_before (of_step promise_by a.op) v b d (has_promised_at ms v d) sent n k in
           cond-false (is_promise v d (of_step promise_by a.op)) false (passed_since v d ms) other ∙ h.passed d n old;
     }
+
+pub promise_kept : (c : Config) (w : Caller) (past : List Tale) (ms : List Moment) (a : Asked) (v : ℕ) (b : BallotAt) → IsOf a.op (Some (Promise v b)) → MayPromise c w past ms v b → MayPromise c w past (Sent a ∷ ms) v b
+promise_kept c w past ms a v b is h = promise_still c w past ms a v b (promise_sent a.op v b is) h
 
 cast_sent : (op : Op) (v : ℕ) (b : BallotAt) (value : Value) → IsOf op (Some (ClassicVote v b value)) → (of_step cast_by op ≡ None) ⊎ (of_step cast_by op ≡ cast_by (ClassicVote v b value))
 cast_sent (ReadRow key) v b value is = inl refl

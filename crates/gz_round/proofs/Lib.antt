@@ -4,6 +4,7 @@ pub mod Heard
 pub mod Columns
 pub mod Known
 pub mod Guards
+pub mod Stages
 pub mod Sends
 pub mod Serves
 pub mod Follows

@@ -25,6 +25,7 @@ use Rattle.gz_round.specs.Following.{Asks, MayMakeOf, IsServed, AreServed, IsSet
 use Rattle.gz_round.proofs.Moments.{is_to_same, is_to_other, now_here, now_other, sent_append}
 use Rattle.gz_round.proofs.Known.{last_known, known_last}
 use Rattle.gz_round.proofs.Guards.{may_kept_of}
+use Rattle.gz_round.proofs.Stages.{held_kept_of}
 use Rattle.gz_round.proofs.Sends.{Kind, reads, writes, asked_kind, kind_site, kind_of, kind_may, stands_sent, undone_means, etag_last}
 
 write_none : (run : Run) (at : ℕ) (etag : Option ℕ) (step : RowStep) (o : Option RowAt) → write_out run at etag step o ≡ None → o ≡ None
@@ -133,6 +134,7 @@ asked_some c w past run ms step at number out l h p =
       asks = record {
         stands = stands_sent c w past run ms at number out l here p.asks.stands may;
         may = may_kept_of c w past ms (asked_of number out) step (kind_of run at (mark_of (site_now ms at)) step (known (site_now ms at)) out k.2) p.asks.may;
+        held = held_kept_of c w past ms (asked_of number out) step (kind_of run at (mark_of (site_now ms at)) step (known (site_now ms at)) out k.2) p.asks.held;
       };
       served = λ (s : ℕ) (i : s < at + 1). elim (cases_eq s at) [
         | inl e ↦ subst (IsServed w (Sent (asked_of number out) ∷ ms) step) (sym e) (served_some w run ms at number step out p.asks.stands.key_is k.2)

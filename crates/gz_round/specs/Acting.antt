@@ -101,6 +101,20 @@ is_overtaken_in run (Accept v b x) = list_any (above_known v b) run.rows
 abbrev pub is_overtaken : Run → Bool
 is_overtaken run = is_overtaken_in run run.stage
 
+-- fewer known rows than a quorum promise the ballot that is prepared
+abbrev pub IsShortIn : Config → List (Option RowAt) → Stage → Type 0
+IsShortIn c rows Look = Unit {0}
+IsShortIn c rows (Fast v) = Unit {0}
+IsShortIn c rows (Prepare v b) = count_by (promises_known v b) rows < c.qc
+IsShortIn c rows (Accept v b x) = Unit {0}
+
+-- no known row promises a ballot above the one of the phase
+abbrev pub IsAheadIn : List (Option RowAt) → Stage → Type 0
+IsAheadIn rows Look = Unit {0}
+IsAheadIn rows (Fast v) = Unit {0}
+IsAheadIn rows (Prepare v b) = list_any (above_known v b) rows ≡ false
+IsAheadIn rows (Accept v b x) = list_any (above_known v b) rows ≡ false
+
 -- the step of the phase is made
 pub record Steps (c : Config) (w : Caller) (past : List Tale) (run : Run) (ms : List Moment) : Type 0 where
   pub carries : Carries c w past run ms
@@ -114,8 +128,8 @@ pub record RunsOut (c : Config) (w : Caller) (past : List Tale) (run : Run) (ms 
   pub stands : Stands c w past run ms
   pub stage : StageStands c w past run.stage ms
   pub going : IsGoing c ms
-  pub few : IsFewIn c run run.stage
-  pub ahead : is_overtaken run ≡ false
+  pub short : IsShortIn c run.rows run.stage
+  pub ahead : IsAheadIn run.rows run.stage
   pub above : 1 ≤ working_version run
   pub none : NoEvidence c ms (working_version run)
   pub idle : (s : ℕ) → s < c.n → (site_now ms s).awaits ≡ None
