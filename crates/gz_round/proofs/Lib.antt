@@ -12,6 +12,7 @@ pub mod Endings
 pub mod Passes
 pub mod Turns
 pub mod Arms
+pub mod Proposals
 pub mod Replies
 pub mod Starts
 pub mod Numbers

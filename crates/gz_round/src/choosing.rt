@@ -1,20 +1,16 @@
 //! The value that a put proposes in a classic ballot, once a quorum promises it. (Lamport 2006, "Fast Paxos", section
 //! 2.2.)
-ghost use Rattle.std.specs.Prelude.{◌≡◌, ◌≤◌, ◌<◌, ◌+◌, ◌^◌, ◌||◌, List, ◌∷◌, [], length, nat_lt, count_by, slice_get, Some, IfOk, OnOk, IsSome, MatchOption};
+ghost use Rattle.std.specs.Prelude.{◌≡◌, ◌≤◌, ◌<◌, ◌+◌, ◌^◌, ◌||◌, List, Option, length, slice_get, Some, IfOk, OnOk, IsSome, MatchOption};
 ghost use Rattle.std.specs.List.{All};
 ghost use Rattle.gz_core.specs.Rows.{RowAt};
 ghost use Rattle.gz_core.specs.Names.{BallotAt};
 ghost use Rattle.gz_core.specs.Slots.{slots, slot_of, vote_pair, OpenAt};
 ghost use Rattle.gz_core.specs.Configurations.{IsConfig};
-ghost use Rattle.gz_core.specs.declared.rows.Vote.{Vote};
-ghost use Rattle.gz_pick.specs.Looks.{cast_of};
-ghost use Rattle.gz_pick.specs.Choices.{pick_of, AreSites};
+ghost use Rattle.gz_core.specs.declared.configuration.Config.{Config};
+ghost use Rattle.gz_pick.specs.Choices.{AreSites};
 ghost use Rattle.gz_pick.specs.Evidences.{is_in};
-ghost use Rattle.gz_pick.specs.declared.heard.Heard.{Heard};
 ghost use Rattle.gz_round.specs.History.{Moment, Caller, Tale};
-ghost use Rattle.gz_round.specs.Rounds.{promises_known, slot_promises};
 ghost use Rattle.gz_round.specs.Causes.{row_value};
-ghost use Rattle.gz_round.specs.Standing.{IsKept};
 ghost use Rattle.gz_round.specs.Acting.{Acts, CanAct, Carries, IsFewIn};
 ghost use Rattle.gz_round.specs.Choosing.{slot_vote, heard_vote, IsHeardIn, AreHeardIn, IsProposed};
 
@@ -57,8 +53,11 @@ impl Run {
         ensures { IfOk result (λ next. (w : Caller) (past : List Tale) (ms : List Moment) → Acts config.now w past self.now ms
             → MatchOption next (IsFewIn config.now self.now self.now.stage) (λ stage. Carries config.now w past (record self.now { stage = stage }) ms)) }
     {
+        if self.round < ballot.round {
+            return Ok(None);
+        }
         let heard = self.promises(alloc, config, version, ballot)?;
-        if self.round < ballot.round || heard.len() < config.qc as usize {
+        if heard.len() < config.qc as usize {
             return Ok(None);
         }
         let value = self.proposal(config, version, &heard)?;
@@ -126,11 +125,30 @@ impl Run {
     {
         let mut heard = Items::new(alloc);
         for at in 0..config.n as usize {
-            if let Some(vote) = promise_of(self.rows.at(at), version, ballot) {
-                heard.push(Heard { site: SiteId(at as u8), vote })?;
-            }
+            note_promise(&mut heard, at, self.rows.at(at), version, ballot)?;
         }
         Ok(heard)
+    }
+}
+
+/// Adds a site whose row promises a ballot at a version, and has no vote of it there.
+fn note_promise(
+    heard: &mut Items<Heard>,
+    at: usize,
+    row: &Option<Row>,
+    version: Version,
+    ballot: Ballot,
+) -> Result<(), AllocError>
+    requires { at < 16 }
+    ensures { OnOk result ((c : Config) (rows : List (Option RowAt)) → at < c.n → slice_get rows at ≡ Some row.now
+        → AreHeardIn c rows version ballot heard.old at → AreHeardIn c rows version ballot heard.new (at + 1)) }
+{
+    match promise_of(row, version, ballot) {
+        None => Ok(()),
+        Some(vote) => heard.push(Heard {
+            site: SiteId(at as u8),
+            vote,
+        }),
     }
 }
 
