@@ -11,6 +11,8 @@ pub mod Follows
 pub mod Endings
 pub mod Passes
 pub mod Turns
+pub mod GivingIn
+pub mod Prepares
 pub mod Arms
 pub mod Proposals
 pub mod Replies

@@ -1,6 +1,6 @@
 -- What a call does at an event, once what came was noted.
 use Rattle.std.specs.Prelude.{ℕ, ◌≡◌, ◌≢◌, ◌≤◌, ◌<◌, ◌+◌, ◌^◌, ◌⊎◌, ◌||◌, nat_lt, max, Bool, true, false, List, [], ◌∷◌, if◌then◌else◌, Option, Some, None, is_some, slice_get}
-use Rattle.gz_core.specs.Names.{BallotAt}
+use Rattle.gz_core.specs.Names.{BallotAt, IsClassic}
 use Rattle.gz_core.specs.Calls.{own_value}
 use Rattle.gz_core.specs.Rows.{RowAt}
 use Rattle.gz_core.specs.declared.values.Value.{Value}
@@ -157,9 +157,14 @@ round_in v [] = 0
 round_in v (row ∷ rows) = max (round_known v row) (round_in v rows)
 
 -- the ballot to prepare: one round above those that the session used or known rows promise; none where no round is left
+pub record IsBallotAbove (run : Run) (v : ℕ) (b : BallotAt) : Type 0 where
+  pub round : b.round ≡ max run.round (round_in v run.rows) + 1
+  pub session : b.session ≡ run.name.session
+  pub classic : IsClassic b
+
 abbrev pub IsNextBallot : Run → ℕ → Option BallotAt → Type 0
 IsNextBallot run v None = 2 ^ 31 ≤ max run.round (round_in v run.rows) + 1
-IsNextBallot run v (Some b) = (b.round ≡ max run.round (round_in v run.rows) + 1) × (b.session ≡ run.name.session)
+IsNextBallot run v (Some b) = IsBallotAbove run v b
 
 -- the call's value is chosen at the version
 pub record Finishes (c : Config) (w : Caller) (past : List Tale) (run : Run) (ms : List Moment) (v : ℕ) : Type 0 where
