@@ -56,6 +56,7 @@ impl Client {
         let mut run = Run::start(alloc, &self.config, name, call, self.round)?;
         let send = run.open(alloc, &self.config, first)?;
         self.calls += 1;
+        self.round = run.round;
         self.run = Some(run);
         Ok(Turn { send, answer: None })
     }

@@ -40,7 +40,7 @@ count_all : (n : ℕ) → count_sites n (λ s. true) ≡ n
 count_all zero = refl
 count_all (suc n) = ap suc (count_all n)
 
-count_none : (n : ℕ) → count_sites n (λ s. false) ≡ 0
+pub count_none : (n : ℕ) → count_sites n (λ s. false) ≡ 0
 count_none zero = refl
 count_none (suc n) = count_none n
 

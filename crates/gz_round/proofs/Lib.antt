@@ -13,6 +13,7 @@ pub mod Passes
 pub mod Turns
 pub mod GivingIn
 pub mod Prepares
+pub mod Opens
 pub mod Arms
 pub mod Proposals
 pub mod Replies

@@ -51,7 +51,7 @@ use Rattle.gz_round.proofs.Columns.{top_highest, highest_reached}
 use Rattle.gz_round.proofs.Sends.{known_after_sent, out_after_sent}
 
 -- what one request more leaves holds after all requests of an event
-over_sent : (P : List Moment → Type 0) → ((a : Asked) (ms : List Moment) → P ms → P (Sent a ∷ ms)) → (first : ℕ) (outs : List Out) (ms : List Moment) → P ms → P (sent_from first outs ms)
+pub over_sent : (P : List Moment → Type 0) → ((a : Asked) (ms : List Moment) → P ms → P (Sent a ∷ ms)) → (first : ℕ) (outs : List Out) (ms : List Moment) → P ms → P (sent_from first outs ms)
 over_sent P step first [] ms h = h
 over_sent P step first (o ∷ os) ms h = over_sent P step (first + 1) os (Sent (asked_of first o) ∷ ms) (step (asked_of first o) ms h)
 

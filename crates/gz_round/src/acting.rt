@@ -33,7 +33,8 @@ impl Run {
         ensures { IfOk result (λ send. (w : Caller) (past : List Tale) → Ready config.now w past self.old []
             → Runs config.now w past self.new (sent_from first send [])) }
     {
-        self.first_pass(alloc, config, &None, first)
+        let send = self.first_pass(alloc, config, &None, first)?;
+        Ok(send)
     }
 
     /// All that the call does at an event, once what came was noted.

@@ -23,7 +23,7 @@ pub struct Mark {
 
 /// The phase of a call. `Look` reads every site; `Fast` votes in the fast ballot of a version; `Prepare` asks for
 /// promises of a classic ballot, and `Accept` votes in it for a value that the promises allow.
-#[derive(Clone, Debug, Drop)]
+#[derive(Debug, Drop)]
 pub enum Stage {
     Look,
     Fast {
@@ -38,6 +38,35 @@ pub enum Stage {
         ballot: Ballot,
         value: Value,
     },
+}
+
+impl Clone for Stage {
+    ghost use Rattle.std.specs.Prelude.{◌≡◌};
+
+    ghost is_clone = { λ a b. b ≡ a };
+
+    fn clone(&self) -> Result<Stage, AllocError> {
+        match self {
+            Stage::Look => Ok(Stage::Look),
+            Stage::Fast { version } => Ok(Stage::Fast { version: *version }),
+            Stage::Prepare { version, ballot } => Ok(Stage::Prepare {
+                version: *version,
+                ballot: *ballot,
+            }),
+            Stage::Accept {
+                version,
+                ballot,
+                value,
+            } => {
+                let value = value.clone()?;
+                Ok(Stage::Accept {
+                    version: *version,
+                    ballot: *ballot,
+                    value,
+                })
+            },
+        }
+    }
 }
 
 /// A running call: its name, the object's key, the value that it writes if it is a put, the last row of each

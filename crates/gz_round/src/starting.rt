@@ -20,7 +20,8 @@ impl Run {
         round: u32,
     ) -> Result<Run, AllocError>
         requires { IsWithin call }
-        ensures { IfOk result (λ run. (w : Caller) (past : List Tale) → w.name ≡ name → w.call ≡ call → top_rounds past ≡ round → Ready config.now w past run []) }
+        ensures ready { IfOk result (λ run. (w : Caller) (past : List Tale) → w.name ≡ name → w.call ≡ call → top_rounds past ≡ round → Ready config.now w past run []) }
+        ensures stage { IfOk result (λ run. run.stage ≡ Stage.Look) }
     {
         let rows = no_rows(alloc, config.n as usize)?;
         let marks = fresh_marks(alloc, config.n as usize)?;
