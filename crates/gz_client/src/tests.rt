@@ -6,8 +6,8 @@ ghost use Rattle.gz_client.specs.Tales.{IsHeld};
 use super::Client;
 use gz_accept::{fast_vote, promise};
 use gz_core::{
-    Answer, Ballot, Call, Config, Etag, Items, Key, Op, Out, Phase, PutName, PutValue, Reply, Row, Session,
-    Turn, UnsureWhy, Value, Version,
+    Answer, Ballot, Call, Config, Etag, Items, Key, Op, Out, Phase, PutName, PutValue, Reply, Row,
+    Session, Turn, UnsureWhy, Value, Version,
 };
 use std::alloc::{AllocError, Global};
 use std::test::Fail;

@@ -1,19 +1,14 @@
 -- What each thing that the known rows come to leaves the call to do.
-use Rattle.std.proofs.Common.{◌≡◌, ℕ, ◌<◌, ◌≤◌, List, Option, Some, None, refl, sym, ap, ◌∙◌, subst}
-use Rattle.std.specs.List.{slice_get}
+use Rattle.std.proofs.Common.{◌≡◌, ℕ, List, Some, sym, subst}
 use Rattle.gz_core.specs.Names.{Name}
-use Rattle.gz_core.specs.Puts.{PutData}
-use Rattle.gz_core.specs.Values.{name_of}
-use Rattle.gz_core.specs.Rows.{RowAt}
 use Rattle.gz_core.specs.declared.values.Value.{Value}
 use Rattle.gz_core.specs.declared.values.Value.TheVariants.{Tomb, Put}
 use Rattle.gz_core.specs.declared.calls.Answer.{Answer}
-use Rattle.gz_core.specs.declared.calls.Answer.TheVariants.{Bytes, Absent}
 use Rattle.gz_core.specs.declared.configuration.Config.{Config}
 use Rattle.gz_round.specs.declared.run.Run.{Run}
 use Rattle.gz_round.specs.declared.run.Stage.{Stage}
-use Rattle.gz_round.specs.declared.run.Stage.TheVariants.{Look, Fast}
-use Rattle.gz_round.specs.declared.following.Next.TheVariants.{Wait, Vote, Chosen, Learnt}
+use Rattle.gz_round.specs.declared.run.Stage.TheVariants.{Fast}
+use Rattle.gz_round.specs.declared.following.Next.TheVariants.{Vote}
 use Rattle.gz_round.specs.History.{Moment, Caller, Tale}
 use Rattle.gz_round.specs.Sites.{WasHeard}
 use Rattle.gz_round.specs.Shown.{IsShown}
@@ -21,7 +16,7 @@ use Rattle.gz_round.specs.Counting.{IsGoing}
 use Rattle.gz_round.specs.Causes.{HasCause, row_value}
 use Rattle.gz_round.specs.Standing.{Stands}
 use Rattle.gz_round.specs.Following.{Ready, NextMeans, IsFound}
-use Rattle.gz_round.specs.Acting.{IsPlain, Acts, Finishes, IsKnownPut, IsAnswerFor, IsAnswerOf}
+use Rattle.gz_round.specs.Acting.{IsPlain, Acts, IsKnownPut, IsAnswerFor, IsAnswerOf}
 use Rattle.gz_round.proofs.Known.{listed_known, known_heard, heard_stands}
 use Rattle.gz_round.proofs.Columns.{named_put, value_named}
 

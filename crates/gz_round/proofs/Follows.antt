@@ -1,25 +1,22 @@
 -- What follows from the rows that are known.
-use Rattle.std.proofs.Common.{◌≡◌, ◌≢◌, ℕ, zero, suc, ◌+◌, ◌<◌, ◌≤◌, ◌^◌, Bool, true, false, cond, ◌&&◌, ◌||◌, ◌==◌, List, [], ◌∷◌, length, Option, Some, None, is_some, MatchOption, refl, sym, ap, ◌∙◌, subst, inl, inr, ◌⊎◌, arith, leb}
+use Rattle.std.proofs.Common.{◌≡◌, ◌≢◌, ℕ, ◌+◌, ◌<◌, ◌≤◌, Bool, true, false, ◌&&◌, ◌||◌, ◌==◌, List, [], ◌∷◌, length, Option, Some, None, is_some, MatchOption, refl, sym, ap, ◌∙◌, subst, inl, inr, arith, leb}
 use Rattle.std.specs.List.{slice_get, list_all}
 use Rattle.std.proofs.lemmas.Bool.{cases_Bool, cases_eq, cond-true, cond-false, and_parts, and_from, true≢false, false≢true, both_ways, or_cases, or_left, or_right, le-leb, leb-true, eqb-true, eq-eqb}
 use Rattle.std.proofs.lemmas.Option.{same_Some, none-some, slice_get_within}
 use Rattle.gz_core.specs.Names.{Name, BallotAt, same_ballot, fast}
 use Rattle.gz_core.specs.Values.{name_of}
 use Rattle.gz_core.specs.Rows.{RowAt, column_in}
-use Rattle.gz_core.specs.Counts.{count_sites}
-use Rattle.gz_core.specs.Configurations.{IsConfig, AreQuorums, need}
+use Rattle.gz_core.specs.Configurations.{IsConfig, need}
 use Rattle.gz_core.specs.Calls.{own_value}
 use Rattle.gz_core.specs.declared.values.Value.{Value}
-use Rattle.gz_core.specs.declared.rows.Vote.{Vote}
 use Rattle.gz_core.specs.declared.rows.Column.{Column}
 use Rattle.gz_core.specs.declared.rows.Column.TheVariants.{Open, Decided}
 use Rattle.gz_core.specs.declared.configuration.Config.{Config}
 use Rattle.gz_core.proofs.Counting.{count_found, count_weaker}
 use Rattle.gz_pick.specs.Looks.{row_top, row_name, row_vote, row_decision, column_name, column_vote, column_decision, highest_of}
-use Rattle.gz_pick.specs.Evidences.{votes_for, decides, IsEvident, IsEvidence, row_at, is_for, is_named}
+use Rattle.gz_pick.specs.Evidences.{votes_for, decides, IsEvidence, row_at, is_for, is_named}
 use Rattle.gz_round.specs.declared.run.Run.{Run}
-use Rattle.gz_round.specs.declared.following.Next.{Next}
-use Rattle.gz_round.specs.declared.following.Next.TheVariants.{Wait, Vote as VoteAt, Chosen, Learnt, Absent}
+use Rattle.gz_round.specs.declared.following.Next.TheVariants.{Vote as VoteAt, Chosen}
 use Rattle.gz_round.specs.History.{Moment, Sent, Handed, GaveUp, Rested, GaveIn, Caller, Tale}
 use Rattle.gz_round.specs.Sites.{some_heard}
 use Rattle.gz_core.specs.declared.requests.RowStep.{RowStep}
@@ -27,20 +24,20 @@ use Rattle.gz_core.specs.declared.requests.RowStep.TheVariants.{FastVote, Promis
 use Rattle.gz_core.specs.declared.requests.Op.{Op}
 use Rattle.gz_core.specs.declared.requests.Op.TheVariants.{ReadRow, WriteRow}
 use Rattle.gz_core.specs.declared.calls.Phase.TheVariants.{Look as NotBegun}
-use Rattle.gz_round.specs.Sent.{voted, voted_at, vote_by, phase_by, promise_by, some_sent, of_step, of_sent, or_earlier, last_sent, passes_sent, phase_of, phase_or_look, has_promised_at}
+use Rattle.gz_round.specs.Sent.{voted, voted_at, vote_by, phase_by, promise_by, of_step, of_sent, or_earlier, last_sent, passes_sent, phase_of, phase_or_look, has_promised_at}
 use Rattle.gz_round.specs.Shown.{heard_at, IsShown, IsCurrent, IsClear}
 use Rattle.gz_round.specs.Sending.{MayFastVote}
-use Rattle.gz_round.specs.Causes.{is_blank, rows_known, IsAbsent}
+use Rattle.gz_round.specs.Causes.{is_blank, rows_known}
 use Rattle.gz_round.specs.Counting.{known_count}
 use Rattle.gz_round.specs.declared.run.Stage.{Stage}
 use Rattle.gz_round.specs.declared.run.Stage.TheVariants.{Look, Fast, Prepare, Accept}
-use Rattle.gz_round.specs.Standing.{Knows, Stands, StageStands, IsUnpromised}
+use Rattle.gz_round.specs.Standing.{Stands, StageStands, IsUnpromised}
 use Rattle.gz_round.specs.Evidence.{NoneEvident, EvidentAt}
 use Rattle.gz_round.specs.Following.{NoEvidence, NextMeans, MayPass, IsFirst, IsLatest, IsFound, IsStageAt, IsUnmet, is_topless, is_blank_known}
 use Rattle.gz_round.proofs.Lists.{all_at}
 use Rattle.gz_round.proofs.Heard.{counted_heard, heard_means, heard_passes}
-use Rattle.gz_round.proofs.Columns.{named_top, top_highest, highest_reached}
-use Rattle.gz_round.proofs.Known.{listed_shown, none_evident, known_current, listed_known, known_heard}
+use Rattle.gz_round.proofs.Columns.{named_top, top_highest}
+use Rattle.gz_round.proofs.Known.{listed_shown, known_current, known_heard}
 
 placed : (rows : List (Option RowAt)) (s : ℕ) (row : RowAt) (o : Option (Option RowAt)) → slice_get rows s ≡ o → row_at rows s ≡ Some row → slice_get rows s ≡ Some (Some row)
 placed rows s row None e h = absurd (none-some row (sym (rw e refl) ∙ h))

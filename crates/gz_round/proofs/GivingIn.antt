@@ -1,36 +1,28 @@
 -- A call whose phase leads no further gives in: every site goes out.
-use Rattle.std.proofs.Common.{◌≡◌, ◌≢◌, ℕ, zero, suc, ◌+◌, ◌<◌, ◌≤◌, ◌^◌, max, Bool, true, false, cond, ◌||◌, List, [], ◌∷◌, ◌++◌, length, Option, Some, None, is_some, refl, sym, ap, ◌∙◌, subst, inl, inr, ◌⊎◌, arith}
-use Rattle.std.specs.List.{slice_get, list_any, count_by}
-use Rattle.std.specs.Prelude.{nat_lt}
-use Rattle.std.proofs.lemmas.Bool.{cases_Bool, cases_lt, cond-true, cond-false, true≢false, false≢true, both_ways, or_cases, ltb-true}
-use Rattle.std.proofs.lemmas.Option.{same_Some, none-some, slice_get_within}
-use Rattle.gz_core.specs.Names.{Name, BallotAt, same_ballot}
-use Rattle.gz_core.specs.Rows.{RowAt}
+use Rattle.std.proofs.Common.{◌≡◌, ℕ, zero, suc, ◌<◌, true, false, List, [], ◌∷◌, Some, None, is_some, refl, sym, ap, ◌∙◌, subst, inl, inr, arith}
+use Rattle.std.specs.List.{list_any, count_by}
+use Rattle.std.proofs.lemmas.Bool.{cases_Bool, cond-true, cond-false}
+use Rattle.std.proofs.lemmas.Option.{same_Some, none-some}
+use Rattle.gz_core.specs.Names.{BallotAt}
 use Rattle.gz_core.specs.Counts.{count_sites}
-use Rattle.gz_core.specs.Calls.{own_value}
 use Rattle.gz_core.specs.Configurations.{IsConfig}
-use Rattle.gz_core.specs.declared.values.Value.{Value}
 use Rattle.gz_core.specs.declared.calls.Answer.{Answer}
 use Rattle.gz_core.specs.declared.calls.Answer.TheVariants.{NoQuorum, Unsure, Unsettled}
 use Rattle.gz_core.specs.declared.calls.UnsureWhy.TheVariants.{NoQuorum as UnsureNoQuorum}
 use Rattle.gz_core.specs.declared.configuration.Config.{Config}
 use Rattle.gz_core.specs.declared.requests.RowStep.{RowStep}
-use Rattle.gz_core.specs.declared.requests.RowStep.TheVariants.{FastVote, Promise, ClassicVote, Decide, Trim}
-use Rattle.gz_core.proofs.Ballots.{same_means, same_refl, same_from}
-use Rattle.gz_accept.specs.declared.answers.Step.TheVariants.{Done}
-use Rattle.gz_pick.specs.Looks.{row_top, highest_of}
+use Rattle.gz_core.specs.declared.requests.RowStep.TheVariants.{Promise, ClassicVote}
+use Rattle.gz_pick.specs.Looks.{highest_of}
 use Rattle.gz_round.specs.declared.run.Run.{Run}
 use Rattle.gz_round.specs.declared.run.Stage.{Stage}
 use Rattle.gz_round.specs.declared.run.Stage.TheVariants.{Look, Fast, Prepare, Accept}
-use Rattle.gz_round.specs.History.{Asked, Moment, Sent, GaveIn, Caller, Tale, sent_from}
-use Rattle.gz_round.specs.Sites.{site_now}
-use Rattle.gz_round.specs.Sent.{met, voted, has_promised_at}
-use Rattle.gz_round.specs.Rounds.{MayPromise, promises_known, above_known, rounds_used}
-use Rattle.gz_round.specs.Sending.{MayGiveIn, NoPromise, NoVote, NoRound, IsStuck, IsShort, NoEvidence, NoneAbove, rows_known, answer_of}
-use Rattle.gz_round.specs.Counting.{outs, known_count, IsGoing}
-use Rattle.gz_round.specs.Causes.{HasCause, IsCutOff, IsUnsettled}
+use Rattle.gz_round.specs.History.{Moment, GaveIn, Caller, Tale}
+use Rattle.gz_round.specs.Rounds.{promises_known, above_known}
+use Rattle.gz_round.specs.Sending.{MayGiveIn, NoPromise, NoVote, IsStuck, IsShort, NoEvidence, rows_known}
+use Rattle.gz_round.specs.Counting.{outs, IsGoing}
+use Rattle.gz_round.specs.Causes.{HasCause, IsCutOff}
 use Rattle.gz_round.specs.Standing.{Knows, Stands, StageStands}
-use Rattle.gz_round.specs.Following.{Turned, HasTurned}
+use Rattle.gz_round.specs.Following.{HasTurned}
 use Rattle.gz_round.specs.Acting.{RunsOut, given_in_of, ended_of, ended_in, stage_step, step_in, working_version, version_in, IsShortIn, IsAheadIn}
 use Rattle.gz_round.proofs.Lists.{count_told}
 use Rattle.gz_round.proofs.Follows.{no_own}

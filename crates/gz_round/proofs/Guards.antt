@@ -1,12 +1,10 @@
 -- A guard that holds goes on to hold while the step is made at one site after another.
-use Rattle.std.proofs.Common.{◌≡◌, ◌≢◌, ℕ, ◌+◌, ◌<◌, ◌≤◌, Bool, true, false, cond, ◌&&◌, ◌||◌, ◌==◌, List, [], ◌∷◌, length, Option, Some, None, refl, sym, ap, ◌∙◌, subst, inl, inr, ◌⊎◌, arith}
-use Rattle.std.proofs.lemmas.Bool.{cases_Bool, cond-true, cond-false, or_cases, or_right, and_parts, eqb-true, true≢false, false≢true, both_ways, and_right, false_from_ne_true}
-use Rattle.std.proofs.lemmas.Option.{none-some, same_Some}
+use Rattle.std.proofs.Common.{◌≡◌, ◌≢◌, ℕ, ◌<◌, Bool, true, false, ◌&&◌, ◌||◌, ◌==◌, List, ◌∷◌, length, Option, Some, None, refl, sym, ap, ◌∙◌, subst, inl, inr, ◌⊎◌}
+use Rattle.std.proofs.lemmas.Bool.{cases_Bool, cond-true, cond-false, or_cases, or_right, and_parts, eqb-true, false≢true, and_right, false_from_ne_true}
+use Rattle.std.proofs.lemmas.Option.{same_Some}
 use Rattle.std.specs.List.{All}
 use Rattle.gz_core.specs.Names.{Name, BallotAt, same_name, same_ballot}
 use Rattle.gz_core.specs.Values.{name_of}
-use Rattle.gz_core.specs.Calls.{own_value}
-use Rattle.gz_core.specs.Slots.{slots, OpenAt, IsVoteOf}
 use Rattle.gz_core.specs.declared.values.Value.{Value}
 use Rattle.gz_core.specs.declared.configuration.Config.{Config}
 use Rattle.gz_core.specs.declared.requests.RowStep.{RowStep}
@@ -14,9 +12,9 @@ use Rattle.gz_core.specs.declared.requests.RowStep.TheVariants.{FastVote, Promis
 use Rattle.gz_core.specs.declared.requests.Op.{Op}
 use Rattle.gz_core.specs.declared.requests.Op.TheVariants.{ReadRow, WriteRow}
 use Rattle.gz_core.proofs.Ballots.{same_means, name_means}
-use Rattle.gz_round.specs.History.{Asked, Moment, Sent, Handed, GaveUp, Caller, Tale}
-use Rattle.gz_round.specs.Sent.{vote_by, promise_by, of_step, of_sent, or_earlier, passes_sent, some_sent, voted, voted_at, has_promised, has_promised_at, last_promise}
-use Rattle.gz_round.specs.Shown.{IsShown, IsCurrent, IsNext, IsClear, IsGrounded}
+use Rattle.gz_round.specs.History.{Asked, Moment, Sent, Caller, Tale}
+use Rattle.gz_round.specs.Sent.{vote_by, promise_by, of_step, or_earlier, passes_sent, voted_at, has_promised, has_promised_at, last_promise}
+use Rattle.gz_round.specs.Shown.{IsClear}
 use Rattle.gz_round.specs.Rounds.{MayPromise, MayClassicVote, MayPropose, IsLeft, IsPromiseHeard, passed_since, Cast, cast_by, has_cast, is_promise}
 use Rattle.gz_pick.specs.declared.heard.Heard.{Heard}
 use Rattle.gz_round.specs.Sending.{MayFastVote, MayMake}

@@ -1,18 +1,16 @@
 -- A call that begins reads every site.
-use Rattle.std.proofs.Common.{◌≡◌, ℕ, zero, suc, ◌+◌, ◌<◌, ◌≤◌, Bool, true, false, List, [], ◌∷◌, Option, Some, None, refl, sym, ap, ◌∙◌, subst, arith}
+use Rattle.std.proofs.Common.{◌≡◌, ℕ, ◌<◌, List, [], Option, Some, None, refl, sym, ◌∙◌, subst, arith}
 use Rattle.std.proofs.lemmas.Option.{none-some}
-use Rattle.gz_core.specs.Counts.{count_sites}
 use Rattle.gz_core.specs.Configurations.{IsConfig}
 use Rattle.gz_core.specs.declared.configuration.Config.{Config}
 use Rattle.gz_core.specs.declared.requests.Out.{Out}
-use Rattle.gz_round.specs.declared.hearing.Seen.{Seen}
 use Rattle.gz_round.specs.declared.run.Run.{Run}
 use Rattle.gz_round.specs.declared.run.Stage.TheVariants.{Look}
-use Rattle.gz_round.specs.History.{Asked, Moment, Sent, Caller, Tale, sent_from}
-use Rattle.gz_round.specs.Sites.{SiteNow, site_now}
+use Rattle.gz_round.specs.History.{Asked, Moment, Caller, Tale, sent_from}
+use Rattle.gz_round.specs.Sites.{site_now}
 use Rattle.gz_round.specs.Counting.{outs, IsGoing}
 use Rattle.gz_round.specs.Asking.{IsLeftBy}
-use Rattle.gz_round.specs.Standing.{Stands, StageStands, IsWaiting, Runs}
+use Rattle.gz_round.specs.Standing.{StageStands, IsWaiting, Runs}
 use Rattle.gz_round.specs.Following.{Asks, AreServed, Ready}
 use Rattle.gz_round.proofs.Sends.{row_after_sent, out_after_sent}
 use Rattle.gz_round.proofs.Turns.{over_sent, going_sent, again_from, stage_kept}

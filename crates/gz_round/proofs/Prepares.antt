@@ -1,50 +1,46 @@
 -- A put prepares a ballot above every one that it knows, and that its session used.
-use Rattle.std.proofs.Common.{◌≡◌, ◌≢◌, ℕ, zero, suc, ◌+◌, ◌<◌, ◌≤◌, ◌^◌, max, Bool, true, false, cond, ◌&&◌, ◌||◌, ◌==◌, not, List, [], ◌∷◌, ◌++◌, length, Option, Some, None, is_some, refl, sym, ap, ◌∙◌, subst, inl, inr, ◌⊎◌, arith, leb}
-use Rattle.std.specs.List.{slice_get, list_any, count_by}
+use Rattle.std.proofs.Common.{◌≡◌, ◌≢◌, ℕ, zero, suc, ◌+◌, ◌<◌, ◌≤◌, ◌^◌, max, Bool, true, false, cond, ◌&&◌, ◌==◌, not, List, [], ◌∷◌, Option, Some, None, is_some, refl, sym, ap, ◌∙◌, subst, inl, inr, ◌⊎◌, arith, leb}
+use Rattle.std.specs.List.{slice_get, list_any}
 use Rattle.std.specs.Prelude.{nat_lt}
-use Rattle.std.proofs.lemmas.Bool.{cases_Bool, cases_lt, cond-true, cond-false, true≢false, false≢true, both_ways, or_cases, or_left, or_right, and_parts, ltb-true, eqb-true, false_from_ne_true, le-leb}
+use Rattle.std.proofs.lemmas.Bool.{cases_Bool, cases_lt, cond-true, cond-false, false≢true, both_ways, or_cases, or_right, and_parts, ltb-true, eqb-true, false_from_ne_true, le-leb}
 use Rattle.std.proofs.lemmas.Bool.Decides.{nat_tests}
 use Rattle.std.proofs.lemmas.Option.{same_Some, none-some, slice_get_within}
-use Rattle.gz_core.specs.Names.{Name, BallotAt, same_ballot, same_name, is_below, IsClassic}
+use Rattle.gz_core.specs.Names.{Name, BallotAt, same_ballot, same_name}
 use Rattle.gz_core.specs.Values.{name_of}
 use Rattle.gz_core.specs.Rows.{RowAt}
 use Rattle.gz_core.specs.Slots.{Slot, Gone, DecidedAs, OpenAt, slots}
 use Rattle.gz_core.specs.Counts.{count_sites}
-use Rattle.gz_core.specs.Calls.{own_value}
 use Rattle.gz_core.specs.Configurations.{IsConfig}
-use Rattle.gz_core.specs.declared.values.Value.{Value}
-use Rattle.gz_core.specs.declared.calls.Answer.{Answer}
 use Rattle.gz_core.specs.declared.configuration.Config.{Config}
 use Rattle.gz_core.specs.declared.requests.RowStep.{RowStep}
 use Rattle.gz_core.specs.declared.requests.RowStep.TheVariants.{FastVote, Promise, ClassicVote, Decide, Trim}
 use Rattle.gz_core.specs.declared.requests.Op.{Op}
 use Rattle.gz_core.specs.declared.requests.Op.TheVariants.{ReadRow, WriteRow}
-use Rattle.gz_core.specs.declared.requests.Out.{Out}
-use Rattle.gz_core.proofs.Ballots.{same_means, same_refl, same_from}
-use Rattle.gz_core.proofs.Counting.{count_found, count_within}
+use Rattle.gz_core.proofs.Ballots.{same_means, same_from}
+use Rattle.gz_core.proofs.Counting.{count_found}
 use Rattle.gz_pick.specs.Evidences.{is_in}
 use Rattle.gz_pick.specs.Looks.{row_top, highest_of}
 use Rattle.gz_round.specs.declared.run.Run.{Run}
 use Rattle.gz_round.specs.declared.run.Stage.{Stage}
 use Rattle.gz_round.specs.declared.run.Stage.TheVariants.{Look, Fast, Prepare, Accept}
-use Rattle.gz_round.specs.History.{Asked, Moment, Sent, Handed, GaveUp, Rested, GaveIn, Caller, Tale, sent_from}
+use Rattle.gz_round.specs.History.{Moment, Sent, Handed, GaveUp, Rested, GaveIn, Caller, Tale}
 use Rattle.gz_round.specs.Sites.{SiteNow, site_now, some_heard}
-use Rattle.gz_round.specs.Sent.{voted, promise_by, of_step, of_sent, passes_sent, some_sent, has_promised, has_promised_at, top_round, round_after, phase_of}
-use Rattle.gz_round.specs.Shown.{heard_at, IsGrounded, IsCurrent}
-use Rattle.gz_round.specs.Rounds.{MayPromise, MayClassicVote, IsUnused, Cast, cast_by, has_cast, passed_since, promises_known, promises_above, above_known, round_known, slot_round, slot_promises, slot_promises_above, top_rounds, rounds_used}
-use Rattle.gz_round.specs.Sending.{MayGiveIn, NoPromise, NoRound, IsStuck, IsShort, NoEvidence, NoneAbove, AreRoundsUsedUp, AreAllowed, MaySend, MayAsk, MayMake, MayFastVote, rows_known, answer_of}
-use Rattle.gz_round.specs.Counting.{known_count, outs, IsGoing}
-use Rattle.gz_round.specs.Asking.{IsLeftBy, is_notice}
-use Rattle.gz_round.specs.Standing.{Knows, Stands, StageStands, ArePassed, IsUnpromised, IsWorking, IsPreparing, MayPass}
-use Rattle.gz_round.specs.Following.{Asks, AreServed, HeldOf, MayMakeOf, IsUnmet, Turned, HasTurned}
-use Rattle.gz_round.specs.Acting.{Prepares, RunsOut, Carries, IsNextBallot, IsBallotAbove, round_in, given_in_of, prepared_of, is_waiting, ended_of, ended_in, is_overtaken, is_overtaken_in, working_version, version_in, stage_step}
+use Rattle.gz_round.specs.Sent.{promise_by, of_step, of_sent, passes_sent, some_sent, has_promised, has_promised_at, top_round, round_after}
+use Rattle.gz_round.specs.Shown.{heard_at, IsGrounded}
+use Rattle.gz_round.specs.Rounds.{MayPromise, IsUnused, Cast, cast_by, has_cast, passed_since, promises_known, above_known, round_known, slot_round, slot_promises, slot_promises_above, top_rounds, rounds_used}
+use Rattle.gz_round.specs.Sending.{NoPromise, NoRound, IsStuck, IsShort, NoEvidence, NoneAbove, AreRoundsUsedUp, AreAllowed, MayAsk, MayMake, rows_known}
+use Rattle.gz_round.specs.Counting.{known_count, IsGoing}
+use Rattle.gz_round.specs.Asking.{IsLeftBy}
+use Rattle.gz_round.specs.Standing.{Knows, Stands, StageStands, ArePassed, IsUnpromised, MayPass}
+use Rattle.gz_round.specs.Following.{Asks, AreServed, IsUnmet, HasTurned}
+use Rattle.gz_round.specs.Acting.{Prepares, RunsOut, Carries, IsBallotAbove, round_in, given_in_of, prepared_of, is_waiting, ended_of, ended_in, is_overtaken, is_overtaken_in, working_version, version_in}
 use Rattle.gz_round.proofs.Lists.{any_found}
 use Rattle.gz_round.proofs.Heard.{heard_passes}
 use Rattle.gz_round.proofs.Known.{listed_known, known_heard, known_current}
 use Rattle.gz_round.proofs.Columns.{top_highest, highest_reached}
 use Rattle.gz_round.proofs.Follows.{unvoted_clear, own_of, looks_unpromised, unpromised_from, pass_from}
 use Rattle.gz_round.proofs.Arms.{stands_stage}
-use Rattle.gz_round.proofs.Turns.{going_sent, evidence_sent, again_from, waits_from, idle_of, heard_from, quorum_known, none_passed, untaken_from}
+use Rattle.gz_round.proofs.Turns.{again_from, waits_from, idle_of, heard_from, quorum_known, none_passed, untaken_from}
 use Rattle.gz_round.proofs.GivingIn.{given_in_turned}
 
 -- a ballot that was promised has a round that was used

@@ -1,9 +1,9 @@
 -- The rows that promise a ballot, and the value that is proposed by their votes.
-use Rattle.std.proofs.Common.{◌≡◌, ◌≢◌, ℕ, zero, suc, ◌+◌, ◌<◌, ◌≤◌, Bool, true, false, cond, ◌&&◌, ◌==◌, not, List, [], ◌∷◌, ◌++◌, length, take, get_or, Option, Some, None, is_some, refl, sym, ap, ◌∙◌, subst, inl, inr, ◌⊎◌, arith, leb}
+use Rattle.std.proofs.Common.{◌≡◌, ◌≢◌, ℕ, zero, suc, ◌+◌, ◌<◌, ◌≤◌, Bool, true, false, cond, ◌&&◌, ◌==◌, not, List, [], ◌∷◌, ◌++◌, length, take, get_or, Option, Some, None, refl, sym, ap, ◌∙◌, subst, inl, inr, ◌⊎◌, arith, leb}
 use Rattle.std.specs.Prelude.{nat_lt, IsSome}
 use Rattle.std.specs.List.{All, slice_get, count_by, position}
 use Rattle.std.proofs.lemmas.Bool.{cases_Bool, cond-true, cond-false, and_parts, true≢false, false≢true, both_ways, ne_eqb}
-use Rattle.std.proofs.lemmas.Option.{same_Some, none-some, slice_get_within, get_or_from_slice_get, slice_get-get_or}
+use Rattle.std.proofs.lemmas.Option.{same_Some, none-some, slice_get_within, get_or_from_slice_get}
 use Rattle.std.proofs.lemmas.List.Elements.{All-nil, All-push, All-weaker}
 use Rattle.std.proofs.Math.ListN.{length-append}
 use Rattle.std.proofs.Math.Seq.{take-length}
@@ -13,8 +13,6 @@ use Rattle.gz_core.specs.Names.{Name, BallotAt, same_ballot, fast}
 use Rattle.gz_core.specs.Values.{name_of}
 use Rattle.gz_core.specs.Rows.{RowAt, column_in}
 use Rattle.gz_core.specs.Slots.{Slot, Gone, DecidedAs, OpenAt, slots, slot_of, vote_pair, IsVoteOf}
-use Rattle.gz_core.specs.Calls.{own_value}
-use Rattle.gz_core.specs.Configurations.{IsConfig}
 use Rattle.gz_core.specs.declared.values.Value.{Value}
 use Rattle.gz_core.specs.declared.rows.Vote.{Vote}
 use Rattle.gz_core.specs.declared.rows.Column.{Column}
@@ -24,17 +22,15 @@ use Rattle.gz_core.proofs.Ballots.{same_means, same_from}
 use Rattle.gz_pick.specs.Evidences.{is_in}
 use Rattle.gz_pick.specs.Choices.{pick_of, choice_in, choice_at, carries, has_threshold, top_of, has_site, AreSites}
 use Rattle.gz_pick.specs.declared.heard.Heard.{Heard}
-use Rattle.gz_pick.specs.declared.heard.Pick.{Pick}
-use Rattle.gz_pick.specs.declared.heard.Pick.TheVariants.{Forced, Free}
+use Rattle.gz_pick.specs.declared.heard.Pick.TheVariants.{Forced}
 use Rattle.gz_round.specs.declared.run.Run.{Run}
 use Rattle.gz_round.specs.declared.run.Stage.TheVariants.{Prepare, Accept}
 use Rattle.gz_round.specs.History.{Moment, Caller, Tale}
-use Rattle.gz_round.specs.Sites.{WasHeard}
 use Rattle.gz_round.specs.Sent.{has_promised_at}
-use Rattle.gz_round.specs.Rounds.{MayClassicVote, IsPromiseHeard, IsNamedAt, IsLeft, promises_known, slot_promises, has_cast, rounds_used}
+use Rattle.gz_round.specs.Rounds.{MayClassicVote, IsPromiseHeard, IsLeft, promises_known, slot_promises, has_cast, rounds_used}
 use Rattle.gz_round.specs.Causes.{row_value, column_value, vote_value}
 use Rattle.gz_round.specs.Sending.{NoEvidence}
-use Rattle.gz_round.specs.Standing.{Knows, Stands, StageStands, IsPreparing, MayPass}
+use Rattle.gz_round.specs.Standing.{Knows, Stands, StageStands, MayPass}
 use Rattle.gz_round.specs.Following.{IsUnmet}
 use Rattle.gz_round.specs.Choosing.{slot_vote, heard_vote, IsHeardIn, AreHeardIn, IsProposed}
 use Rattle.gz_round.specs.Acting.{Acts, Carries, IsFewIn}

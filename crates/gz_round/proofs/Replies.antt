@@ -1,32 +1,26 @@
 -- A reply, or a give-up: what is noted of it stands for it.
-use Rattle.std.proofs.Common.{◌≡◌, ◌≢◌, ℕ, ◌+◌, ◌<◌, ◌≤◌, max, Bool, true, false, cond, ◌&&◌, ◌||◌, ◌==◌, List, [], ◌∷◌, length, Option, Some, None, is_some, option_map, refl, sym, ap, ◌∙◌, subst, inl, inr, ◌⊎◌, arith, set}
+use Rattle.std.proofs.Common.{◌≡◌, ◌≢◌, ℕ, ◌+◌, ◌<◌, max, Bool, true, false, List, ◌∷◌, length, Option, Some, None, option_map, refl, sym, ap, ◌∙◌, subst, inl, inr}
 use Rattle.std.proofs.Math.ListN.{length-set}
 use Rattle.std.specs.List.{slice_get}
-use Rattle.std.proofs.lemmas.Bool.{cases_Bool, cases_eq, cond-true, cond-false, eqb-true, and_parts, true≢false, false≢true}
-use Rattle.std.proofs.lemmas.Option.{same_Some, none-some}
-use Rattle.gz_core.specs.Names.{Name}
+use Rattle.std.proofs.lemmas.Bool.{cases_eq, cond-true, cond-false}
+use Rattle.std.proofs.lemmas.Option.{none-some}
 use Rattle.gz_core.specs.Rows.{RowAt}
-use Rattle.gz_core.specs.Calls.{own_value}
-use Rattle.gz_core.specs.declared.values.Value.{Value}
 use Rattle.gz_core.specs.declared.configuration.Config.{Config}
 use Rattle.gz_core.specs.declared.requests.Reply.{Reply}
 use Rattle.gz_core.specs.declared.requests.Reply.TheVariants.{Row, NoRow, Written, Changed, Failed}
 use Rattle.gz_round.specs.declared.hearing.Seen.{Seen}
 use Rattle.gz_round.specs.declared.run.Mark.{Mark}
 use Rattle.gz_round.specs.declared.run.Run.{Run}
-use Rattle.gz_round.specs.declared.run.Stage.{Stage}
-use Rattle.gz_round.specs.declared.run.Stage.TheVariants.{Look, Fast}
-use Rattle.gz_round.specs.History.{Asked, Moment, Sent, Handed, GaveUp, Caller, Tale, is_row_request}
-use Rattle.gz_round.specs.Sites.{SiteNow, site_now, after, after_reply, concerns, is_to, known, row_seen, written_by, seen_in, seen_under, seen_written, is_changed}
-use Rattle.gz_round.specs.Sent.{met, overtakes, voted, voted_at, phase_of, top_round}
+use Rattle.gz_round.specs.History.{Asked, Moment, Handed, GaveUp, Caller, Tale}
+use Rattle.gz_round.specs.Sites.{SiteNow, site_now, after_reply, known, written_by, seen_in, is_changed}
+use Rattle.gz_round.specs.Sent.{met, voted, phase_of, top_round}
 use Rattle.gz_round.specs.Rounds.{top_rounds}
-use Rattle.gz_round.specs.Shown.{IsShown, IsClear}
-use Rattle.gz_round.specs.Sending.{MayFastVote, IsAllowed, IsAwaitedOf}
-use Rattle.gz_round.specs.Noting.{heard_run, overtaken_run, left_run, noted_by, written_at, written_of, IsReplyNoted}
-use Rattle.gz_round.specs.Standing.{Knows, Stands, StageStands, IsSound, mark_of, etag_seen, awaited_of}
+use Rattle.gz_round.specs.Sending.{IsAllowed, IsAwaitedOf}
+use Rattle.gz_round.specs.Noting.{left_run, noted_by, written_at, written_of, IsReplyNoted}
+use Rattle.gz_round.specs.Standing.{Knows, Stands, StageStands, IsSound, mark_of, awaited_of}
 use Rattle.gz_round.specs.Following.{Ready}
 use Rattle.gz_round.proofs.Lists.{told_after_set, told_same}
-use Rattle.gz_round.proofs.Moments.{is_to_same, is_to_other, now_here, now_other, each_site}
+use Rattle.gz_round.proofs.Moments.{is_to_same, is_to_other, now_here, now_other}
 use Rattle.gz_round.proofs.Stages.{Ends, stage_more}
 
 abbrev pub met_by : Option Seen → Bool → ℕ → ℕ

@@ -1,34 +1,32 @@
 -- A phase that stands goes on to stand while its step is made, and when a reply or a give-up is noted.
-use Rattle.std.proofs.Common.{◌≡◌, ◌≢◌, ℕ, suc, ◌+◌, ◌<◌, ◌≤◌, max, Bool, true, false, cond, ◌&&◌, ◌||◌, ◌==◌, List, [], ◌∷◌, length, Option, Some, None, refl, sym, ap, ◌∙◌, subst, inl, inr, ◌⊎◌, arith, leb}
-use Rattle.std.proofs.lemmas.Bool.{cases_Bool, cases_eq, cond-true, cond-false, or_cases, or_left, or_right, and_parts, and_from, true≢false, false≢true, both_ways, eq-eqb, ne_eqb, and_left}
+use Rattle.std.proofs.Common.{◌≡◌, ◌≢◌, ℕ, ◌+◌, ◌<◌, ◌≤◌, max, Bool, true, false, cond, ◌&&◌, ◌||◌, ◌==◌, List, ◌∷◌, Option, Some, None, refl, sym, ap, ◌∙◌, subst, inl, inr, ◌⊎◌, arith, leb}
+use Rattle.std.proofs.lemmas.Bool.{cases_eq, cond-false, or_left, or_right, and_from, false≢true, eq-eqb, ne_eqb}
 use Rattle.std.proofs.lemmas.Option.{none-some, same_Some}
 use Rattle.gz_core.specs.Names.{Name, BallotAt, same_ballot}
-use Rattle.gz_core.specs.Values.{name_of}
 use Rattle.gz_core.specs.Rows.{RowAt}
-use Rattle.gz_core.specs.Calls.{own_value}
 use Rattle.gz_core.specs.declared.values.Value.{Value}
 use Rattle.gz_core.specs.declared.configuration.Config.{Config}
 use Rattle.gz_core.specs.declared.requests.RowStep.{RowStep}
 use Rattle.gz_core.specs.declared.requests.RowStep.TheVariants.{FastVote, Promise, ClassicVote, Decide, Trim}
 use Rattle.gz_core.specs.declared.requests.Op.{Op}
 use Rattle.gz_core.specs.declared.requests.Op.TheVariants.{ReadRow, WriteRow}
-use Rattle.gz_core.proofs.Ballots.{same_means, same_refl}
+use Rattle.gz_core.proofs.Ballots.{same_refl}
 use Rattle.gz_pick.specs.Looks.{row_top}
 use Rattle.gz_pick.specs.declared.heard.Heard.{Heard}
 use Rattle.gz_round.specs.declared.hearing.Seen.{Seen}
 use Rattle.gz_round.specs.declared.run.Stage.{Stage}
 use Rattle.gz_round.specs.declared.run.Stage.TheVariants.{Look, Fast, Prepare, Accept}
 use Rattle.gz_round.specs.History.{Asked, Moment, Sent, Caller, Tale}
-use Rattle.gz_round.specs.Sites.{SiteNow, site_now, after, after_reply, concerns, known, row_seen, heard_in, passes, WasHeard}
+use Rattle.gz_round.specs.Sites.{SiteNow, site_now, after, after_reply, concerns, known, heard_in, passes}
 use Rattle.gz_round.specs.Sent.{voted, voted_at, vote_by, promise_by, of_step, of_sent, or_earlier, passes_sent, some_sent, has_promised, has_promised_at, last_promise, top_round, round_after, phase_of}
-use Rattle.gz_round.specs.Shown.{heard_at, IsShown, IsCurrent, IsNext, IsClear, IsGrounded}
+use Rattle.gz_round.specs.Shown.{IsClear, IsGrounded}
 use Rattle.gz_round.specs.Rounds.{MayPromise, MayClassicVote, MayPropose, IsLeft, passed_since, is_promise, promises_above, cast_by, has_cast, top_rounds, rounds_used}
-use Rattle.gz_round.specs.Sending.{MayFastVote, rows_known, NoneAbove}
+use Rattle.gz_round.specs.Sending.{NoneAbove}
 use Rattle.gz_round.specs.Standing.{StageStands, IsUnpromised, ArePassed, MayPass, IsWorking, IsPreparing}
 use Rattle.gz_round.specs.Following.{HeldBy, HeldOf}
 use Rattle.gz_round.proofs.Heard.{current_more, next_more, shown_more, heard_at_more}
 use Rattle.gz_round.proofs.Moments.{now_here, now_other}
-use Rattle.gz_round.proofs.Guards.{IsOf, clear_vote, only_classic, promise_sent, promise_still, promise_kept, promises_more}
+use Rattle.gz_round.proofs.Guards.{IsOf, clear_vote, only_classic, promise_sent, promise_still, promises_more}
 use Rattle.gz_round.proofs.Sends.{known_after_sent}
 
 -- what a moment ends: the request that is awaited from one site, with the row that it showed, or overtaken, or nothing

@@ -10,7 +10,6 @@ use Rattle.gz_core.specs.declared.calls.Call.{Call}
 use Rattle.gz_core.specs.declared.calls.Phase.TheVariants.{Look as LookPhase}
 use Rattle.gz_core.specs.declared.configuration.Config.{Config}
 use Rattle.gz_round.specs.declared.run.Mark.{Mark}
-use Rattle.gz_round.specs.declared.run.Run.{Run}
 use Rattle.gz_round.specs.declared.run.Stage.TheVariants.{Look}
 use Rattle.gz_round.specs.History.{Asked, Caller, Tale}
 use Rattle.gz_round.specs.Rounds.{top_rounds}

@@ -1,15 +1,14 @@
 -- What an event comes to: the call runs on, or its answer has its cause.
-use Rattle.std.proofs.Common.{◌≡◌, ◌≢◌, ℕ, zero, suc, ◌+◌, ◌<◌, ◌≤◌, Bool, true, false, cond, ◌&&◌, ◌||◌, ◌==◌, List, [], ◌∷◌, ◌++◌, length, Option, Some, None, is_some, option_map, refl, sym, ap, ◌∙◌, subst, inl, inr, ◌⊎◌, arith, leb}
+use Rattle.std.proofs.Common.{◌≡◌, ◌≢◌, ℕ, zero, suc, ◌+◌, ◌<◌, ◌≤◌, Bool, true, false, cond, List, [], ◌∷◌, Option, Some, None, is_some, option_map, refl, sym, ap, ◌∙◌, subst, inl, inr, ◌⊎◌, arith}
 use Rattle.std.specs.Prelude.{nat_lt}
-use Rattle.std.specs.List.{slice_get, list_any}
-use Rattle.std.proofs.lemmas.Bool.{cases_Bool, cases_eq, cond-true, cond-false, true≢false, false≢true, both_ways, or_parts, ltb-false}
+use Rattle.std.specs.List.{list_any}
+use Rattle.std.proofs.lemmas.Bool.{cases_Bool, true≢false, false≢true, both_ways, or_parts, ltb-false}
 use Rattle.std.proofs.lemmas.Option.{same_Some, none-some, slice_get_within}
 use Rattle.gz_core.specs.Names.{Name, BallotAt}
 use Rattle.gz_core.specs.Values.{name_of}
 use Rattle.gz_core.specs.Rows.{RowAt}
 use Rattle.gz_core.specs.Calls.{key_of, own_value}
 use Rattle.gz_core.specs.Counts.{count_sites}
-use Rattle.gz_core.specs.Configurations.{IsConfig}
 use Rattle.gz_core.specs.declared.calls.Call.{Call}
 use Rattle.gz_core.specs.declared.calls.Call.TheVariants.{Put, Get}
 use Rattle.gz_core.specs.declared.calls.Answer.{Answer}
@@ -21,12 +20,11 @@ use Rattle.gz_core.specs.declared.values.Value.{Value}
 use Rattle.gz_core.specs.declared.configuration.Config.{Config}
 use Rattle.gz_core.specs.declared.requests.RowStep.{RowStep}
 use Rattle.gz_core.specs.declared.requests.RowStep.TheVariants.{FastVote, Promise, ClassicVote, Decide}
-use Rattle.gz_core.specs.declared.requests.Op.{Op}
-use Rattle.gz_core.specs.declared.requests.Op.TheVariants.{ReadRow, WriteRow}
+use Rattle.gz_core.specs.declared.requests.Op.TheVariants.{WriteRow}
 use Rattle.gz_core.specs.declared.requests.Out.{Out}
 use Rattle.gz_accept.specs.declared.answers.Step.TheVariants.{Done}
-use Rattle.gz_accept.specs.Steps.{fast_answer, decide_answer, decided}
-use Rattle.gz_pick.specs.Looks.{row_top, highest_of}
+use Rattle.gz_accept.specs.Steps.{decided}
+use Rattle.gz_pick.specs.Looks.{highest_of}
 use Rattle.gz_pick.specs.Evidences.{IsEvident}
 use Rattle.gz_round.specs.declared.hearing.Seen.{Seen}
 use Rattle.gz_round.specs.declared.run.Mark.{Mark}
@@ -34,17 +32,17 @@ use Rattle.gz_round.specs.declared.run.Run.{Run}
 use Rattle.gz_round.specs.declared.run.Stage.{Stage}
 use Rattle.gz_round.specs.declared.run.Stage.TheVariants.{Look, Fast, Prepare, Accept}
 use Rattle.gz_round.specs.History.{Asked, Moment, Sent, Caller, Tale, asked_of, sent_from}
-use Rattle.gz_round.specs.Sites.{SiteNow, site_now, known, WasHeard}
-use Rattle.gz_round.specs.Sent.{met, voted, phase_of}
+use Rattle.gz_round.specs.Sites.{site_now, known}
+use Rattle.gz_round.specs.Sent.{met}
 use Rattle.gz_round.specs.Shown.{heard_at, IsShown, IsCurrent}
 use Rattle.gz_round.specs.Rounds.{promises_above, above_known}
-use Rattle.gz_round.specs.Sending.{AreAllowed, MayFastVote, MayMake, MayRead, NoneAbove, answer_of}
+use Rattle.gz_round.specs.Sending.{MayMake, NoneAbove, answer_of}
 use Rattle.gz_round.specs.Counting.{outs, known_count, IsGoing, IsNoticed, HasNotice}
-use Rattle.gz_round.specs.Causes.{HasCause, IsCutOff, IsOvertaken, UnsureCause, IsAbsent, IsLearnt, IsValueHeard, IsChosenOwn, IsUnsettled, IsHighest, rows_known, is_blank}
+use Rattle.gz_round.specs.Causes.{HasCause, IsCutOff, IsOvertaken, UnsureCause, IsValueHeard, IsHighest, rows_known, is_blank}
 use Rattle.gz_round.specs.Asking.{IsLeftBy, is_notice}
-use Rattle.gz_round.specs.Standing.{Knows, Stands, StageStands, ArePassed, AreAskedAgain, IsWaiting, Runs, mark_of, awaited_of}
-use Rattle.gz_round.specs.Following.{Asks, MayMakeOf, AreServed, IsServed, IsSettledBy, NoEvidence, IsUnmet, HeldOf, Ready, Turned, HasTurned}
-use Rattle.gz_round.specs.Acting.{IsPlain, Acts, Steps, RunsOut, Finishes, IsFewIn, IsShortIn, IsAheadIn, is_overtaken_in, is_waiting, vote_for, notice_for, stage_step, step_in, working_version, version_in}
+use Rattle.gz_round.specs.Standing.{Knows, Stands, StageStands, ArePassed, AreAskedAgain, IsWaiting, mark_of, awaited_of}
+use Rattle.gz_round.specs.Following.{Asks, MayMakeOf, AreServed, IsSettledBy, NoEvidence, IsUnmet, HeldOf, Turned, HasTurned}
+use Rattle.gz_round.specs.Acting.{IsPlain, Steps, RunsOut, Finishes, IsFewIn, IsShortIn, IsAheadIn, is_overtaken_in, is_waiting, vote_for, notice_for, stage_step, step_in, working_version, version_in}
 use Rattle.gz_round.proofs.Lists.{count_same, any_found, any_told}
 use Rattle.gz_round.proofs.Known.{evident_same, last_known, known_last, listed_known}
 use Rattle.gz_round.proofs.Columns.{top_highest, highest_reached}

@@ -11,7 +11,7 @@ use Rattle.std.specs.List.{count_by, list_any}
 use Rattle.gz_core.specs.declared.calls.UnsureWhy.TheVariants.{NoQuorum as UnsureNoQuorum, Contended as UnsureContended}
 use Rattle.gz_core.specs.declared.configuration.Config.{Config}
 use Rattle.gz_core.specs.declared.requests.RowStep.{RowStep}
-use Rattle.gz_core.specs.declared.requests.RowStep.TheVariants.{FastVote, Promise, ClassicVote, Decide, Trim}
+use Rattle.gz_core.specs.declared.requests.RowStep.TheVariants.{FastVote, Promise, ClassicVote, Decide}
 use Rattle.gz_pick.specs.Looks.{highest_of}
 use Rattle.gz_round.specs.declared.run.Run.{Run}
 use Rattle.gz_round.specs.declared.run.Stage.{Stage}

@@ -1,7 +1,6 @@
 -- When each answer of a call comes, by what the call has sent and heard.
-use Rattle.std.specs.Prelude.{ℕ, Bool, true, false, ◌≡◌, ◌≢◌, ◌≤◌, ◌<◌, ◌+◌, ◌⊎◌, ◌&&◌, ◌==◌, List, [], ◌∷◌, Option, Some, None}
+use Rattle.std.specs.Prelude.{ℕ, Bool, true, false, ◌≡◌, ◌≤◌, ◌<◌, ◌+◌, ◌⊎◌, ◌&&◌, ◌==◌, List, Option, Some, None}
 use Rattle.gz_core.specs.Names.{Name}
-use Rattle.gz_core.specs.Puts.{PutData}
 use Rattle.gz_core.specs.Calls.{own_value}
 use Rattle.gz_core.specs.Rows.{RowAt, column_in}
 use Rattle.gz_core.specs.declared.rows.Vote.{Vote}
@@ -18,7 +17,7 @@ use Rattle.gz_core.specs.declared.configuration.Config.{Config}
 use Rattle.gz_pick.specs.Looks.{row_top}
 use Rattle.gz_pick.specs.Evidences.{IsEvident}
 use Rattle.gz_round.specs.History.{Moment, Caller}
-use Rattle.gz_round.specs.Sites.{SiteNow, site_now, WasHeard}
+use Rattle.gz_round.specs.Sites.{site_now, WasHeard}
 use Rattle.gz_round.specs.Sent.{met, voted, phase_of}
 use Rattle.gz_round.specs.Shown.{heard_at, IsShown, IsCurrent}
 pub use Rattle.gz_round.specs.Sending.{rows_known}

@@ -1,9 +1,9 @@
 -- The value that is proposed in a classic ballot, by the rows that promise it.
-use Rattle.std.specs.Prelude.{ℕ, ◌≡◌, ◌≤◌, ◌<◌, ◌⊎◌, Bool, true, ◌&&◌, not, if◌then◌else◌, List, length, take, slice_get, count_by, Option, Some, None}
+use Rattle.std.specs.Prelude.{ℕ, ◌≡◌, ◌<◌, ◌⊎◌, ◌&&◌, not, if◌then◌else◌, List, length, take, slice_get, count_by, Option, Some, None}
 use Rattle.std.specs.List.{All}
 use Rattle.gz_core.specs.Names.{Name, BallotAt, same_ballot}
 use Rattle.gz_core.specs.Rows.{RowAt}
-use Rattle.gz_core.specs.Slots.{Slot, Gone, DecidedAs, OpenAt, slots, IsVoteOf}
+use Rattle.gz_core.specs.Slots.{Slot, Gone, DecidedAs, OpenAt, slots}
 use Rattle.gz_core.specs.declared.values.Value.{Value}
 use Rattle.gz_core.specs.declared.configuration.Config.{Config}
 use Rattle.gz_pick.specs.Evidences.{is_in}

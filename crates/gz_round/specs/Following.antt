@@ -1,6 +1,6 @@
 -- How a phase reaches its goal, or ends without it, by the rows that are known.
-use Rattle.std.specs.Prelude.{ℕ, ◌≡◌, ◌≢◌, ◌≤◌, ◌<◌, ◌+◌, ◌^◌, ◌⊎◌, ◌==◌, ◌&&◌, Bool, true, false, List, [], ◌∷◌, ◌++◌, length, Option, Some, None, slice_get, is_some}
-use Rattle.gz_core.specs.Names.{Name, BallotAt}
+use Rattle.std.specs.Prelude.{ℕ, ◌≡◌, ◌≤◌, ◌<◌, ◌⊎◌, ◌==◌, Bool, true, false, List, ◌∷◌, ◌++◌, Option, Some, None, slice_get}
+use Rattle.gz_core.specs.Names.{Name}
 use Rattle.gz_core.specs.Rows.{RowAt}
 use Rattle.gz_core.specs.Calls.{key_of, own_value}
 use Rattle.gz_core.specs.declared.values.Value.{Value}
@@ -12,7 +12,6 @@ use Rattle.gz_core.specs.declared.requests.Op.TheVariants.{WriteRow}
 use Rattle.gz_core.specs.declared.requests.Out.{Out}
 use Rattle.gz_accept.specs.declared.answers.Step.TheVariants.{Done}
 use Rattle.gz_pick.specs.Looks.{row_top, row_name, highest_of}
-use Rattle.gz_pick.specs.Evidences.{IsEvident, row_at}
 use Rattle.gz_round.specs.declared.run.Run.{Run}
 use Rattle.gz_round.specs.declared.run.Stage.{Stage}
 use Rattle.gz_round.specs.declared.run.Stage.TheVariants.{Look, Fast, Prepare, Accept}
@@ -20,14 +19,14 @@ use Rattle.gz_round.specs.declared.following.Next.{Next}
 use Rattle.gz_round.specs.declared.following.Next.TheVariants.{Wait, Vote, Chosen, Learnt, Absent}
 use Rattle.gz_round.specs.declared.hearing.Seen.{Seen}
 use Rattle.gz_round.specs.History.{Asked, Moment, Sent, Caller, Tale, IsClosing, sent_from}
-use Rattle.gz_round.specs.Sites.{SiteNow, site_now}
-use Rattle.gz_round.specs.Sent.{met, voted}
-use Rattle.gz_round.specs.Shown.{heard_at, IsShown, IsCurrent, IsClear}
+use Rattle.gz_round.specs.Sites.{site_now}
+use Rattle.gz_round.specs.Sent.{voted}
+use Rattle.gz_round.specs.Shown.{heard_at, IsShown, IsCurrent}
 use Rattle.gz_round.specs.Rounds.{rounds_used}
 pub use Rattle.gz_round.specs.Sending.{NoEvidence}
 use Rattle.gz_round.specs.Sending.{MayMake, MayFastVote, AreAllowed, NoneAbove, answer_of, made_by}
-use Rattle.gz_round.specs.Counting.{known_count, HasNotice, IsGoing}
-use Rattle.gz_round.specs.Causes.{HasCause, IsAbsent, IsValueHeard, is_blank, rows_known}
+use Rattle.gz_round.specs.Counting.{known_count, HasNotice}
+use Rattle.gz_round.specs.Causes.{HasCause, IsAbsent, is_blank}
 use Rattle.gz_round.specs.Asking.{is_notice}
 pub use Rattle.gz_round.specs.Standing.{MayPass}
 use Rattle.gz_round.specs.Standing.{Stands, StageStands, Runs, IsUnpromised, IsWorking, IsPreparing}

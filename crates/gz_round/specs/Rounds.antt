@@ -1,5 +1,5 @@
 -- When a call may send a promise of a classic ballot, and a vote in it. (Lamport 2006, "Fast Paxos", section 2.2.)
-use Rattle.std.specs.Prelude.{ℕ, max, Bool, true, false, not, ◌≡◌, ◌≢◌, ◌≤◌, ◌<◌, ◌+◌, ◌⊎◌, ◌&&◌, ◌||◌, ◌==◌, if◌then◌else◌, List, [], ◌∷◌, length, slice_get, Option, Some, None}
+use Rattle.std.specs.Prelude.{ℕ, max, Bool, true, false, not, ◌≡◌, ◌≢◌, ◌≤◌, ◌⊎◌, ◌&&◌, ◌||◌, ◌==◌, if◌then◌else◌, List, [], ◌∷◌, length, slice_get, Option, Some, None}
 use Rattle.std.specs.List.{All}
 use Rattle.gz_core.specs.Names.{Name, BallotAt, IsClassic, is_below, same_ballot, same_name}
 use Rattle.gz_core.specs.Values.{name_of}
@@ -15,11 +15,10 @@ use Rattle.gz_pick.specs.Evidences.{is_in}
 use Rattle.gz_pick.specs.Choices.{pick_of, AreSites}
 use Rattle.gz_pick.specs.declared.heard.Heard.{Heard}
 use Rattle.gz_pick.specs.declared.heard.Pick.TheVariants.{Forced, Free}
-use Rattle.gz_round.specs.History.{Moment, Sent, Handed, GaveUp, Rested, GaveIn, Caller, Tale}
-use Rattle.gz_round.specs.declared.hearing.Seen.{Seen}
+use Rattle.gz_round.specs.History.{Moment, Caller, Tale}
 use Rattle.gz_round.specs.Sites.{passes, heard_in, WasHeard}
 use Rattle.gz_round.specs.Sent.{of_sent, some_sent, promise_by, has_promised, has_promised_at, last_promise, top_round}
-use Rattle.gz_round.specs.Shown.{IsShown, IsCurrent, IsGrounded, IsClear}
+use Rattle.gz_round.specs.Shown.{IsCurrent, IsGrounded, IsClear}
 
 -- no call of a list promised this ballot
 abbrev pub IsUnused : List Tale → BallotAt → Type 0

@@ -1,6 +1,6 @@
 -- Which requests a call may send, by what it has sent and heard so far.
-use Rattle.std.specs.Prelude.{ℕ, Bool, true, false, ◌≡◌, ◌≢◌, ◌≤◌, ◌<◌, ◌+◌, ◌^◌, ◌⊎◌, nat_le, List, [], ◌∷◌, Option, Some, None}
-use Rattle.gz_core.specs.Names.{Name, BallotAt, IsClassic, is_below}
+use Rattle.std.specs.Prelude.{ℕ, true, false, ◌≡◌, ◌≢◌, ◌≤◌, ◌<◌, ◌+◌, ◌^◌, ◌⊎◌, List, [], ◌∷◌, Option, Some, None}
+use Rattle.gz_core.specs.Names.{Name, BallotAt}
 use Rattle.gz_core.specs.Values.{name_of}
 use Rattle.gz_core.specs.Calls.{key_of, own_value}
 use Rattle.gz_core.specs.Rows.{RowAt}
@@ -17,9 +17,7 @@ use Rattle.gz_core.specs.Counts.{count_sites}
 use Rattle.gz_pick.specs.Evidences.{IsEvident}
 use Rattle.gz_round.specs.Rounds.{MayPromise, MayClassicVote, rounds_used, round_known, promises_known, promises_above}
 use Rattle.gz_round.specs.History.{Asked, Moment, Sent, Handed, GaveUp, Rested, GaveIn, Caller, Tale}
-use Rattle.gz_round.specs.declared.hearing.Seen.{Seen}
 use Rattle.gz_round.specs.Sites.{SiteNow, site_now, known}
-use Rattle.gz_round.specs.Sent.{has_promised}
 use Rattle.gz_round.specs.Shown.{IsShown, IsCurrent, IsNext, IsClear}
 
 -- what a step answers on a row

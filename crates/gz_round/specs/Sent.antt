@@ -1,5 +1,5 @@
 -- What a call has sent: votes for its own value, promises, its last row write, and how often it was overtaken.
-use Rattle.std.specs.Prelude.{ℕ, ◌+◌, max, Bool, true, false, ◌&&◌, ◌||◌, ◌==◌, if◌then◌else◌, List, [], ◌∷◌, Option, Some, None, is_some}
+use Rattle.std.specs.Prelude.{ℕ, ◌+◌, max, Bool, true, false, ◌&&◌, ◌||◌, ◌==◌, if◌then◌else◌, List, [], ◌∷◌, Option, Some, None}
 use Rattle.gz_core.specs.Names.{Name, BallotAt, same_ballot, same_name}
 use Rattle.gz_core.specs.Values.{name_of}
 use Rattle.gz_core.specs.declared.calls.Phase.{Phase}
@@ -8,7 +8,7 @@ use Rattle.gz_core.specs.declared.requests.RowStep.{RowStep}
 use Rattle.gz_core.specs.declared.requests.RowStep.TheVariants.{FastVote, Promise, ClassicVote, Decide, Trim}
 use Rattle.gz_core.specs.declared.requests.Op.{Op}
 use Rattle.gz_core.specs.declared.requests.Op.TheVariants.{ReadRow, WriteRow}
-use Rattle.gz_round.specs.History.{Asked, Moment, Sent, Handed, GaveUp, Rested, GaveIn}
+use Rattle.gz_round.specs.History.{Moment, Sent, Handed, GaveUp, Rested, GaveIn}
 use Rattle.gz_round.specs.Sites.{is_changed}
 
 -- the version at which a step votes for the value of this name

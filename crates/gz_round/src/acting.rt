@@ -13,7 +13,8 @@ ghost use Rattle.gz_round.specs.Following.{Ready, IsReady, Turned, HasTurned};
 use crate::following::Next;
 use crate::run::{Run, Stage};
 use gz_core::{
-    Answer, Ballot, Column, Config, Items, Out, Row, RowStep, SiteId, Turn, UnsureWhy, Value, Version, Vote,
+    Answer, Ballot, Column, Config, Items, Out, Row, RowStep, SiteId, Turn, UnsureWhy, Value,
+    Version, Vote,
 };
 use gz_pick::highest;
 use std::alloc::{AllocError, Global};
@@ -138,12 +139,7 @@ impl Run {
     }
 
     /// The step of the phase is made at each site that takes it. A ballot that leads no further gives way to another.
-    fn carry_on(
-        &mut self,
-        alloc: Global,
-        config: &Config,
-        first: u32,
-    ) -> Result<Turn, AllocError>
+    fn carry_on(&mut self, alloc: Global, config: &Config, first: u32) -> Result<Turn, AllocError>
         requires config { IsConfig config.now }
         requires first { first < 2 ^ 31 }
         requires carries { CanCarry config.now self.old }

@@ -37,12 +37,7 @@ impl Run {
 
     /// A phase that ended without its goal: a put prepares a classic ballot after `Look` and `Fast`; a get ends as
     /// unsettled; where a classic ballot leads no further, every site goes out.
-    fn run_out(
-        &mut self,
-        config: &Config,
-        first: u32,
-        send: Items<Out>,
-    ) -> Result<Turn, AllocError>
+    fn run_out(&mut self, config: &Config, first: u32, send: Items<Out>) -> Result<Turn, AllocError>
         requires config { IsConfig config.now }
         requires first { first < 2 ^ 31 }
         requires few { length send ≤ 16 }

@@ -47,7 +47,9 @@ impl Run {
                 self.round < ballot.round || any_above(self.rows.as_slice(), *version, *ballot)
             },
             Stage::Accept {
-                version, ballot, ..
+                version,
+                ballot,
+                ..
             } => any_above(self.rows.as_slice(), *version, *ballot),
         }
     }

@@ -1,10 +1,10 @@
-use Rattle.std.proofs.Common.{◌≡◌, ◌≤◌, ◌+◌, sym, ap, subst, arith, rules}
+use Rattle.std.proofs.Common.{◌≤◌, ◌+◌, sym, subst, arith, rules}
 use Rattle.std.proofs.lemmas.Bool.{both_ways}
 use Rattle.gz_pick.specs.Looks.{highest_of}
 use Rattle.gz_round.specs.Following.{MayPass}
 use Rattle.gz_round.specs.Sending.{MayFastVote}
 use Rattle.gz_round.specs.Standing.{IsUnpromised}
-use Rattle.gz_round.specs.Evidence.{NoneEvident, EvidentAt}
+use Rattle.gz_round.specs.Evidence.{NoneEvident}
 use Rattle.gz_round.proofs.Known.{known_low, none_evident}
 use Rattle.gz_round.proofs.Follows.{evident_highest, chosen_means, other_means, pass_from}
 use Rattle.gz_round.proofs.run.Run.+pass.Goals as goal

@@ -1,4 +1,4 @@
-use Rattle.std.proofs.Common.{◌≡◌, ◌≤◌, ◌<◌, ◌∙◌, sym, ap, subst, inl, inr, arith}
+use Rattle.std.proofs.Common.{◌≡◌, ◌∙◌, sym, ap, subst, inl, inr, arith}
 use Rattle.gz_pick.specs.Looks.{highest_of}
 use Rattle.gz_round.specs.Evidence.{NoneEvident}
 use Rattle.gz_round.specs.Following.{IsUnmet, IsLatest}
