@@ -1,6 +1,6 @@
 mod Ballots
 mod Forward
-mod Making
+pub mod Making
 mod Placing
-mod Rising
-mod Seen
+pub mod Rising
+pub mod Seen

@@ -3,6 +3,7 @@ mod RowLemmas
 mod KeyLemmas
 mod PutLemmas
 mod HoldLemmas
+mod CodeLemmas
 mod CountLemmas
 mod FreshLemmas
 mod LegalLemmas

@@ -11,7 +11,7 @@ use Rattle.gz_script.specs.declared.line.Line.{Line}
 use Rattle.gz_cli.specs.declared.status.Status.{Status}
 use Rattle.gz_cli.specs.declared.status.Status.TheVariants.{Done, Usage, ShelfFault, NoFile, FileTooLarge, BadText, SinkFault, NoMemory}
 use Rattle.gz_cli.specs.Replays.{played, ThreeHold}
-use Rattle.gz_cli.specs.Runs.{Files, Counts, FileIs, Loads, IsUnbuiltAt, LoadCause, Cause, RunCause, TellsBytes, IsPlayable, AreSteady, Replayed, AreCallsOf, GetsLatest, RowsHold}
+use Rattle.gz_cli.specs.Runs.{Files, Counts, FileIs, Loads, IsUnbuiltAt, LoadCause, Cause, TellsBytes, IsPlayable, AreSteady, Replayed, AreCallsOf, GetsLatest, RowsHold}
 use Rattle.gz_cli.proofs.LegalLemmas.{legal_played, order_played, gets_played}
 
 not-absent : (files : Files) (name bytes : List ℕ) → TellsBytes files name bytes → FileIs files name (λ file. file ≡ None) → ⊥
@@ -53,11 +53,10 @@ completes files name bytes old new SinkFault tells within built steady cause = a
 completes files name bytes old new NoMemory tells within built steady cause = inr refl
 
 -- a good file gives Done, or memory ran out
-pub run-completes : (named : Option (List ℕ)) (files : Files) (old new : Counts) (status : Status) → RunCause named files old new status
-    → IsPlayable named files → AreSteady old new → (status ≡ Done) ⊎ (status ≡ NoMemory)
-run-completes named files old new status cause good steady =
-    completes files good.name good.bytes old new status good.file good.within good.built steady
-    (subst (λ (n : Option (List ℕ)). RunCause n files old new status) good.words cause)
+pub replay-completes : (files : Files) (name : List ℕ) (old new : Counts) (status : Status) → Cause files name old new status
+    → IsPlayable files name → AreSteady old new → (status ≡ Done) ⊎ (status ≡ NoMemory)
+replay-completes files name old new status cause good steady =
+    completes files name good.bytes old new status good.file good.within good.built steady cause
 
 -- what was played of a file
 pub replayed : (files : Files) (name : List ℕ) (lines : List Line) (calls : List CallRec) (Written : List ℕ → Type 0) → Loads files name lines

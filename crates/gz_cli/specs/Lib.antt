@@ -1,4 +1,5 @@
 pub mod Words
+pub mod Codes
 pub mod Sites
 pub mod Replays
 pub mod Kept

@@ -19,7 +19,9 @@ use Rattle.gz_script.specs.declared.line.Line.{Line}
 use Rattle.gz_script.specs.declared.line.Line.TheVariants.{OpenSession, Begin, Settle}
 use Rattle.gz_cli.specs.declared.status.Status.{Status}
 use Rattle.gz_cli.specs.declared.status.Status.TheVariants.{Done, Usage, ShelfFault, NoFile, FileTooLarge, BadText, SinkFault, NoMemory}
+use Rattle.gz_cli.specs.Codes.{Codes}
 use Rattle.gz_cli.specs.Sites.{site_at}
+use Rattle.gz_cli.specs.Words.{Task, replay, code}
 use Rattle.gz_cli.specs.Replays.{puts_of, latest_of, played, HoldsRows}
 
 -- the files of a shelf, none where it does not tell them
@@ -107,11 +109,6 @@ Cause files name old new (BadText line why) = IsUnbuiltAt files name line
 Cause files name old new SinkFault = IsLoaded files name × Rose old.sink new.sink
 Cause files name old new NoMemory = Unit {0}
 
--- the cause of a status over the words: they name a file, or are of no form
-abbrev pub RunCause : Option (List ℕ) → Files → Counts → Counts → Status → Type 0
-RunCause None files old new status = status ≡ Usage
-RunCause (Some name) files old new status = Cause files name old new status
-
 -- the input was refused: nothing was played
 abbrev pub IsRefusal : Status → Type 0
 IsRefusal Done = ⊥
@@ -145,7 +142,26 @@ WriteCause old new (BadText line why) = ⊥
 WriteCause old new SinkFault = Rose old new
 WriteCause old new NoMemory = Unit {0}
 
--- the status of a log that could not be written
+-- the cause of a status over the words: they ask for a replay or a code, or are of no form. Words of a form are never
+-- refused as usage, so each status comes exactly where its cause does, want of memory aside
+abbrev pub RunCause : Option Task → Files → Counts → Counts → Status → Type 0
+RunCause None files old new status = status ≡ Usage
+RunCause (Some (replay name)) files old new status = Cause files name old new status
+RunCause (Some (code k m digits)) files old new status = WriteCause old.sink new.sink status
+
+-- the words ask for a code
+abbrev pub IsCode : Option Task → Type 0
+IsCode None = ⊥
+IsCode (Some (replay name)) = ⊥
+IsCode (Some (code k m digits)) = Unit {0}
+
+-- the words ask for a replay, and the schedule was played to its end
+abbrev pub HasReplayed : Option Task → Status → Type 0
+HasReplayed None status = ⊥
+HasReplayed (Some (replay name)) status = HasPlayed status
+HasReplayed (Some (code k m digits)) status = ⊥
+
+-- the status of an output that could not be written
 abbrev pub sink_status : SinkError → Status
 sink_status SinkFailed = SinkFault
 sink_status NoSinkMemory = NoMemory
@@ -170,7 +186,7 @@ pub record RowsHold (calls : List CallRec) (sites : List MemSite) : Type 0 where
   pub second : HoldsRows calls (site_at sites 1).told
   pub third : HoldsRows calls (site_at sites 2).told
 
--- how much of a log was written
+-- the whole of an output was written
 abbrev pub Whole : Option (List ℕ) → List ℕ → Option (List ℕ) → Type 0
 Whole before log after = after ≡ option_map (λ b. b ++ log) before
 
@@ -182,29 +198,39 @@ pub record Replayed (files : Files) (name : List ℕ) (calls : List CallRec) (Wr
   pub order : AreCallsOf lines calls
   pub written : Written (log_of calls (played lines).ticks 0)
 
--- the same for the words of the command line
-abbrev pub Replays : Option (List ℕ) → Files → List CallRec → (List ℕ → Type 0) → Type 0
-Replays None files calls Written = ⊥
-Replays (Some name) files calls Written = Replayed files name calls Written
+-- what the words ask for was done: the file was played and its log written, or the text of the pieces was written
+abbrev pub Writes : Option Task → Files → List CallRec → (List ℕ → Type 0) → Type 0
+Writes None files calls Written = ⊥
+Writes (Some (replay name)) files calls Written = Replayed files name calls Written
+Writes (Some (code k m digits)) files calls Written = Codes k m digits Written
 
 -- want of memory came before anything was written, or some first part of the log of the file was written
-abbrev pub IsCutShort : Option (List ℕ) → Files → Option (List ℕ) → Option (List ℕ) → Type 0
-IsCutShort None files before after = ⊥
-IsCutShort (Some name) files before after = (after ≡ before) ⊎ ((lines : List Line) × (Loads files name lines × IsSomePart before (log_of (played lines).calls (played lines).ticks 0) after))
+abbrev pub IsCutShort : Files → List ℕ → Option (List ℕ) → Option (List ℕ) → Type 0
+IsCutShort files name before after = (after ≡ before) ⊎ ((lines : List Line) × (Loads files name lines × IsSomePart before (log_of (played lines).calls (played lines).ticks 0) after))
+
+-- the same for what the words ask for
+abbrev pub IsCut : Option Task → Files → Option (List ℕ) → Option (List ℕ) → Type 0
+IsCut None files before after = ⊥
+IsCut (Some (replay name)) files before after = IsCutShort files name before after
+IsCut (Some (code k m digits)) files before after = (after ≡ before) ⊎ Codes k m digits (λ text. IsSomePart before text after)
 
 -- the shelf tells that the file has these bytes
 abbrev pub TellsBytes : Files → List ℕ → List ℕ → Type 0
 TellsBytes None name bytes = ⊥
 TellsBytes (Some files) name bytes = files name ≡ Some bytes
 
--- the words name a file that the shelf tells, that is within the limit and of which each line can be played
-pub record IsPlayable (named : Option (List ℕ)) (files : Files) : Type 0 where
-  pub name : List ℕ
-  pub words : named ≡ Some name
+-- the shelf tells the file, which is within the limit and of which each line can be played
+pub record IsPlayable (files : Files) (name : List ℕ) : Type 0 where
   pub bytes : List ℕ
   pub file : TellsBytes files name bytes
   pub within : length bytes ≤ 65536
   pub built : AreBuilt (readings bytes) (length (readings bytes))
+
+-- the words ask for a replay of such a file, or for a code
+abbrev pub IsFeasible : Option Task → Files → Type 0
+IsFeasible None files = ⊥
+IsFeasible (Some (replay name)) files = IsPlayable files name
+IsFeasible (Some (code k m digits)) files = Unit {0}
 
 -- no count of faults rose
 pub record AreSteady (old new : Counts) : Type 0 where

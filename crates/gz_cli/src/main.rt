@@ -1,9 +1,12 @@
-//! The program `giza`: it replays a schedule over sites in memory, and prints the log.
+//! The program `giza`: it replays a schedule over sites in memory and prints the log, or cuts bytes into the pieces of
+//! a code.
 #![tactic(auto)]
 
 mod bench;
 mod edge;
 mod load;
+mod output;
+mod pieces;
 mod replay;
 mod rows;
 mod run;
@@ -51,7 +54,7 @@ fn unread(error: &io::Error) -> Status {
     }
 }
 
-// Runs the words over the files of the folder, with the log on standard output.
+// Runs the words over the files of the folder, with the output on standard output.
 fn start(rt: &HostRuntime, words: &[Word]) -> Status {
     match Bench::new(rt.alloc()) {
         Ok(mut bench) => run(

@@ -45,7 +45,7 @@ fn shelf(alloc: Global, text: &[u8], fails: u32) -> Result<MemShelf, AllocError>
 // How a run ends and what it writes, where `shelf_fails` and `sink_fails` number the calls that fail.
 #[derive(Drop)]
 struct Case<'a> {
-    words: &'a str,
+    words: &'a [&'a str],
     text: &'a [u8],
     shelf_fails: u32,
     sink_fails: u32,
@@ -56,7 +56,7 @@ struct Case<'a> {
 
 fn check(rt: &impl Abort, alloc: Global, case: &Case) -> Result<(), Fail> {
     let mut words = Vec::new(alloc);
-    for text in case.words.split_whitespace() {
+    for text in case.words {
         words.push(word(alloc, text)?)?;
     }
     let mut shelf = shelf(alloc, case.text, case.shelf_fails)?;
@@ -71,7 +71,7 @@ fn check(rt: &impl Abort, alloc: Global, case: &Case) -> Result<(), Fail> {
 
 fn played<'a>(text: &'a str, number: u8, status: &'a str, log: &'a str) -> Case<'a> {
     Case {
-        words: "replay s",
+        words: &["replay", "s"],
         text: text.as_bytes(),
         shelf_fails: 0,
         sink_fails: 0,
@@ -81,15 +81,17 @@ fn played<'a>(text: &'a str, number: u8, status: &'a str, log: &'a str) -> Case<
     }
 }
 
-fn of_no_form(words: &str) -> Case<'_> {
+fn of_no_form<'a>(words: &'a [&'a str]) -> Case<'a> {
     Case {
         words,
-        text: b"",
-        shelf_fails: 0,
-        sink_fails: 0,
-        number: 2,
-        status: "usage",
-        log: "",
+        ..played("", 2, "usage", "")
+    }
+}
+
+fn coded<'a>(words: &'a [&'a str], log: &'a str) -> Case<'a> {
+    Case {
+        words,
+        ..played("", 0, "done", log)
     }
 }
 
@@ -127,15 +129,12 @@ fn each_status_of_a_schedule(rt: HostRuntime) -> Result<(), Fail> {
 }
 
 #[test]
-fn each_status_of_the_words(rt: HostRuntime) -> Result<(), Fail> {
-    for words in ["", "replay", "replay -x", "play s", "replay s s"] {
-        check(&rt, rt.alloc(), &of_no_form(words))?;
-    }
+fn each_status_of_a_file(rt: HostRuntime) -> Result<(), Fail> {
     check(
         &rt,
         rt.alloc(),
         &Case {
-            words: "replay none",
+            words: &["replay", "none"],
             ..played(PUT_GET, 4, "no file none", "")
         },
     )?;
@@ -200,6 +199,75 @@ fn each_outside_call_fails_in_turn(rt: HostRuntime) -> Result<(), Fail> {
             ..played(PUT_GET, 0, "done", PUT_GET_LOG)
         },
     )
+}
+
+#[test]
+fn pieces_of_bytes(rt: HostRuntime) -> Result<(), Fail> {
+    let cases: [(&[&str], &str); 7] = [
+        (&["code", "2", "1", "0102"], "0 01\n1 02\n2 07\n"),
+        (&["code", "2", "1", "8000"], "0 80\n1 00\n2 9d\n"),
+        (&["code", "2", "1", "010203"], "0 0102\n1 0300\n2 0506\n"),
+        (&["code", "3", "1", "050607"], "0 05\n1 06\n2 07\n3 04\n"),
+        (&["code", "1", "0", "00"], "0 00\n"),
+        (&["code", "2", "1", ""], "0 -\n1 -\n2 -\n"),
+        (&["code", "1", "1", "aBcD"], "0 abcd\n1 abcd\n"),
+    ];
+    for (words, log) in cases {
+        check(&rt, rt.alloc(), &coded(words, log))?;
+    }
+    Ok(())
+}
+
+#[test]
+fn words_of_no_form(rt: HostRuntime) -> Result<(), Fail> {
+    let forms: [&[&str]; 19] = [
+        &[],
+        &["replay"],
+        &["replay", "-x"],
+        &["play", "s"],
+        &["replay", "s", "s"],
+        &["code", "0", "1", "00"],
+        &["code", "2", "1", "123"],
+        &["code", "2", "255", "00"],
+        &["code", "4294967297", "1", "00"],
+        &["code", "02", "1", "00"],
+        &["code", "2", "+1", "00"],
+        &["code", "2", "x", "00"],
+        &["code", "", "1", "00"],
+        &["code", "2", "1", "0g"],
+        &["code", "2", "1", "0x00"],
+        &["code", "2", "1", "--"],
+        &["code", "2", "1"],
+        &["code", "2", "1", "00", "00"],
+        &["cod", "2", "1", "00"],
+    ];
+    for words in forms {
+        check(&rt, rt.alloc(), &of_no_form(words))?;
+    }
+    Ok(())
+}
+
+#[test]
+fn a_sink_of_pieces_fails_in_turn(rt: HostRuntime) -> Result<(), Fail> {
+    let words: &[&str] = &["code", "2", "1", "0102"];
+    let log = "0 01\n1 02\n2 07\n";
+    for (sink_fails, number, status, log) in [
+        (1, 11, "cannot write", ""),
+        (2, 11, "cannot write", log),
+        (3, 0, "done", log),
+    ] {
+        check(
+            &rt,
+            rt.alloc(),
+            &Case {
+                sink_fails,
+                number,
+                status,
+                ..coded(words, log)
+            },
+        )?;
+    }
+    Ok(())
 }
 
 fn key(alloc: Global) -> Result<Key, Fail> {

@@ -15,7 +15,7 @@ use Rattle.gz_core.proofs.Ballots.{same_means, name_means}
 use Rattle.gz_round.specs.History.{Asked, Moment, Sent, Caller, Tale}
 use Rattle.gz_round.specs.Sent.{vote_by, promise_by, of_step, or_earlier, passes_sent, voted_at, has_promised, has_promised_at, last_promise}
 use Rattle.gz_round.specs.Shown.{IsClear}
-use Rattle.gz_round.specs.Rounds.{MayPromise, MayClassicVote, MayPropose, IsLeft, IsPromiseHeard, passed_since, Cast, cast_by, has_cast, is_promise}
+use Rattle.gz_round.specs.Rounds.{MayPromise, MayClassicVote, MayPropose, IsLeft, IsPromiseHeard, passed_since, Cast, cast_by, has_cast, is_promise, IsValueKnown}
 use Rattle.gz_pick.specs.declared.heard.Heard.{Heard}
 use Rattle.gz_round.specs.Sending.{MayFastVote, MayMake}
 use Rattle.gz_round.specs.Following.{MayMakeOf}
@@ -133,6 +133,11 @@ left_kept : (c : Config) (w : Caller) (ms : List Moment) (a : Asked) (v : ℕ) (
 left_kept c w ms a v b heard value is (inl h) = inl h
 left_kept c w ms a v b heard value is (inr h) = inr (h.0, propose_kept c w ms a v b value is h.1)
 
+-- a value that is known stays so
+known_kept : (w : Caller) (ms : List Moment) (a : Asked) (v : ℕ) (value : Value) → IsValueKnown w ms v value → IsValueKnown w (Sent a ∷ ms) v value
+known_kept w ms a v value (inl own) = inl own
+known_kept w ms a v value (inr h) = inr (h.0, h.1, inr h.2, h.3)
+
 pub classic_kept : (c : Config) (w : Caller) (ms : List Moment) (a : Asked) (v : ℕ) (b : BallotAt) (value : Value) → IsOf a.op (Some (ClassicVote v b value)) → MayClassicVote c w ms v b value → MayClassicVote c w (Sent a ∷ ms) v b value
 classic_kept c w ms a v b value is h = record {
   above = h.above;
@@ -142,6 +147,7 @@ classic_kept c w ms a v b value is h = record {
   enough = h.enough;
   rows = promises_more (Sent a) ms v b h.heard h.rows;
   choice = left_kept c w ms a v b h.heard value is h.choice;
+  known = known_kept w ms a v value h.known;
   one = λ (y : Name) (k : has_cast (Sent a ∷ ms) v b y ≡ true). one_cast (of_step cast_by a.op) v b value y (has_cast ms v b y) (cast_sent a.op v b value is) (h.one y) k;
 }
 
@@ -150,7 +156,7 @@ pub may_kept : (c : Config) (w : Caller) (past : List Tale) (ms : List Moment) (
 may_kept c w past ms a (FastVote v value) is h = (h.0, fast_kept c w ms a v value is h.1)
 may_kept c w past ms a (Promise v b) is h = promise_kept c w past ms a v b is h
 may_kept c w past ms a (ClassicVote v b value) is h = classic_kept c w ms a v b value is h
-may_kept c w past ms a (Decide v value) is h = h
+may_kept c w past ms a (Decide v value) is h = (h.0, known_kept w ms a v value h.1)
 may_kept c w past ms a (Trim to value) is h = h
 
 pub may_kept_of : (c : Config) (w : Caller) (past : List Tale) (ms : List Moment) (a : Asked) (step : Option RowStep) → IsOf a.op step → MayMakeOf c w past ms step → MayMakeOf c w past (Sent a ∷ ms) step

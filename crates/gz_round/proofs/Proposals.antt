@@ -27,7 +27,7 @@ use Rattle.gz_round.specs.declared.run.Run.{Run}
 use Rattle.gz_round.specs.declared.run.Stage.TheVariants.{Prepare, Accept}
 use Rattle.gz_round.specs.History.{Moment, Caller, Tale}
 use Rattle.gz_round.specs.Sent.{has_promised_at}
-use Rattle.gz_round.specs.Rounds.{MayClassicVote, IsPromiseHeard, IsLeft, promises_known, slot_promises, has_cast, rounds_used}
+use Rattle.gz_round.specs.Rounds.{MayClassicVote, IsPromiseHeard, IsLeft, promises_known, slot_promises, has_cast, rounds_used, IsValueKnown}
 use Rattle.gz_round.specs.Causes.{row_value, column_value, vote_value}
 use Rattle.gz_round.specs.Sending.{NoEvidence}
 use Rattle.gz_round.specs.Standing.{Knows, Stands, StageStands, MayPass}
@@ -214,6 +214,14 @@ proposed_left c w past run ms v b heard x h pass all (inr k) =
     let named = row_named k.2 v b one.vote x open' k.6 in
     inl (k.0, k.3, (one, named.0, k.4, named.1, named.2))
 
+-- and the call knows it
+proposed_known : (c : Config) (w : Caller) (past : List Tale) (run : Run) (ms : List Moment) (v : ℕ) (heard : List Heard) (x : Value) → Stands c w past run ms → IsProposed c run v heard x → IsValueKnown w ms v x
+proposed_known c w past run ms v heard x h (inl k) = inl (sym h.own_is ∙ k.1)
+proposed_known c w past run ms v heard x h (inr k) =
+    let one : Heard = k.1 in
+    let inside : one.site < c.n = let len = h.knows.rows_len in omega (arith, slice_get_within run.rows one.site (Some k.2) k.5) in
+    inr (one.site, k.2, known_heard ms one.site k.2 (listed_known c run ms h.knows one.site k.2 inside k.5), k.6)
+
 was_promised : (past : List Tale) (ms : List Moment) (v : ℕ) (b : BallotAt) (round : ℕ) → round ≡ rounds_used past ms → b.round ≤ round → (has_promised_at ms v b ≡ true) ⊎ (rounds_used past ms < b.round) → has_promised_at ms v b ≡ true
 was_promised past ms v b round e l (inl h) = h
 was_promised past ms v b round e l (inr h) = absurd (omega arith)
@@ -232,6 +240,7 @@ chosen_carries c w past run ms v b heard x at a reached are enough proposed =
       enough = enough;
       rows = promises_heard c run ms v b heard a.ready.stands.knows are.rows_are;
       choice = proposed_left c w past run ms v b heard x a.ready.stands s.0.works.pass are.rows_are proposed;
+      known = proposed_known c w past run ms v heard x a.ready.stands proposed;
       one = λ (y : Name) (k : has_cast ms v b y ≡ true). absurd (both_ways (has_cast ms v b y) (s.0.uncast y) k);
     } in
     record {

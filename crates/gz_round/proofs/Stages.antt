@@ -20,7 +20,7 @@ use Rattle.gz_round.specs.History.{Asked, Moment, Sent, Caller, Tale}
 use Rattle.gz_round.specs.Sites.{SiteNow, site_now, after, after_reply, concerns, known, heard_in, passes}
 use Rattle.gz_round.specs.Sent.{voted, voted_at, vote_by, promise_by, of_step, of_sent, or_earlier, passes_sent, some_sent, has_promised, has_promised_at, last_promise, top_round, round_after, phase_of}
 use Rattle.gz_round.specs.Shown.{IsClear, IsGrounded}
-use Rattle.gz_round.specs.Rounds.{MayPromise, MayClassicVote, MayPropose, IsLeft, passed_since, is_promise, promises_above, cast_by, has_cast, top_rounds, rounds_used}
+use Rattle.gz_round.specs.Rounds.{MayPromise, MayClassicVote, MayPropose, IsLeft, passed_since, is_promise, promises_above, cast_by, has_cast, top_rounds, rounds_used, IsValueKnown}
 use Rattle.gz_round.specs.Sending.{NoneAbove}
 use Rattle.gz_round.specs.Standing.{StageStands, IsUnpromised, ArePassed, MayPass, IsWorking, IsPreparing}
 use Rattle.gz_round.specs.Following.{HeldBy, HeldOf}
@@ -107,6 +107,10 @@ left_more : (c : Config) (w : Caller) (m : Moment) (ms : List Moment) (v : ℕ) 
 left_more c w m ms v heard x q (inl h) = inl h
 left_more c w m ms v heard x q (inr h) = inr (h.0, propose_more c w m ms v x q h.1)
 
+known_more : (w : Caller) (m : Moment) (ms : List Moment) (v : ℕ) (x : Value) → IsValueKnown w ms v x → IsValueKnown w (m ∷ ms) v x
+known_more w m ms v x (inl own) = inl own
+known_more w m ms v x (inr h) = inr (h.0, h.1, inr h.2, h.3)
+
 classic_more : (c : Config) (w : Caller) (m : Moment) (ms : List Moment) (v : ℕ) (b : BallotAt) (x : Value) → IsQuiet w m ms → MayClassicVote c w ms v b x → MayClassicVote c w (m ∷ ms) v b x
 classic_more c w m ms v b x q h = record {
   above = h.above;
@@ -116,6 +120,7 @@ classic_more c w m ms v b x q h = record {
   enough = h.enough;
   rows = promises_more m ms v b h.heard h.rows;
   choice = left_more c w m ms v h.heard x q h.choice;
+  known = known_more w m ms v x h.known;
   one = λ (y : Name) (k : has_cast (m ∷ ms) v b y ≡ true). h.one y (sym (unsent cast_by _ m ms q.cast) ∙ k);
 }
 

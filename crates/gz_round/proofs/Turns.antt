@@ -162,8 +162,8 @@ finish_turned c w past run new ms first sent v step f is asked =
     let x : Value = f.own.0 in
     let own : own_value w.name w.call ≡ Some x = f.own.1 in
     let step_is : step ≡ Some (Decide v x) = is ∙ ap (notice_for v) (f.stands.own_is ∙ own) in
-    let may : IsShown c ms v (name_of x) = subst (λ (n : Name). IsShown c ms v n) (sym (own_name w.name w.call x own)) f.shown in
-    let done = asked (record { stands = f.stands; may = subst (MayMakeOf c w past ms) (sym step_is) may; held = subst (HeldOf c w past ms) (sym step_is) tt }) in
+    let shown : IsShown c ms v (name_of x) = subst (λ (n : Name). IsShown c ms v n) (sym (own_name w.name w.call x own)) f.shown in
+    let done = asked (record { stands = f.stands; may = subst (MayMakeOf c w past ms) (sym step_is) (shown, inl own); held = subst (HeldOf c w past ms) (sym step_is) tt }) in
     let served : AreServed c w (sent_from first sent ms) (Some (Decide v x)) = subst (AreServed c w (sent_from first sent ms)) step_is done.1 in
     (done.0.stands.allowed, (going_sent c first sent ms f.going, (x, own, shown_sent c v w.name first sent ms f.shown), noticed_from c w past new (sent_from first sent ms) v x done.0.stands own served), done.0.stands.round_is)
 

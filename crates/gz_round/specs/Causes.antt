@@ -2,10 +2,7 @@
 use Rattle.std.specs.Prelude.{ℕ, Bool, true, false, ◌≡◌, ◌≤◌, ◌<◌, ◌+◌, ◌⊎◌, ◌&&◌, ◌==◌, List, Option, Some, None}
 use Rattle.gz_core.specs.Names.{Name}
 use Rattle.gz_core.specs.Calls.{own_value}
-use Rattle.gz_core.specs.Rows.{RowAt, column_in}
-use Rattle.gz_core.specs.declared.rows.Vote.{Vote}
-use Rattle.gz_core.specs.declared.rows.Column.{Column}
-use Rattle.gz_core.specs.declared.rows.Column.TheVariants.{Open, Decided}
+use Rattle.gz_core.specs.Rows.{RowAt}
 use Rattle.gz_core.specs.declared.values.Value.{Value}
 use Rattle.gz_core.specs.declared.values.Value.TheVariants.{Put}
 use Rattle.gz_core.specs.declared.calls.Answer.{Answer}
@@ -17,33 +14,16 @@ use Rattle.gz_core.specs.declared.configuration.Config.{Config}
 use Rattle.gz_pick.specs.Looks.{row_top}
 use Rattle.gz_pick.specs.Evidences.{IsEvident}
 use Rattle.gz_round.specs.History.{Moment, Caller}
-use Rattle.gz_round.specs.Sites.{site_now, WasHeard}
+use Rattle.gz_round.specs.Sites.{site_now}
 use Rattle.gz_round.specs.Sent.{met, voted, phase_of}
 use Rattle.gz_round.specs.Shown.{heard_at, IsShown, IsCurrent}
+pub use Rattle.gz_round.specs.Shown.{vote_value, column_value, row_value, IsValueHeard}
 pub use Rattle.gz_round.specs.Sending.{rows_known}
 use Rattle.gz_round.specs.Counting.{outs, known_count, IsGoing, IsNoticed}
 
 -- the call is a put, and its value is shown at the version
 abbrev pub IsChosenOwn : Config → Caller → List Moment → ℕ → Type 0
 IsChosenOwn c w ms v = (x : Value) × (own_value w.name w.call ≡ Some x) × IsShown c ms v w.name
-
--- the value that a vote has
-abbrev pub vote_value : Option Vote → Option Value
-vote_value None = None
-vote_value (Some vote) = Some vote.value
-
--- the value that a column has, as a vote or a decision
-abbrev pub column_value : Option Column → Option Value
-column_value None = None
-column_value (Some (Open promise vote)) = vote_value vote
-column_value (Some (Decided value)) = Some value
-
-abbrev pub row_value : RowAt → ℕ → Option Value
-row_value row v = column_value (column_in row.columns v)
-
--- a heard row has the value at the version, as a vote or a decision
-abbrev pub IsValueHeard : List Moment → ℕ → Value → Type 0
-IsValueHeard ms v x = (s : ℕ) × (row : RowAt) × WasHeard ms s row × (row_value row v ≡ Some x)
 
 -- the call is no put; the value is shown at the version, no later one has begun, and the value itself was heard there
 pub record IsLearnt (c : Config) (w : Caller) (ms : List Moment) (v : ℕ) (x : Name) (bytes : List ℕ) : Type 0 where

@@ -15,7 +15,7 @@ use Rattle.gz_accept.specs.declared.answers.Step.TheVariants.{Done}
 use Rattle.gz_accept.specs.Steps.{fast_answer, fast_voted, promise_answer, promised, classic_answer, classic_voted, decide_answer, decided, trim_answer, trimmed_to}
 use Rattle.gz_core.specs.Counts.{count_sites}
 use Rattle.gz_pick.specs.Evidences.{IsEvident}
-use Rattle.gz_round.specs.Rounds.{MayPromise, MayClassicVote, rounds_used, round_known, promises_known, promises_above}
+use Rattle.gz_round.specs.Rounds.{MayPromise, MayClassicVote, rounds_used, round_known, promises_known, promises_above, IsValueKnown}
 use Rattle.gz_round.specs.History.{Asked, Moment, Sent, Handed, GaveUp, Rested, GaveIn, Caller, Tale}
 use Rattle.gz_round.specs.Sites.{SiteNow, site_now, known}
 use Rattle.gz_round.specs.Shown.{IsShown, IsCurrent, IsNext, IsClear}
@@ -53,7 +53,7 @@ abbrev pub MayMake : Config → Caller → List Tale → List Moment → RowStep
 MayMake c w past ms (FastVote v x) = (own_value w.name w.call ≡ Some x) × MayFastVote c w ms v
 MayMake c w past ms (Promise v b) = MayPromise c w past ms v b
 MayMake c w past ms (ClassicVote v b x) = MayClassicVote c w ms v b x
-MayMake c w past ms (Decide v x) = IsShown c ms v (name_of x)
+MayMake c w past ms (Decide v x) = IsShown c ms v (name_of x) × IsValueKnown w ms v x
 MayMake c w past ms (Trim to x) = ⊥
 
 -- a write goes out on the last row that was heard, under its tag, where it wasn't overtaken since

@@ -1,15 +1,19 @@
 -- What the rows that a call heard show: that a value is chosen at a version, and that no later one has begun.
 -- (Lamport 2006, "Fast Paxos": a value is chosen by the votes of a quorum of one ballot.)
-use Rattle.std.specs.Prelude.{ℕ, Bool, true, ◌≡◌, ◌≢◌, ◌≤◌, ◌+◌, ◌⊎◌, nat_le, List, Some}
+use Rattle.std.specs.Prelude.{ℕ, Bool, true, ◌≡◌, ◌≢◌, ◌≤◌, ◌+◌, ◌⊎◌, nat_le, List, Option, Some, None}
 use Rattle.gz_core.specs.Names.{Name, BallotAt}
-use Rattle.gz_core.specs.Rows.{RowAt}
+use Rattle.gz_core.specs.Rows.{RowAt, column_in}
+use Rattle.gz_core.specs.declared.rows.Vote.{Vote}
+use Rattle.gz_core.specs.declared.rows.Column.{Column}
+use Rattle.gz_core.specs.declared.rows.Column.TheVariants.{Open, Decided}
+use Rattle.gz_core.specs.declared.values.Value.{Value}
 use Rattle.gz_core.specs.Counts.{count_sites}
 use Rattle.gz_core.specs.Configurations.{need}
 use Rattle.gz_core.specs.declared.configuration.Config.{Config}
 use Rattle.gz_pick.specs.Looks.{row_top}
 use Rattle.gz_pick.specs.Evidences.{votes_for, decides}
 use Rattle.gz_round.specs.History.{Moment}
-use Rattle.gz_round.specs.Sites.{some_heard}
+use Rattle.gz_round.specs.Sites.{some_heard, WasHeard}
 use Rattle.gz_round.specs.Sent.{voted_at}
 
 -- from how many sites a row was heard that passes a test
@@ -35,3 +39,21 @@ IsGrounded c ms v = IsNext c ms v ⊎ (1 ≤ heard_at c (λ r. nat_le v (row_top
 -- at each other version at which the call voted for the value of this name, another one is shown
 abbrev pub IsClear : Config → Name → List Moment → ℕ → Type 0
 IsClear c x ms v = (u : ℕ) → u ≢ v → voted_at x ms u ≡ true → (y : Name) × (y ≢ x) × IsShown c ms u y
+
+-- the value that a vote has
+abbrev pub vote_value : Option Vote → Option Value
+vote_value None = None
+vote_value (Some vote) = Some vote.value
+
+-- the value that a column has, as a vote or a decision
+abbrev pub column_value : Option Column → Option Value
+column_value None = None
+column_value (Some (Open promise vote)) = vote_value vote
+column_value (Some (Decided value)) = Some value
+
+abbrev pub row_value : RowAt → ℕ → Option Value
+row_value row v = column_value (column_in row.columns v)
+
+-- a heard row has the value at the version, as a vote or a decision
+abbrev pub IsValueHeard : List Moment → ℕ → Value → Type 0
+IsValueHeard ms v x = (s : ℕ) × (row : RowAt) × WasHeard ms s row × (row_value row v ≡ Some x)

@@ -2,7 +2,7 @@
 #![tactic(auto)]
 
 mod cut;
-mod fields;
+pub mod fields;
 mod grammar;
 pub mod line;
 pub mod schedule;

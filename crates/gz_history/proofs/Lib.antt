@@ -1,0 +1,2 @@
+mod Legalities
+mod Searching

@@ -1,0 +1,397 @@
+//! Whether a history is legal, and where it first isn't.
+ghost use Rattle.std.specs.Prelude.{◌≡◌, ◌<◌, true, false, IfOk, IfErr, MatchOption, length, Contains};
+ghost use Rattle.gz_history.specs.declared.record.CallRec.{CallRec as CallOf};
+ghost use Rattle.gz_history.specs.Answers.{shows, names, read_from, bytes_written, IsWrite, MayTakeEffect};
+ghost use Rattle.gz_history.specs.Legal.{IsLegal, Agree, TakeEffectOnce, KeepOrder, IsBefore, IsBeforeEnd, IsSource, ReadsAWrite, ReturnWritten};
+ghost use Rattle.gz_history.specs.Broken.{IsHistory, Precedes, EndsLater, AllPrecede, IsFirstBroken, relation_of, clause_of, NameOnePut, ShowOneVersion, OfOneObject, Broke, KeptWith, KeptBefore, BreaksWith, BreaksFirst, IsMissing, HaveSources, LacksSource, ReturnedUpTo, ReturnedBefore, ReturnsOther, ReturnsOtherFirst};
+
+use crate::record::CallRec;
+use gz_core::{Answer, Call, Items, PutName, Version};
+
+/// The first rule of a legal history that does not hold, with the first two calls that break it: 1, agreement; 2, effect at
+/// most once; 3, real-time order; 4, reads from writes; 5, values. In 1 to 3 `a` began before `b`; in 4 and 5 `a` reads
+/// and `b` is the call that it names.
+#[derive(Clone, Copy, Debug, PartialEq, Eq)]
+pub struct Broken {
+    pub clause: u8,
+    pub a: PutName,
+    pub b: PutName,
+}
+
+/// A rule of each two calls of one object, in the order in which they began.
+#[derive(Clone, Copy, Debug)]
+enum Rule {
+    Agreement,
+    Once,
+    Order,
+}
+
+/// Whether the history is legal (Herlihy and Wing 1990, "Linearizability"), and else what breaks it: the first rule
+/// that doesn't hold, then the first call that breaks it, in the order of the log, then the first one with it. Takes no
+/// memory. Each rule is tried once at most on each two calls, and calls of two objects are told apart by one comparison.
+pub fn legal(calls: &[CallRec]) -> Result<(), Broken>
+    requires { IsHistory calls.now }
+    ensures legal { IfOk result (λ _. IsLegal calls.now) }
+    ensures broken { IfErr result (λ broken. IsFirstBroken calls.now broken) }
+{
+    each_two(Rule::Agreement, calls)?;
+    each_two(Rule::Once, calls)?;
+    each_two(Rule::Order, calls)?;
+    each_source(calls)?;
+    each_return(calls)
+}
+
+/// Whether the calls are those of a run: in the order in which they began, each with a name of its own and an end, if it
+/// has one, above its beginning. Goes once over each two calls.
+pub fn is_history(calls: &[CallRec]) -> bool
+    ensures yes { result ≡ true → IsHistory calls.now }
+    ensures no { result ≡ false → IsHistory calls.now → ⊥ }
+{
+    for i in 0..calls.len() {
+        if !ends_later(&calls[i]) || !all_precede(calls, i) {
+            return false;
+        }
+    }
+    true
+}
+
+/// Whether the calls before a place precede the one there.
+fn all_precede(calls: &[CallRec], j: usize) -> bool
+    requires { j < length calls.now }
+    ensures yes { result ≡ true → AllPrecede calls.now j j }
+    ensures no { result ≡ false → AllPrecede calls.now j j → ⊥ }
+{
+    for i in 0..j {
+        if !precedes(&calls[i], &calls[j]) {
+            return false;
+        }
+    }
+    true
+}
+
+fn precedes(a: &CallRec, b: &CallRec) -> bool
+    ensures yes { result ≡ true → Precedes a.now b.now }
+    ensures no { result ≡ false → Precedes a.now b.now → ⊥ }
+{
+    a.begin < b.begin && a.name != b.name
+}
+
+fn ends_later(a: &CallRec) -> bool
+    ensures yes { result ≡ true → EndsLater a.now }
+    ensures no { result ≡ false → EndsLater a.now → ⊥ }
+{
+    match a.end {
+        Some(end) => a.begin < end,
+        None => true,
+    }
+}
+
+impl Rule {
+    /// The rule's number.
+    fn clause(self) -> u8
+        ensures { result ≡ clause_of self }
+    {
+        match self {
+            Rule::Agreement => 1,
+            Rule::Once => 2,
+            Rule::Order => 3,
+        }
+    }
+
+    /// Whether two calls are of two objects or keep the rule.
+    fn is_kept(self, a: &CallRec, b: &CallRec) -> bool
+        ensures kept { result ≡ true → OfOneObject (relation_of self) a.now b.now }
+        ensures broken { result ≡ false → Broke (relation_of self) a.now b.now }
+    {
+        a.call.key() != b.call.key() || self.holds(a, b)
+    }
+
+    /// Whether the rule holds of two calls.
+    fn holds(self, a: &CallRec, b: &CallRec) -> bool
+        ensures kept { result ≡ true → relation_of self a.now b.now }
+        ensures broken { result ≡ false → relation_of self a.now b.now → ⊥ }
+    {
+        match self {
+            Rule::Agreement => agree(a, b),
+            Rule::Once => take_effect_once(a, b),
+            Rule::Order => keep_order(a, b),
+        }
+    }
+}
+
+/// Tries a rule on each two calls of one object.
+fn each_two(rule: Rule, calls: &[CallRec]) -> Result<(), Broken>
+    ensures kept { IfOk result (λ _. KeptBefore (relation_of rule) calls.now (length calls.now)) }
+    ensures broken { IfErr result (λ broken. BreaksFirst (relation_of rule) (clause_of rule) calls.now broken) }
+{
+    for i in 0..calls.len() {
+        each_later(rule, calls, i)?;
+    }
+    Ok(())
+}
+
+/// Tries a rule on one call with each later one of its object.
+fn each_later(rule: Rule, calls: &[CallRec], i: usize) -> Result<(), Broken>
+    requires { i < length calls.now }
+    ensures kept { IfOk result (λ _. KeptWith (relation_of rule) calls.now i (length calls.now)) }
+    ensures broken { IfErr result (λ broken. BreaksWith (relation_of rule) (clause_of rule) calls.now i broken) }
+{
+    let a = &calls[i];
+    for j in i + 1..calls.len() {
+        let b = &calls[j];
+        if !rule.is_kept(a, b) {
+            return Err(Broken {
+                clause: rule.clause(),
+                a: a.name,
+                b: b.name,
+            });
+        }
+    }
+    Ok(())
+}
+
+/// Whether two calls whose answers name one version name one put.
+fn agree(a: &CallRec, b: &CallRec) -> bool
+    ensures kept { result ≡ true → Agree a.now b.now }
+    ensures broken { result ≡ false → Agree a.now b.now → ⊥ }
+{
+    match (shown(a), shown(b)) {
+        (Some(v), Some(w)) => v != w || name_one_put(a, b),
+        _ => true,
+    }
+}
+
+/// Whether two calls that name puts name the same one.
+fn name_one_put(a: &CallRec, b: &CallRec) -> bool
+    ensures kept { result ≡ true → NameOnePut a.now b.now }
+    ensures broken { result ≡ false → NameOnePut a.now b.now → ⊥ }
+{
+    match (named(a), named(b)) {
+        (Some(x), Some(y)) => x == y,
+        _ => true,
+    }
+}
+
+/// Whether two calls whose answers name one put name one version.
+fn take_effect_once(a: &CallRec, b: &CallRec) -> bool
+    ensures kept { result ≡ true → TakeEffectOnce a.now b.now }
+    ensures broken { result ≡ false → TakeEffectOnce a.now b.now → ⊥ }
+{
+    match (named(a), named(b)) {
+        (Some(x), Some(y)) => x != y || show_one_version(a, b),
+        _ => true,
+    }
+}
+
+/// Whether two calls that show versions show the same one.
+fn show_one_version(a: &CallRec, b: &CallRec) -> bool
+    ensures kept { result ≡ true → ShowOneVersion a.now b.now }
+    ensures broken { result ≡ false → ShowOneVersion a.now b.now → ⊥ }
+{
+    match (shown(a), shown(b)) {
+        (Some(v), Some(w)) => v == w,
+        _ => true,
+    }
+}
+
+/// Whether a call that began after another had ended stands at no older version, and a write at a newer one.
+fn keep_order(a: &CallRec, b: &CallRec) -> bool
+    ensures kept { result ≡ true → KeepOrder a.now b.now }
+    ensures broken { result ≡ false → KeepOrder a.now b.now → ⊥ }
+{
+    match (shown(a), shown(b)) {
+        (Some(v), Some(w)) => !is_before(a.end, b.begin) || v < w || (v == w && !is_write(&b.call)),
+        _ => true,
+    }
+}
+
+/// The put that the call's answer names.
+fn named(a: &CallRec) -> Option<PutName>
+    ensures { result ≡ names a.now.name a.now.answer }
+{
+    match &a.answer {
+        Some(Answer::Ok { .. }) => Some(a.name),
+        Some(Answer::Bytes { name, .. }) => Some(*name),
+        _ => None,
+    }
+}
+
+/// The version that the call's answer shows to exist.
+fn shown(a: &CallRec) -> Option<Version>
+    ensures { result ≡ shows a.now.answer }
+{
+    match &a.answer {
+        Some(Answer::Ok { version }) => Some(*version),
+        Some(Answer::Bytes { version, .. }) => Some(*version),
+        Some(Answer::Absent) => Some(Version::none()),
+        _ => None,
+    }
+}
+
+/// Whether a call had ended by then.
+fn is_before(end: Option<u32>, tick: u32) -> bool
+    ensures yes { result ≡ true → IsBefore end tick }
+    ensures no { result ≡ false → IsBefore end tick → ⊥ }
+{
+    match end {
+        Some(end) => end < tick,
+        None => false,
+    }
+}
+
+fn is_write(call: &Call) -> bool
+    ensures yes { result ≡ true → IsWrite call.now }
+    ensures no { result ≡ false → IsWrite call.now → ⊥ }
+{
+    match call {
+        Call::Put { .. } => true,
+        Call::Get { .. } => false,
+    }
+}
+
+/// Tries whether each call that is read from is in the history.
+fn each_source(calls: &[CallRec]) -> Result<(), Broken>
+    ensures kept { IfOk result (λ _. HaveSources calls.now (length calls.now)) }
+    ensures broken { IfErr result (λ broken. LacksSource calls.now broken) }
+{
+    for a in calls {
+        if let Some(x) = missing_source(calls, a) {
+            return Err(Broken {
+                clause: 4,
+                a: a.name,
+                b: x,
+            });
+        }
+    }
+    Ok(())
+}
+
+/// The put that a read names, if it is not in the history where it could be read from.
+fn missing_source(calls: &[CallRec], a: &CallRec) -> Option<PutName>
+    ensures { MatchOption result (ReadsAWrite calls.now a.now) (λ x. IsMissing calls.now a.now x) }
+{
+    let x = read(a)?;
+    if has_source(calls, a, x) {
+        None
+    } else {
+        Some(x)
+    }
+}
+
+/// The put that a read names.
+fn read(a: &CallRec) -> Option<PutName>
+    ensures { result ≡ read_from a.now.answer }
+{
+    match &a.answer {
+        Some(Answer::Bytes { name, .. }) => Some(*name),
+        _ => None,
+    }
+}
+
+/// Whether the put that a read names is in the history, where it could be read from.
+fn has_source(calls: &[CallRec], a: &CallRec, x: PutName) -> bool
+    ensures yes { result ≡ true → (b : CallOf) × (Contains calls.now b × IsSource a.now x b) }
+    ensures no { result ≡ false → (b : CallOf) → Contains calls.now b → IsSource a.now x b → ⊥ }
+{
+    for b in calls {
+        if is_source(a, x, b) {
+            return true;
+        }
+    }
+    false
+}
+
+/// Whether this is the put that a read names, where it could be read from.
+fn is_source(a: &CallRec, x: PutName, b: &CallRec) -> bool
+    ensures yes { result ≡ true → IsSource a.now x b.now }
+    ensures no { result ≡ false → IsSource a.now x b.now → ⊥ }
+{
+    b.name == x
+        && b.call.key() == a.call.key()
+        && is_write(&b.call)
+        && is_before_end(b.begin, a.end)
+        && may_take_effect(&b.answer)
+}
+
+/// Tries whether each read returns the bytes of the put that it names.
+fn each_return(calls: &[CallRec]) -> Result<(), Broken>
+    ensures kept { IfOk result (λ _. ReturnedBefore calls.now (length calls.now)) }
+    ensures broken { IfErr result (λ broken. ReturnsOtherFirst calls.now broken) }
+{
+    for i in 0..calls.len() {
+        returns_of(calls, i)?;
+    }
+    Ok(())
+}
+
+/// Tries whether one read returns the bytes of the put that it names.
+fn returns_of(calls: &[CallRec], i: usize) -> Result<(), Broken>
+    requires { i < length calls.now }
+    ensures kept { IfOk result (λ _. ReturnedUpTo calls.now i (length calls.now)) }
+    ensures broken { IfErr result (λ broken. ReturnsOther calls.now i broken) }
+{
+    let a = &calls[i];
+    for j in 0..calls.len() {
+        let b = &calls[j];
+        if !is_returned(a, b) {
+            return Err(Broken {
+                clause: 5,
+                a: a.name,
+                b: b.name,
+            });
+        }
+    }
+    Ok(())
+}
+
+/// Whether two calls are of two objects or the first returns what the other wrote, if it names it.
+fn is_returned(a: &CallRec, b: &CallRec) -> bool
+    ensures kept { result ≡ true → OfOneObject ReturnWritten a.now b.now }
+    ensures broken { result ≡ false → Broke ReturnWritten a.now b.now }
+{
+    a.call.key() != b.call.key() || returns_written(a, b)
+}
+
+/// Whether a read of this put returns its bytes.
+fn returns_written(a: &CallRec, b: &CallRec) -> bool
+    ensures kept { result ≡ true → ReturnWritten a.now b.now }
+    ensures broken { result ≡ false → ReturnWritten a.now b.now → ⊥ }
+{
+    match &a.answer {
+        Some(Answer::Bytes { name, bytes, .. }) => *name != b.name || writes(&b.call, bytes),
+        _ => true,
+    }
+}
+
+/// Whether the call writes these bytes.
+fn writes(call: &Call, bytes: &Items<u8>) -> bool
+    ensures yes { result ≡ true → bytes_written call.now ≡ Some bytes.now }
+    ensures no { result ≡ false → bytes_written call.now ≡ Some bytes.now → ⊥ }
+{
+    match call {
+        Call::Put { bytes: written, .. } => written == bytes,
+        Call::Get { .. } => false,
+    }
+}
+
+/// Whether a tick stands before the end of a call, which may have none yet.
+fn is_before_end(tick: u32, end: Option<u32>) -> bool
+    ensures yes { result ≡ true → IsBeforeEnd tick end }
+    ensures no { result ≡ false → IsBeforeEnd tick end → ⊥ }
+{
+    match end {
+        Some(end) => tick < end,
+        None => true,
+    }
+}
+
+/// Whether the answer does not rule out that the write took effect.
+fn may_take_effect(answer: &Option<Answer>) -> bool
+    ensures yes { result ≡ true → MayTakeEffect answer.now }
+    ensures no { result ≡ false → MayTakeEffect answer.now → ⊥ }
+{
+    match answer {
+        Some(Answer::NoQuorum { .. } | Answer::Contended { .. }) => false,
+        _ => true,
+    }
+}

@@ -1,0 +1,12 @@
+use Rattle.std.proofs.Common.{refl}
+use Rattle.gz_world.proofs.world.World.entry_of.Goals as goal
+
+pub returns : goal.returns
+returns g c = λ events tales fits. record {
+  event_is = refl;
+  outcome_is = refl;
+  session_is = refl;
+  call_is = c.call_and_live-call.ensures.call events tales fits;
+  live_is = c.call_and_live-call.ensures.live events tales fits;
+  sent_is = refl;
+}

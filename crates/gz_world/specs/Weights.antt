@@ -1,0 +1,60 @@
+-- How many bytes the world counts for what it holds.
+use Rattle.std.specs.Prelude.{ℕ, ◌+◌, ◌-◌, ◌^◌, min, length, sum_by, List, Option, Some, None}
+use Rattle.gz_core.specs.Rows.{RowAt}
+use Rattle.gz_core.specs.declared.calls.Call.{Call}
+use Rattle.gz_core.specs.declared.calls.Call.TheVariants as calls
+use Rattle.gz_core.specs.declared.requests.Op.{Op}
+use Rattle.gz_core.specs.declared.requests.Op.TheVariants as ops
+use Rattle.gz_core.specs.declared.requests.Out.{Out}
+use Rattle.gz_core.specs.declared.requests.Reply.{Reply}
+use Rattle.gz_core.specs.declared.requests.Reply.TheVariants as replies
+use Rattle.gz_core.specs.declared.rows.Column.{Column}
+use Rattle.gz_core.specs.declared.rows.Column.TheVariants.{Open, Decided}
+use Rattle.gz_core.specs.declared.rows.Vote.{Vote}
+use Rattle.gz_core.specs.declared.values.Value.{Value}
+use Rattle.gz_core.specs.declared.values.Value.TheVariants.{Tomb, Put}
+
+-- a count of bytes, which stands still at the last value of its type
+abbrev pub capped : ℕ → ℕ
+capped n = min n (2 ^ 64 - 1)
+
+-- the bytes of an object
+abbrev pub value_bytes : Value → ℕ
+value_bytes (Tomb name) = 0
+value_bytes (Put put) = length put.bytes
+
+-- the bytes of the value of a vote
+abbrev pub vote_bytes : Option Vote → ℕ
+vote_bytes None = 0
+vote_bytes (Some vote) = value_bytes vote.value
+
+-- a column: 64, and the bytes of its value
+abbrev pub column_weight : Column → ℕ
+column_weight (Open promise vote) = 64 + vote_bytes vote
+column_weight (Decided value) = 64 + value_bytes value
+
+-- a row: 16, and its columns
+abbrev pub row_weight : RowAt → ℕ
+row_weight row = 16 + sum_by (λ (c : ℕ × Column). column_weight c.1) row.columns
+
+-- a request: 64, and the row that it writes
+abbrev pub op_weight : Op → ℕ
+op_weight (ops.ReadRow key) = 64
+op_weight (ops.WriteRow key expect step row) = 64 + row_weight row
+
+-- a reply: 64, and the row that it shows
+abbrev pub reply_weight : Reply → ℕ
+reply_weight (replies.Row etag row) = 64 + row_weight row
+reply_weight replies.NoRow = 64
+reply_weight (replies.Written etag) = 64
+reply_weight replies.Changed = 64
+reply_weight replies.Failed = 64
+
+-- the requests that are sent at one event
+abbrev pub outs_weight : List Out → ℕ
+outs_weight outs = sum_by (λ (o : Out). op_weight o.op) outs
+
+-- the bytes that a call brings
+abbrev pub call_bytes : Call → ℕ
+call_bytes (calls.Put key bytes) = length bytes
+call_bytes (calls.Get key) = 0

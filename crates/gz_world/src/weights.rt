@@ -1,0 +1,87 @@
+//! How many bytes the world counts for what it holds. Counts stand still at 2^64-1. Takes no memory.
+ghost use Rattle.std.specs.Prelude.{◌≡◌};
+ghost use Rattle.gz_world.specs.Weights.{capped, value_bytes, vote_bytes, column_weight, row_weight, op_weight, reply_weight, outs_weight, call_bytes};
+
+use gz_core::{Call, Column, Op, Out, Reply, Row, Value, Vote};
+
+/// The bytes of an object.
+pub fn value_bytes(value: &Value) -> u64
+    ensures { result ≡ value_bytes value.now }
+{
+    match value {
+        Value::Tomb { .. } => 0,
+        Value::Put(put) => put.bytes.len() as u64,
+    }
+}
+
+/// The bytes of the value of a vote.
+pub fn vote_bytes(vote: &Option<Vote>) -> u64
+    ensures { result ≡ vote_bytes vote.now }
+{
+    match vote {
+        Some(vote) => value_bytes(&vote.value),
+        None => 0,
+    }
+}
+
+/// A column: 64, and the bytes of its value.
+pub fn column_weight(column: &Column) -> u64
+    ensures { result ≡ capped (column_weight column.now) }
+{
+    match column {
+        Column::Open { vote, .. } => vote_bytes(vote).saturating_add(64),
+        Column::Decided { value } => value_bytes(value).saturating_add(64),
+    }
+}
+
+/// A row: 16, and its columns.
+pub fn row_weight(row: &Row) -> u64
+    ensures { result ≡ capped (row_weight row.now) }
+{
+    let mut weight: u64 = 16;
+    for (_, column) in row.columns() {
+        weight = weight.saturating_add(column_weight(column));
+    }
+    weight
+}
+
+/// A request: 64, and the row that it writes.
+pub fn op_weight(op: &Op) -> u64
+    ensures { result ≡ capped (op_weight op.now) }
+{
+    match op {
+        Op::ReadRow { .. } => 64,
+        Op::WriteRow { row, .. } => row_weight(row).saturating_add(64),
+    }
+}
+
+/// A reply: 64, and the row that it shows.
+pub fn reply_weight(reply: &Reply) -> u64
+    ensures { result ≡ capped (reply_weight reply.now) }
+{
+    match reply {
+        Reply::Row { row, .. } => row_weight(row).saturating_add(64),
+        _ => 64,
+    }
+}
+
+/// The requests that are sent at one event.
+pub fn outs_weight(outs: &[Out]) -> u64
+    ensures { result ≡ capped (outs_weight outs.now) }
+{
+    let mut weight: u64 = 0;
+    for out in outs {
+        weight = weight.saturating_add(op_weight(&out.op));
+    }
+    weight
+}
+
+/// The bytes that a call brings.
+pub fn call_bytes(call: &Call) -> u64
+    ensures { result ≡ call_bytes call.now }
+{
+    match call {
+        Call::Put { bytes, .. } => bytes.len() as u64,
+        Call::Get { .. } => 0,
+    }
+}
