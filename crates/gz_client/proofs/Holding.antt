@@ -1,36 +1,47 @@
 -- The client stands for its session's tales after an event.
-use Rattle.std.proofs.Common.{◌≡◌, ◌==◌, ℕ, ◌+◌, ◌<◌, ◌≤◌, true, List, [], ◌∷◌, length, Option, Some, None, option_map, refl, sym, ap, ◌∙◌, subst, inl, arith}
+use Rattle.std.proofs.Common.{◌≡◌, ◌==◌, ℕ, ◌+◌, ◌<◌, ◌≤◌, max, true, false, List, [], ◌∷◌, ◌++◌, length, Option, Some, None, option_map, refl, sym, ap, ◌∙◌, subst, inl, arith}
 use Rattle.std.proofs.lemmas.Bool.{eqb-true, eq-eqb, false≢true}
 use Rattle.std.proofs.lemmas.Option.{same_Some, none-some, slice_get_within}
 use Rattle.gz_core.specs.Configurations.{IsConfig}
 use Rattle.gz_core.specs.declared.calls.Answer.{Answer}
 use Rattle.gz_core.specs.declared.calls.Call.{Call}
 use Rattle.gz_core.specs.declared.configuration.Config.{Config}
+use Rattle.gz_core.specs.Rows.{empty_row}
+use Rattle.gz_core.specs.declared.requests.RowStep.TheVariants.{Promise}
+use Rattle.gz_core.specs.declared.requests.Op.TheVariants.{WriteRow}
+use Rattle.gz_core.specs.declared.requests.Out.{Out}
 use Rattle.gz_core.specs.declared.requests.Turn.{Turn}
 use Rattle.gz_round.specs.declared.run.Mark.{Mark}
 use Rattle.gz_round.specs.declared.run.Run.{Run}
-use Rattle.gz_round.specs.History.{Asked, Moment, Caller, Tale, IsClosing, begun, turned, sent_from}
+use Rattle.gz_round.specs.History.{Asked, Moment, Sent, Caller, Tale, IsClosing, begun, turned, sent_from}
 use Rattle.gz_round.specs.Sites.{site_now}
 use Rattle.gz_round.specs.Standing.{Knows, Runs, mark_of, awaited_of}
 use Rattle.gz_round.specs.Numbering.{AreNumbered}
 use Rattle.gz_round.specs.Awaiting.{IsSiteOf, has_number, is_numbered}
-use Rattle.gz_round.specs.Following.{Ready, Turned}
-use Rattle.gz_round.proofs.Numbers.{numbered_sent, numbered_none}
+use Rattle.gz_round.specs.Rounds.{top_rounds}
+use Rattle.gz_round.specs.Sent.{top_round}
+use Rattle.gz_round.specs.Following.{Ready, Turned, HasTurned}
+use Rattle.gz_round.proofs.Numbers.{numbered_sent, numbered_none, numbered_closed}
 use Rattle.gz_client.specs.declared.client.Client.{Client}
 use Rattle.gz_client.specs.Tales.{Holds, HoldsRun, AreTold, AreOver, IsAwaited, CanBeTold, IsLive, IsLiveAtIn, IsLiveAtWhile, going_on}
 
+rounds_newest : (round past now : ℕ) → round ≡ max past now → round ≡ max now past
+rounds_newest round past now e = omega (arith, e)
+
 -- after an event of the newest call
 pub turned_holds : (c : Config) (session : ℕ) (w : Caller) (ts : List Tale) (run : Run) (ms : List Moment) (answer : Option Answer) (calls next : ℕ) → IsConfig c → calls ≡ length ts + 1 → w.name ≡ record { session = session; seq = length ts + 1 } → AreTold c session ts → AreOver ts →
-    AreNumbered c ms next → Turned c w ts run ms answer → Holds (record { config = c; session = session; calls = calls; run = going_on run answer }) next (record { caller = w; moments = ms; answer = answer } ∷ ts)
+    AreNumbered c ms next → Turned c w ts run ms answer → Holds (record { config = c; session = session; calls = calls; round = run.round; run = going_on run answer }) next (record { caller = w; moments = ms; answer = answer } ∷ ts)
 turned_holds c session w ts run ms None calls next sizes count named told over numbered runs = record {
   sizes = sizes;
   calls_are = count ∙ omega arith;
+  round_is = rounds_newest run.round (top_rounds ts) (top_round ms) runs.stands.round_is;
   told = (record { allowed = runs.stands.allowed; answered = (runs.going, runs.waits) }, named, told);
   run_is = (refl, runs, numbered, over);
 }
 turned_holds c session w ts run ms (Some answer) calls next sizes count named told over numbered ended = record {
   sizes = sizes;
   calls_are = count ∙ omega arith;
+  round_is = rounds_newest run.round (top_rounds ts) (top_round ms) ended.2;
   told = (record { allowed = ended.0; answered = ended.1 }, named, told);
   run_is = ((answer, refl), over);
 }
@@ -39,14 +50,13 @@ pub idle_over : (c : Config) (next : ℕ) (run : Option Run) (ts : List Tale) �
 idle_over c next run ts e h = subst (λ r. HoldsRun c next r ts) e h
 
 -- a call that begins
-pub begun_holds : (client : Client) (call : Call) (first : ℕ) (turn : Turn) (next : ℕ) (ts : List Tale) (run : Run) (kept : Option Run) → Holds client next ts → client.run ≡ None → kept ≡ going_on run turn.answer →
-    Turned client.config (begun client.session call first turn ts).caller ts run (sent_from first turn.send []) turn.answer →
-    Holds (record { config = client.config; session = client.session; calls = client.calls + 1; run = kept }) (first + length turn.send) (begun client.session call first turn ts ∷ ts)
-begun_holds client call first turn next ts run kept h idle kept_is ended =
+pub begun_holds : (client : Client) (call : Call) (first : ℕ) (send : List Out) (next : ℕ) (ts : List Tale) (run : Run) → Holds client next ts → client.run ≡ None →
+    Runs client.config (record { name = record { session = client.session; seq = length ts + 1 }; call = call }) ts run (sent_from first send []) →
+    Holds (record { config = client.config; session = client.session; calls = client.calls + 1; round = run.round; run = Some run }) (first + length send) (begun client.session call first (record { send = send; answer = None }) ts ∷ ts)
+begun_holds client call first send next ts run h idle runs =
     let over : AreOver ts = idle_over client.config next client.run ts idle h.run_is in
-    let numbered : AreNumbered client.config (sent_from first turn.send []) (first + length turn.send) = numbered_sent client.config first turn.send [] (numbered_none client.config first) in
-    subst (λ (r : Option Run). Holds (record { config = client.config; session = client.session; calls = client.calls + 1; run = r }) (first + length turn.send) (begun client.session call first turn ts ∷ ts)) (sym kept_is)
-    (turned_holds client.config client.session (begun client.session call first turn ts).caller ts run (sent_from first turn.send []) turn.answer (client.calls + 1) (first + length turn.send) h.sizes (ap (λ n. n + 1) h.calls_are) refl h.told over numbered ended)
+    let numbered : AreNumbered client.config (sent_from first send []) (first + length send) = numbered_sent client.config first send [] (numbered_none client.config first) in
+    turned_holds client.config client.session (record { name = record { session = client.session; seq = length ts + 1 }; call = call }) ts run (sent_from first send []) None (client.calls + 1) (first + length send) h.sizes (ap (λ n. n + 1) h.calls_are) refl h.told over numbered runs
 
 -- what is held of the running call
 pub record HasRun (client : Client) (next : ℕ) (t : Tale) (ts : List Tale) (run : Run) : Type 0 where
@@ -99,18 +109,31 @@ about client run n first at next t ts a e site h awaited =
 
 -- one more moment of the running call
 pub turned_extends : (client : Client) (run new : Run) (first : ℕ) (turn : Turn) (moment : Moment) (next : ℕ) (t : Tale) (ts : List Tale) (kept : Option Run) → client.run ≡ Some run → kept ≡ going_on new turn.answer → Holds client next (t ∷ ts) →
-    AreNumbered client.config (moment ∷ t.moments) first → Turned client.config t.caller ts new (sent_from first turn.send (moment ∷ t.moments)) turn.answer →
-    (closing : List Moment) × IsClosing closing × Holds (record { config = client.config; session = client.session; calls = client.calls; run = kept }) (first + length turn.send) (turned first turn moment closing t ∷ ts)
+    AreNumbered client.config (moment ∷ t.moments) first → HasTurned client.config t.caller ts new (sent_from first turn.send (moment ∷ t.moments)) turn.answer →
+    (closing : List Moment) × IsClosing closing × Holds (record { config = client.config; session = client.session; calls = client.calls; round = new.round; run = kept }) (first + length turn.send) (turned first turn moment closing t ∷ ts)
 turned_extends client run new first turn moment next t ts kept e kept_is h numbered ended =
     let k = run_held client next t ts run e h in
     let told = h.told in
     let calls = h.calls_are in
-    let after : AreNumbered client.config (sent_from first turn.send (moment ∷ t.moments)) (first + length turn.send) = numbered_sent client.config first turn.send (moment ∷ t.moments) numbered in (
-      [],
-      inl refl,
-      subst (λ (r : Option Run). Holds (record { config = client.config; session = client.session; calls = client.calls; run = r }) (first + length turn.send) (turned first turn moment [] t ∷ ts)) (sym kept_is)
-          (turned_holds client.config client.session t.caller ts new (sent_from first turn.send (moment ∷ t.moments)) turn.answer client.calls (first + length turn.send) h.sizes (omega arith) told.1 told.2 k.over after ended),
+    let sent : AreNumbered client.config (sent_from first turn.send (moment ∷ t.moments)) (first + length turn.send) = numbered_sent client.config first turn.send (moment ∷ t.moments) numbered in
+    let after : AreNumbered client.config (ended.0 ++ sent_from first turn.send (moment ∷ t.moments)) (first + length turn.send) = numbered_closed client.config (sent_from first turn.send (moment ∷ t.moments)) ended.0 (first + length turn.send) ended.1 sent in (
+      ended.0,
+      ended.1,
+      subst (λ (r : Option Run). Holds (record { config = client.config; session = client.session; calls = client.calls; round = new.round; run = r }) (first + length turn.send) (turned first turn moment ended.0 t ∷ ts)) (sym kept_is)
+          (turned_holds client.config client.session t.caller ts new (ended.0 ++ sent_from first turn.send (moment ∷ t.moments)) turn.answer client.calls (first + length turn.send) h.sizes (omega arith) told.1 told.2 k.over after ended.2),
     )
+
+-- a session may have used any round
+pub tale_of : Caller → ℕ → Tale
+tale_of w round = record {
+  caller = w;
+  moments = Sent (record { number = 0; site = 0; op = WriteRow [] None (Promise 0 (record { round = round; session = 0 })) empty_row; awaited = false }) ∷ [];
+  answer = None;
+}
+
+pub tale_round : (w : Caller) (round : ℕ) → top_rounds (tale_of w round ∷ []) ≡ round
+unfolding tale_of
+tale_round w round = omega arith
 
 -- a client may be told of a request that its running call awaits
 pub can_be_told : (client : Client) (n first next : ℕ) (ts : List Tale) → Holds client next ts → IsLive client.config ts n → next ≤ first → CanBeTold client n first

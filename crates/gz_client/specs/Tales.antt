@@ -7,6 +7,7 @@ use Rattle.gz_core.specs.declared.configuration.Config.{Config}
 use Rattle.gz_round.specs.declared.run.Run.{Run}
 use Rattle.gz_round.specs.History.{Asked, Moment, Tale, IsClosing, turned}
 use Rattle.gz_round.specs.Sites.{site_now}
+use Rattle.gz_round.specs.Rounds.{top_rounds}
 use Rattle.gz_round.specs.Sending.{AreAllowed}
 use Rattle.gz_round.specs.Counting.{IsGoing}
 use Rattle.gz_round.specs.Causes.{HasCause}
@@ -51,6 +52,7 @@ HoldsRun c next (Some run) (t ∷ ts) = (t.answer ≡ None) × Runs c t.caller t
 pub record Holds (client : Client) (next : ℕ) (ts : List Tale) : Type 0 where
   pub sizes : IsConfig client.config
   pub calls_are : client.calls ≡ length ts
+  pub round_is : client.round ≡ top_rounds ts
   pub told : AreTold client.config client.session ts
   pub run_is : HoldsRun client.config next client.run ts
 

@@ -11,12 +11,13 @@ use gz_core::{Call, Config, PutName, Reply, Session, Turn};
 use gz_round::Run;
 use std::alloc::{AllocError, Global};
 
-/// The client of one session: at most one call of it runs.
+/// The client of one session, and the greatest round that it promised: at most one call of it runs.
 #[derive(Debug, Drop)]
 pub struct Client {
     config: Config,
     session: Session,
     calls: u32,
+    round: u32,
     run: Option<Run>,
 }
 
@@ -32,6 +33,7 @@ impl Client {
             config,
             session,
             calls: 0,
+            round: 0,
             run: None,
         }
     }
@@ -51,11 +53,12 @@ impl Client {
             session: self.session,
             seq: self.calls + 1,
         };
-        let mut run = Run::start(alloc, &self.config, name, call)?;
-        let turn = run.act(alloc, &self.config, first)?;
+        let mut run = Run::start(alloc, &self.config, name, call, self.round)?;
+        let send = run.open(alloc, &self.config, first)?;
         self.calls += 1;
-        self.run = going_on(run, &turn);
-        Ok(turn)
+        self.round = run.round;
+        self.run = Some(run);
+        Ok(Turn { send, answer: None })
     }
 
     /// Hands the client a reply of request `n`, which it awaits. What it sends at this goes out under the
@@ -78,6 +81,7 @@ impl Client {
         let at = run.site_of(n);
         run.note_reply(alloc, at, answer)?;
         let turn = run.act(alloc, &self.config, first)?;
+        self.round = run.round;
         self.run = going_on(run, &turn);
         Ok(turn)
     }
@@ -96,6 +100,7 @@ impl Client {
         let at = run.site_of(n);
         run.note_give_up(at);
         let turn = run.act(alloc, &self.config, first)?;
+        self.round = run.round;
         self.run = going_on(run, &turn);
         Ok(turn)
     }

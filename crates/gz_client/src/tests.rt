@@ -4,10 +4,10 @@ ghost use Rattle.gz_round.specs.Starting.{IsWithin};
 ghost use Rattle.gz_client.specs.Tales.{IsHeld};
 
 use super::Client;
-use gz_accept::fast_vote;
+use gz_accept::{fast_vote, promise};
 use gz_core::{
-    Answer, Call, Config, Etag, Items, Key, Op, Out, Phase, PutName, PutValue, Reply, Row, Session,
-    Turn, UnsureWhy, Value, Version,
+    Answer, Ballot, Call, Config, Etag, Items, Key, Op, Out, Phase, PutName, PutValue, Reply, Row,
+    Session, Turn, UnsureWhy, Value, Version,
 };
 use std::alloc::{AllocError, Global};
 use std::test::Fail;
@@ -188,6 +188,28 @@ impl Network {
         self.rows[site] = Some(Stored { etag, row });
         Ok(())
     }
+
+    /// Has another session's put promise its ballot at a site that has a row.
+    fn promise(&mut self, site: usize) -> Result<(), Fail> {
+        if site >= self.rows.len() {
+            return Err(Fail::from("no site"));
+        }
+        match &mut self.rows[site] {
+            None => Err(Fail::from("no row")),
+            Some(stored) => Ok(promise_in(stored)?),
+        }
+    }
+}
+
+/// Has another session promise its first ballot at version 1 of a row.
+fn promise_in(stored: &mut Stored) -> Result<(), AllocError> {
+    let ballot = Ballot {
+        round: 1,
+        session: 2,
+    };
+    promise(&mut stored.row, Version(1), ballot)?;
+    stored.etag = tag_after(Some(stored.etag));
+    Ok(())
 }
 
 /// A row in which the first put of session 2 has voted at version 1.
@@ -254,7 +276,7 @@ fn tag_after(tag: Option<Etag>) -> Etag {
 }
 
 /// What is done next: a request is delivered to its site, a reply of one is handed to the client, both, the client
-/// is told that one failed, one is given up, or another session votes at a site.
+/// is told that one failed, one is given up, or another session votes or promises a ballot at a site.
 #[derive(Clone, Copy)]
 enum Move {
     Deliver(u32),
@@ -263,6 +285,7 @@ enum Move {
     Fail(u32),
     GiveUp(u32),
     Vote(usize),
+    Promise(usize),
 }
 
 /// Hands a reply, and sends what the client sends at it.
@@ -334,6 +357,10 @@ fn play(
         Move::GiveUp(n) => drop_request(driver, network, alloc, n),
         Move::Vote(site) => {
             network.vote(alloc, site)?;
+            Ok(None)
+        },
+        Move::Promise(site) => {
+            network.promise(site)?;
             Ok(None)
         },
     }
@@ -531,10 +558,98 @@ fn a_vote_of_another(rt: HostRuntime) -> Result<(), Fail> {
         Take(6),
         Take(5),
         GiveUp(3),
+        Take(7),
+        Take(8),
+        Take(9),
+        Take(10),
     ];
     let end = put_alone(alloc, 8, &moves)?;
     let version = Version(1);
-    assert_eq!(rt; end, (Some(Answer::Unsettled { version }), 6, 0));
+    assert_eq!(rt; end, (Some(Answer::Ok { version }), 12, 0));
+    Ok(())
+}
+
+/// Two sites are enough for a put: it prepares a classic ballot, and votes in it.
+#[test]
+fn a_put_over_two_sites(rt: HostRuntime) -> Result<(), Fail> {
+    use Move::{GiveUp, Take};
+    let moves = [
+        Take(1),
+        Take(2),
+        GiveUp(3),
+        Take(4),
+        Take(5),
+        Take(6),
+        Take(7),
+        Take(8),
+        Take(9),
+    ];
+    let end = put_alone(rt.alloc(), 8, &moves)?;
+    let version = Version(1);
+    assert_eq!(rt; end, (Some(Answer::Ok { version }), 11, 0));
+    Ok(())
+}
+
+/// Another's votes that may be a fast quorum's force its value; the put goes on at the next version.
+#[test]
+fn a_value_that_is_forced(rt: HostRuntime) -> Result<(), Fail> {
+    use Move::{GiveUp, Take, Vote};
+    let moves = [
+        Vote(0),
+        Vote(1),
+        Take(1),
+        Take(2),
+        GiveUp(3),
+        Take(4),
+        Take(5),
+        Take(6),
+        Take(7),
+        Take(8),
+        Take(9),
+        Take(10),
+        Take(11),
+        Take(12),
+        Take(13),
+    ];
+    let end = put_alone(rt.alloc(), 8, &moves)?;
+    let version = Version(2);
+    assert_eq!(rt; end, (Some(Answer::Ok { version }), 15, 0));
+    Ok(())
+}
+
+/// A ballot above the put's own is heard, and the put prepares again.
+#[test]
+fn a_ballot_of_another(rt: HostRuntime) -> Result<(), Fail> {
+    use Move::{GiveUp, Promise, Take};
+    let moves = [
+        Take(1),
+        Take(2),
+        GiveUp(3),
+        Take(4),
+        Take(5),
+        Promise(0),
+        Take(6),
+        Take(8),
+        Take(7),
+        Take(9),
+        Take(10),
+        Take(11),
+        Take(12),
+    ];
+    let end = put_alone(rt.alloc(), 8, &moves)?;
+    let version = Version(1);
+    assert_eq!(rt; end, (Some(Answer::Ok { version }), 14, 0));
+    Ok(())
+}
+
+/// A get of a version that isn't known to be chosen can't tell.
+#[test]
+fn a_get_that_is_unsettled(rt: HostRuntime) -> Result<(), Fail> {
+    use Move::{GiveUp, Take, Vote};
+    let moves = [Vote(0), Vote(1), Take(1), Take(2), GiveUp(3)];
+    let end = get_alone(rt.alloc(), &moves)?;
+    let version = Version(1);
+    assert_eq!(rt; end, (Some(Answer::Unsettled { version }), 3, 0));
     Ok(())
 }
 

@@ -1,19 +1,14 @@
 -- What each thing that the known rows come to leaves the call to do.
-use Rattle.std.proofs.Common.{◌≡◌, ℕ, ◌<◌, ◌≤◌, List, Option, Some, None, refl, sym, ap, ◌∙◌, subst}
-use Rattle.std.specs.List.{slice_get}
+use Rattle.std.proofs.Common.{◌≡◌, ℕ, List, Some, sym, subst}
 use Rattle.gz_core.specs.Names.{Name}
-use Rattle.gz_core.specs.Puts.{PutData}
-use Rattle.gz_core.specs.Values.{name_of}
-use Rattle.gz_core.specs.Rows.{RowAt}
 use Rattle.gz_core.specs.declared.values.Value.{Value}
 use Rattle.gz_core.specs.declared.values.Value.TheVariants.{Tomb, Put}
 use Rattle.gz_core.specs.declared.calls.Answer.{Answer}
-use Rattle.gz_core.specs.declared.calls.Answer.TheVariants.{Bytes, Absent}
 use Rattle.gz_core.specs.declared.configuration.Config.{Config}
 use Rattle.gz_round.specs.declared.run.Run.{Run}
 use Rattle.gz_round.specs.declared.run.Stage.{Stage}
-use Rattle.gz_round.specs.declared.run.Stage.TheVariants.{Look, Fast}
-use Rattle.gz_round.specs.declared.following.Next.TheVariants.{Wait, Vote, Chosen, Learnt}
+use Rattle.gz_round.specs.declared.run.Stage.TheVariants.{Fast}
+use Rattle.gz_round.specs.declared.following.Next.TheVariants.{Vote}
 use Rattle.gz_round.specs.History.{Moment, Caller, Tale}
 use Rattle.gz_round.specs.Sites.{WasHeard}
 use Rattle.gz_round.specs.Shown.{IsShown}
@@ -21,7 +16,7 @@ use Rattle.gz_round.specs.Counting.{IsGoing}
 use Rattle.gz_round.specs.Causes.{HasCause, row_value}
 use Rattle.gz_round.specs.Standing.{Stands}
 use Rattle.gz_round.specs.Following.{Ready, NextMeans, IsFound}
-use Rattle.gz_round.specs.Acting.{IsPlain, Acts, Finishes, IsKnownPut, IsAnswerFor, IsAnswerOf}
+use Rattle.gz_round.specs.Acting.{IsPlain, Acts, IsKnownPut, IsAnswerFor, IsAnswerOf}
 use Rattle.gz_round.proofs.Known.{listed_known, known_heard, heard_stands}
 use Rattle.gz_round.proofs.Columns.{named_put, value_named}
 
@@ -35,13 +30,14 @@ stands_stage c w past run ms stage h = record {
   met_is = h.met_is;
   voted_is = h.voted_is;
   wrote_is = h.wrote_is;
+  round_is = h.round_is;
   sites = h.sites;
   allowed = h.allowed;
 }
 
 -- the fast ballot of a version begins
 pub votes_acts : (c : Config) (w : Caller) (past : List Tale) (run : Run) (ms : List Moment) (v : ℕ) → Ready c w past run ms → IsGoing c ms → NextMeans c w run ms (Vote v) → Acts c w past (record run { stage = Fast v }) ms
-votes_acts c w past run ms v r going n = record { ready = record { stands = stands_stage c w past run ms (Fast v) r.stands; stage = (n.0, n.2) }; going = going; unmet = n.1 }
+votes_acts c w past run ms v r going n = record { ready = record { stands = stands_stage c w past run ms (Fast v) r.stands; stage = (n.0, n.2, n.3) }; going = going; unmet = n.1 }
 
 -- the row of the value that was learnt has a put's value
 pub learnt_put : (c : Config) (w : Caller) (past : List Tale) (run : Run) (ms : List Moment) (v s : ℕ) → Stands c w past run ms → IsFound c w run ms v s → IsKnownPut run s v

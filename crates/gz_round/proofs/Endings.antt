@@ -1,5 +1,5 @@
 -- The answers of calls that were overtaken too often, or have too few sites left.
-use Rattle.std.proofs.Common.{◌≡◌, ℕ, ◌+◌, ◌<◌, ◌≤◌, Bool, true, false, cond, List, Option, Some, None, is_some, refl, sym, ap, ◌∙◌, subst, inl, inr, arith}
+use Rattle.std.proofs.Common.{ℕ, ◌+◌, ◌<◌, ◌≤◌, List, is_some, sym, ◌∙◌, subst, inl, inr, arith}
 use Rattle.std.specs.List.{count_by}
 use Rattle.std.proofs.lemmas.Bool.{cases_Bool, cond-true, cond-false}
 use Rattle.gz_core.specs.declared.calls.Answer.{Answer}
@@ -8,8 +8,7 @@ use Rattle.gz_core.specs.declared.calls.UnsureWhy.TheVariants.{NoQuorum as Unsur
 use Rattle.gz_core.specs.declared.configuration.Config.{Config}
 use Rattle.gz_round.specs.declared.run.Run.{Run}
 use Rattle.gz_round.specs.History.{Moment, Caller, Tale}
-use Rattle.gz_round.specs.Sent.{met, voted, phase_of}
-use Rattle.gz_round.specs.Counting.{outs, known_count}
+use Rattle.gz_round.specs.Counting.{outs}
 use Rattle.gz_round.specs.Causes.{HasCause, IsCutOff, IsOvertaken}
 use Rattle.gz_round.specs.Standing.{Stands}
 use Rattle.gz_round.specs.Acting.{IsPlain, contended_of, cut_off_of}

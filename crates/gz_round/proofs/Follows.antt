@@ -1,39 +1,43 @@
 -- What follows from the rows that are known.
-use Rattle.std.proofs.Common.{◌≡◌, ◌≢◌, ℕ, zero, suc, ◌+◌, ◌<◌, ◌≤◌, ◌^◌, Bool, true, false, cond, ◌&&◌, ◌||◌, ◌==◌, List, [], ◌∷◌, length, Option, Some, None, is_some, MatchOption, refl, sym, ap, ◌∙◌, subst, inl, inr, ◌⊎◌, arith, leb}
+use Rattle.std.proofs.Common.{◌≡◌, ◌≢◌, ℕ, ◌+◌, ◌<◌, ◌≤◌, Bool, true, false, ◌&&◌, ◌||◌, ◌==◌, List, [], ◌∷◌, length, Option, Some, None, is_some, MatchOption, refl, sym, ap, ◌∙◌, subst, inl, inr, arith, leb}
 use Rattle.std.specs.List.{slice_get, list_all}
 use Rattle.std.proofs.lemmas.Bool.{cases_Bool, cases_eq, cond-true, cond-false, and_parts, and_from, true≢false, false≢true, both_ways, or_cases, or_left, or_right, le-leb, leb-true, eqb-true, eq-eqb}
 use Rattle.std.proofs.lemmas.Option.{same_Some, none-some, slice_get_within}
 use Rattle.gz_core.specs.Names.{Name, BallotAt, same_ballot, fast}
 use Rattle.gz_core.specs.Values.{name_of}
 use Rattle.gz_core.specs.Rows.{RowAt, column_in}
-use Rattle.gz_core.specs.Counts.{count_sites}
-use Rattle.gz_core.specs.Configurations.{IsConfig, AreQuorums, need}
+use Rattle.gz_core.specs.Configurations.{IsConfig, need}
 use Rattle.gz_core.specs.Calls.{own_value}
 use Rattle.gz_core.specs.declared.values.Value.{Value}
-use Rattle.gz_core.specs.declared.rows.Vote.{Vote}
 use Rattle.gz_core.specs.declared.rows.Column.{Column}
 use Rattle.gz_core.specs.declared.rows.Column.TheVariants.{Open, Decided}
 use Rattle.gz_core.specs.declared.configuration.Config.{Config}
 use Rattle.gz_core.proofs.Counting.{count_found, count_weaker}
 use Rattle.gz_pick.specs.Looks.{row_top, row_name, row_vote, row_decision, column_name, column_vote, column_decision, highest_of}
-use Rattle.gz_pick.specs.Evidences.{votes_for, decides, IsEvident, IsEvidence, row_at, is_for, is_named}
+use Rattle.gz_pick.specs.Evidences.{votes_for, decides, IsEvidence, row_at, is_for, is_named}
 use Rattle.gz_round.specs.declared.run.Run.{Run}
-use Rattle.gz_round.specs.declared.following.Next.{Next}
-use Rattle.gz_round.specs.declared.following.Next.TheVariants.{Wait, Vote as VoteAt, Chosen, Learnt, Absent}
-use Rattle.gz_round.specs.History.{Moment, Caller, Tale}
+use Rattle.gz_round.specs.declared.following.Next.TheVariants.{Vote as VoteAt, Chosen}
+use Rattle.gz_round.specs.History.{Moment, Sent, Handed, GaveUp, Rested, GaveIn, Caller, Tale}
 use Rattle.gz_round.specs.Sites.{some_heard}
-use Rattle.gz_round.specs.Sent.{voted, voted_at, vote_by, some_sent, of_sent, passes_sent}
+use Rattle.gz_core.specs.declared.requests.RowStep.{RowStep}
+use Rattle.gz_core.specs.declared.requests.RowStep.TheVariants.{FastVote, Promise, ClassicVote, Decide, Trim}
+use Rattle.gz_core.specs.declared.requests.Op.{Op}
+use Rattle.gz_core.specs.declared.requests.Op.TheVariants.{ReadRow, WriteRow}
+use Rattle.gz_core.specs.declared.calls.Phase.TheVariants.{Look as NotBegun}
+use Rattle.gz_round.specs.Sent.{voted, voted_at, vote_by, phase_by, promise_by, of_step, of_sent, or_earlier, last_sent, passes_sent, phase_of, phase_or_look, has_promised_at}
 use Rattle.gz_round.specs.Shown.{heard_at, IsShown, IsCurrent, IsClear}
 use Rattle.gz_round.specs.Sending.{MayFastVote}
-use Rattle.gz_round.specs.Causes.{is_blank, rows_known, IsAbsent}
+use Rattle.gz_round.specs.Causes.{is_blank, rows_known}
 use Rattle.gz_round.specs.Counting.{known_count}
-use Rattle.gz_round.specs.Standing.{Knows, Stands}
+use Rattle.gz_round.specs.declared.run.Stage.{Stage}
+use Rattle.gz_round.specs.declared.run.Stage.TheVariants.{Look, Fast, Prepare, Accept}
+use Rattle.gz_round.specs.Standing.{Stands, StageStands, IsUnpromised}
 use Rattle.gz_round.specs.Evidence.{NoneEvident, EvidentAt}
-use Rattle.gz_round.specs.Following.{NoEvidence, NextMeans, MayPass, IsFirst, IsLatest, IsFound, is_topless, is_blank_known}
+use Rattle.gz_round.specs.Following.{NoEvidence, NextMeans, MayPass, IsFirst, IsLatest, IsFound, IsStageAt, IsUnmet, is_topless, is_blank_known}
 use Rattle.gz_round.proofs.Lists.{all_at}
 use Rattle.gz_round.proofs.Heard.{counted_heard, heard_means, heard_passes}
-use Rattle.gz_round.proofs.Columns.{named_top, top_highest, highest_reached}
-use Rattle.gz_round.proofs.Known.{listed_shown, none_evident, known_current, listed_known, known_heard}
+use Rattle.gz_round.proofs.Columns.{named_top, top_highest}
+use Rattle.gz_round.proofs.Known.{listed_shown, known_current, known_heard}
 
 placed : (rows : List (Option RowAt)) (s : ℕ) (row : RowAt) (o : Option (Option RowAt)) → slice_get rows s ≡ o → row_at rows s ≡ Some row → slice_get rows s ≡ Some (Some row)
 placed rows s row None e h = absurd (none-some row (sym (rw e refl) ∙ h))
@@ -80,9 +84,13 @@ other_means c w past run ms v s h m e other =
       ];
     }
 
+-- no promise above a version is none above a later one
+pub unpromised_from : (ms : List Moment) (v u : ℕ) → v ≤ u → IsUnpromised ms v → IsUnpromised ms u
+unpromised_from ms v u l h k d m = h k d (omega arith)
+
 -- a call that may vote may pass on
-pub pass_from : (c : Config) (w : Caller) (ms : List Moment) (v : ℕ) → MayFastVote c w ms v → ((x : Value) × (own_value w.name w.call ≡ Some x)) → MayPass c w ms v
-pass_from c w ms v h own = record { above = h.above; current = h.current; clear = h.clear; own = own }
+pub pass_from : (c : Config) (w : Caller) (ms : List Moment) (v : ℕ) → MayFastVote c w ms v → ((x : Value) × (own_value w.name w.call ≡ Some x)) → IsUnpromised ms v → MayPass c w ms v
+pass_from c w ms v h own later = record { above = h.above; current = h.current; clear = h.clear; own = own; later = unpromised_from ms v (v + 1) (omega arith) later }
 
 some_passes : (o : Option ℕ) (u : ℕ) → passes_sent (λ k. k == u) o ≡ true → passes_sent (λ k. true) o ≡ true
 some_passes None u h = absurd (false≢true h)
@@ -177,15 +185,45 @@ own_of c w past run ms h some = let k = own_some run.own some in (k.0, sym h.own
 pub no_own : (c : Config) (w : Caller) (past : List Tale) (run : Run) (ms : List Moment) → Stands c w past run ms → is_some run.own ≡ false → own_value w.name w.call ≡ None
 no_own c w past run ms h none = sym h.own_is ∙ own_none run.own none
 
+step_unpromised : (step : RowStep) (ms : List Moment) (u : ℕ) (d : BallotAt) → phase_or_look (or_earlier (phase_by step) (last_sent phase_by ms)) ≡ NotBegun → has_promised_at ms u d ≡ false → (passes_sent (λ p. (p.0 == u) && same_ballot p.1 d) (promise_by step) || has_promised_at ms u d) ≡ false
+step_unpromised (FastVote v x) ms u d e h = h
+step_unpromised (Promise v b) ms u d e h = absurd (cc)
+step_unpromised (ClassicVote v b x) ms u d e h = h
+step_unpromised (Decide v x) ms u d e h = h
+step_unpromised (Trim to x) ms u d e h = h
+
+earlier_looks : (step : RowStep) (ms : List Moment) → phase_or_look (or_earlier (phase_by step) (last_sent phase_by ms)) ≡ NotBegun → phase_of ms ≡ NotBegun
+earlier_looks (FastVote v x) ms e = absurd (cc)
+earlier_looks (Promise v b) ms e = absurd (cc)
+earlier_looks (ClassicVote v b x) ms e = absurd (cc)
+earlier_looks (Decide v x) ms e = e
+earlier_looks (Trim to x) ms e = absurd (cc)
+
+op_unpromised : (op : Op) (ms : List Moment) (u : ℕ) (d : BallotAt) → phase_or_look (or_earlier (of_step phase_by op) (last_sent phase_by ms)) ≡ NotBegun → (phase_of ms ≡ NotBegun → has_promised_at ms u d ≡ false) → (passes_sent (λ p. (p.0 == u) && same_ballot p.1 d) (of_step promise_by op) || has_promised_at ms u d) ≡ false
+op_unpromised (ReadRow key) ms u d e h = h e
+op_unpromised (WriteRow key expect step row) ms u d e h = step_unpromised step ms u d e (h (earlier_looks step ms e))
+
+none_promised : (ms : List Moment) (u : ℕ) (d : BallotAt) → phase_of ms ≡ NotBegun → has_promised_at ms u d ≡ false
+none_promised [] u d e = refl
+none_promised (Sent a ∷ ms) u d e = op_unpromised a.op ms u d e (none_promised ms u d)
+none_promised (Handed a reply ∷ ms) u d e = none_promised ms u d e
+none_promised (GaveUp a ∷ ms) u d e = none_promised ms u d e
+none_promised (Rested ∷ ms) u d e = none_promised ms u d e
+none_promised (GaveIn ∷ ms) u d e = none_promised ms u d e
+
+-- a call that has sent no row write has promised nothing
+pub looks_unpromised : (ms : List Moment) (v : ℕ) → phase_of ms ≡ NotBegun → IsUnpromised ms v
+looks_unpromised ms v e u d l = none_promised ms u d e
+
 -- an object that was never written is voted for at its first version
 pub first_means : (c : Config) (w : Caller) (past : List Tale) (run : Run) (ms : List Moment) → Stands c w past run ms → IsFirst c w ms → is_some run.own ≡ true → NextMeans c w run ms (VoteAt 1)
 first_means c w past run ms h f some =
     let low : heard_at c is_blank ms ≤ heard_at c (λ r. leb (row_top r) 1) ms = heard_weaker c is_blank (λ r. leb (row_top r) 1) ms (λ (r : RowAt) (k : is_blank r ≡ true). let top : row_top r ≡ 0 = eqb-true (row_top r) 0 (and_parts (row_top r == 0) (r.floor == 0) k).0 in le-leb (row_top r) 1 (omega arith)) in
-    (record { above = omega arith; current = omega (arith, f.blank, low); next = inl refl; clear = unvoted_clear c w.name ms 1 f.unvoted }, f.none, own_of c w past run ms h some)
+    (record { above = omega arith; current = omega (arith, f.blank, low); next = inl refl; clear = unvoted_clear c w.name ms 1 f.unvoted }, f.none, own_of c w past run ms h some, unpromised_from ms 0 1 (omega arith) f.unpromised)
 
 -- the known rows of a classic quorum show nothing
-pub first_from : (c : Config) (w : Caller) (past : List Tale) (run : Run) (ms : List Moment) → IsConfig c → Stands c w past run ms → voted w.name ms ≡ false → list_all is_blank_known run.rows ≡ true → list_all is_topless run.rows ≡ true → c.qc ≤ known_count c ms → IsFirst c w ms
-first_from c w past run ms config h unvoted blank topless enough =
+pub first_from : (c : Config) (w : Caller) (past : List Tale) (run : Run) (ms : List Moment) → IsConfig c → Stands c w past run ms → voted w.name ms ≡ false → phase_of ms ≡ NotBegun → list_all is_blank_known run.rows ≡ true → list_all is_topless run.rows ≡ true → c.qc ≤ known_count c ms → IsFirst c w ms
+first_from c w past run ms config h unvoted looks blank topless enough =
     let counted : known_count c ms ≤ heard_at c is_blank ms = counted_heard c is_blank (λ s. is_some (rows_known ms s)) ms (λ (s : ℕ) (l : s < c.n) (k : is_some (rows_known ms s) ≡ true).
     let w = some_row (rows_known ms s) k in
     let listed : slice_get run.rows s ≡ Some (Some w.0) = h.knows.rows s l ∙ ap (λ o. Some o) w.1 in
@@ -193,6 +231,7 @@ first_from c w past run ms config h unvoted blank topless enough =
     record {
       blank = omega arith;
       unvoted = unvoted;
+      unpromised = looks_unpromised ms 0 looks;
       none = none_above c ms 1 config (λ (s : ℕ) (row : RowAt) (l : s < c.n) (e : rows_known ms s ≡ Some row).
           let listed : slice_get run.rows s ≡ Some (Some row) = h.knows.rows s l ∙ ap (λ o. Some o) e in
           let top : row_top row ≡ 0 = eqb-true (row_top row) 0 (all_at is_topless run.rows s (Some row) topless listed) in
@@ -200,16 +239,17 @@ first_from c w past run ms config h unvoted blank topless enough =
     }
 
 -- the highest version that the known rows of a classic quorum show
-pub latest_from : (c : Config) (w : Caller) (past : List Tale) (run : Run) (ms : List Moment) → Stands c w past run ms → voted w.name ms ≡ false → list_all is_topless run.rows ≡ false → c.qc ≤ known_count c ms → IsLatest c w ms (highest_of run.rows)
-latest_from c w past run ms h unvoted shown enough = record {
+pub latest_from : (c : Config) (w : Caller) (past : List Tale) (run : Run) (ms : List Moment) → Stands c w past run ms → voted w.name ms ≡ false → phase_of ms ≡ NotBegun → list_all is_topless run.rows ≡ false → c.qc ≤ known_count c ms → IsLatest c w ms (highest_of run.rows)
+latest_from c w past run ms h unvoted looks shown enough = record {
   above = highest_positive run.rows shown;
   current = known_current c run ms h.knows (highest_of run.rows) enough (λ (s : ℕ) (row : RowAt) (e : slice_get run.rows s ≡ Some (Some row)). top_highest run.rows s row e);
   unvoted = unvoted;
+  unpromised = looks_unpromised ms 0 looks;
 }
 
 -- a put goes on from the latest version
 pub latest_pass : (c : Config) (w : Caller) (past : List Tale) (run : Run) (ms : List Moment) (v : ℕ) → Stands c w past run ms → IsLatest c w ms v → is_some run.own ≡ true → MayPass c w ms v
-latest_pass c w past run ms v h l some = record { above = l.above; current = l.current; clear = unvoted_clear c w.name ms v l.unvoted; own = own_of c w past run ms h some }
+latest_pass c w past run ms v h l some = record { above = l.above; current = l.current; clear = unvoted_clear c w.name ms v l.unvoted; own = own_of c w past run ms h some; later = unpromised_from ms 0 (v + 1) (omega arith) l.unpromised }
 
 -- a get has learnt its value
 pub found_means : (c : Config) (w : Caller) (past : List Tale) (run : Run) (ms : List Moment) (v s : ℕ) → Stands c w past run ms → IsLatest c w ms v → EvidentAt c run.rows v s → is_some run.own ≡ false → IsFound c w run ms v s
@@ -223,3 +263,17 @@ found_means c w past run ms v s h l e none = record {
   known = e.known;
   named = e.named;
 }
+
+-- where no value is known to be chosen at its version, a phase hasn't reached its goal
+pub unmet_at : (c : Config) (run : Run) (ms : List Moment) (v : ℕ) (stage : Stage) → IsStageAt stage v → NoEvidence c ms v → IsUnmet c run stage ms
+unmet_at c run ms v Look at none = absurd at
+unmet_at c run ms v (Fast u) at none = subst (NoEvidence c ms) (sym at) none
+unmet_at c run ms v (Prepare u b) at none = subst (NoEvidence c ms) (sym at) none
+unmet_at c run ms v (Accept u b x) at none = subst (NoEvidence c ms) (sym at) none
+
+-- a put that works at a version may pass on from there
+pub pass_at : (c : Config) (w : Caller) (past : List Tale) (ms : List Moment) (v : ℕ) (stage : Stage) → IsStageAt stage v → StageStands c w past stage ms → MayPass c w ms v
+pass_at c w past ms v Look at s = absurd at
+pass_at c w past ms v (Fast u) at s = subst (MayPass c w ms) at (pass_from c w ms u s.0 s.1 s.2)
+pass_at c w past ms v (Prepare u b) at s = subst (MayPass c w ms) at s.0.works.pass
+pass_at c w past ms v (Accept u b x) at s = subst (MayPass c w ms) at s.1.pass

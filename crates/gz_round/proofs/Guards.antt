@@ -1,12 +1,10 @@
 -- A guard that holds goes on to hold while the step is made at one site after another.
-use Rattle.std.proofs.Common.{◌≡◌, ◌≢◌, ℕ, ◌+◌, ◌<◌, ◌≤◌, Bool, true, false, cond, ◌&&◌, ◌||◌, ◌==◌, List, [], ◌∷◌, length, Option, Some, None, refl, sym, ap, ◌∙◌, subst, inl, inr, ◌⊎◌, arith}
-use Rattle.std.proofs.lemmas.Bool.{cases_Bool, cond-true, cond-false, or_cases, or_right, and_parts, eqb-true, true≢false, false≢true, both_ways, and_right, false_from_ne_true}
-use Rattle.std.proofs.lemmas.Option.{none-some, same_Some}
+use Rattle.std.proofs.Common.{◌≡◌, ◌≢◌, ℕ, ◌<◌, Bool, true, false, ◌&&◌, ◌||◌, ◌==◌, List, ◌∷◌, length, Option, Some, None, refl, sym, ap, ◌∙◌, subst, inl, inr, ◌⊎◌}
+use Rattle.std.proofs.lemmas.Bool.{cases_Bool, cond-true, cond-false, or_cases, or_right, and_parts, eqb-true, false≢true, and_right, false_from_ne_true}
+use Rattle.std.proofs.lemmas.Option.{same_Some}
 use Rattle.std.specs.List.{All}
 use Rattle.gz_core.specs.Names.{Name, BallotAt, same_name, same_ballot}
 use Rattle.gz_core.specs.Values.{name_of}
-use Rattle.gz_core.specs.Calls.{own_value}
-use Rattle.gz_core.specs.Slots.{slots, OpenAt, IsVoteOf}
 use Rattle.gz_core.specs.declared.values.Value.{Value}
 use Rattle.gz_core.specs.declared.configuration.Config.{Config}
 use Rattle.gz_core.specs.declared.requests.RowStep.{RowStep}
@@ -14,9 +12,9 @@ use Rattle.gz_core.specs.declared.requests.RowStep.TheVariants.{FastVote, Promis
 use Rattle.gz_core.specs.declared.requests.Op.{Op}
 use Rattle.gz_core.specs.declared.requests.Op.TheVariants.{ReadRow, WriteRow}
 use Rattle.gz_core.proofs.Ballots.{same_means, name_means}
-use Rattle.gz_round.specs.History.{Asked, Moment, Sent, Handed, GaveUp, Caller, Tale}
-use Rattle.gz_round.specs.Sent.{vote_by, promise_by, of_step, of_sent, or_earlier, passes_sent, some_sent, voted, voted_at, has_promised, has_promised_at, last_promise}
-use Rattle.gz_round.specs.Shown.{IsShown, IsCurrent, IsNext, IsClear, IsGrounded}
+use Rattle.gz_round.specs.History.{Asked, Moment, Sent, Caller, Tale}
+use Rattle.gz_round.specs.Sent.{vote_by, promise_by, of_step, or_earlier, passes_sent, voted_at, has_promised, has_promised_at, last_promise}
+use Rattle.gz_round.specs.Shown.{IsClear}
 use Rattle.gz_round.specs.Rounds.{MayPromise, MayClassicVote, MayPropose, IsLeft, IsPromiseHeard, passed_since, Cast, cast_by, has_cast, is_promise, IsValueKnown}
 use Rattle.gz_pick.specs.declared.heard.Heard.{Heard}
 use Rattle.gz_round.specs.Sending.{MayFastVote, MayMake}
@@ -49,7 +47,7 @@ classic_version : (x : Name) (v u : ℕ) (b : BallotAt) (value : Value) → pass
 classic_version x v u b value h = vote_version x v u value h
 
 -- a call votes at no other version while it votes at one
-clear_vote : (c : Config) (x : Name) (ms : List Moment) (a : Asked) (v : ℕ) → ((u : ℕ) → passes_sent (λ k. k == u) (of_step (vote_by x) a.op) ≡ true → v ≡ u) → IsClear c x ms v → IsClear c x (Sent a ∷ ms) v
+pub clear_vote : (c : Config) (x : Name) (ms : List Moment) (a : Asked) (v : ℕ) → ((u : ℕ) → passes_sent (λ k. k == u) (of_step (vote_by x) a.op) ≡ true → v ≡ u) → IsClear c x ms v → IsClear c x (Sent a ∷ ms) v
 clear_vote c x ms a v only clear u n h =
     elim (or_cases (passes_sent (λ k. k == u) (of_step (vote_by x) a.op)) (voted_at x ms u) h) [
       | inl e ↦ absurd (n (sym (only u e)))
@@ -61,7 +59,7 @@ only_vote : (x : Name) (op : Op) (v : ℕ) (value : Value) (u : ℕ) → IsOf op
 only_vote x (ReadRow key) v value u is h = absurd (false≢true h)
 only_vote x (WriteRow key expect step row) v value u is h = vote_version x v u value (subst (λ s. passes_sent (λ k. k == u) (vote_by x s) ≡ true) (sym (same_Some (FastVote v value) step (is.writes step refl))) h)
 
-only_classic : (x : Name) (op : Op) (v : ℕ) (b : BallotAt) (value : Value) (u : ℕ) → IsOf op (Some (ClassicVote v b value)) → passes_sent (λ k. k == u) (of_step (vote_by x) op) ≡ true → v ≡ u
+pub only_classic : (x : Name) (op : Op) (v : ℕ) (b : BallotAt) (value : Value) (u : ℕ) → IsOf op (Some (ClassicVote v b value)) → passes_sent (λ k. k == u) (of_step (vote_by x) op) ≡ true → v ≡ u
 only_classic x (ReadRow key) v b value u is h = absurd (false≢true h)
 only_classic x (WriteRow key expect step row) v b value u is h = classic_version x v u b value (subst (λ s. passes_sent (λ k. k == u) (vote_by x s) ≡ true) (sym (same_Some (ClassicVote v b value) step (is.writes step refl))) h)
 
@@ -73,7 +71,7 @@ fast_kept c w ms a v value is h = record {
   clear = clear_vote c w.name ms a v (λ (u : ℕ) (k : passes_sent (λ z. z == u) (of_step (vote_by w.name) a.op) ≡ true). only_vote w.name a.op v value u is k) h.clear;
 }
 
-promise_sent : (op : Op) (v : ℕ) (b : BallotAt) → IsOf op (Some (Promise v b)) → (of_step promise_by op ≡ None) ⊎ (of_step promise_by op ≡ Some (v, b))
+pub promise_sent : (op : Op) (v : ℕ) (b : BallotAt) → IsOf op (Some (Promise v b)) → (of_step promise_by op ≡ None) ⊎ (of_step promise_by op ≡ Some (v, b))
 promise_sent (ReadRow key) v b is = inl refl
 promise_sent (WriteRow key expect step row) v b is = inr (sym (ap (λ o. of_some promise_by o) (is.writes step refl)))
 
@@ -91,9 +89,9 @@ own_promise ms a v b (inl e) (inl h) = inl (ap (λ o. passes_sent (λ p. same_ba
 own_promise ms a v b (inr e) (inl h) = inr (ap (λ o. or_earlier o (last_promise ms)) e)
 own_promise ms a v b k (inr h) = inr (last_promised (of_step promise_by a.op) (last_promise ms) v b k h)
 
-pub promise_kept : (c : Config) (w : Caller) (past : List Tale) (ms : List Moment) (a : Asked) (v : ℕ) (b : BallotAt) → IsOf a.op (Some (Promise v b)) → MayPromise c w past ms v b → MayPromise c w past (Sent a ∷ ms) v b
-promise_kept c w past ms a v b is h =
-    let sent : (of_step promise_by a.op ≡ None) ⊎ (of_step promise_by a.op ≡ Some (v, b)) = promise_sent a.op v b is in
+-- where a request promises this ballot at the version, or none
+pub promise_still : (c : Config) (w : Caller) (past : List Tale) (ms : List Moment) (a : Asked) (v : ℕ) (b : BallotAt) → (of_step promise_by a.op ≡ None) ⊎ (of_step promise_by a.op ≡ Some (v, b)) → MayPromise c w past ms v b → MayPromise c w past (Sent a ∷ ms) v b
+promise_still c w past ms a v b sent h =
     record {
       above = h.above;
       classic = h.classic;
@@ -106,6 +104,9 @@ promise_kept c w past ms a v b is h =
           let old : has_promised_at ms v d ≡ true = promised_before (of_step promise_by a.op) v b d (has_promised_at ms v d) sent n k in
           cond-false (is_promise v d (of_step promise_by a.op)) false (passed_since v d ms) other ∙ h.passed d n old;
     }
+
+pub promise_kept : (c : Config) (w : Caller) (past : List Tale) (ms : List Moment) (a : Asked) (v : ℕ) (b : BallotAt) → IsOf a.op (Some (Promise v b)) → MayPromise c w past ms v b → MayPromise c w past (Sent a ∷ ms) v b
+promise_kept c w past ms a v b is h = promise_still c w past ms a v b (promise_sent a.op v b is) h
 
 cast_sent : (op : Op) (v : ℕ) (b : BallotAt) (value : Value) → IsOf op (Some (ClassicVote v b value)) → (of_step cast_by op ≡ None) ⊎ (of_step cast_by op ≡ cast_by (ClassicVote v b value))
 cast_sent (ReadRow key) v b value is = inl refl

@@ -1,18 +1,17 @@
 -- What was heard stays heard, and what is shown stays shown.
-use Rattle.std.proofs.Common.{◌≡◌, ◌≢◌, ℕ, ◌+◌, ◌<◌, ◌≤◌, Bool, true, false, cond, ◌&&◌, ◌||◌, ◌==◌, List, [], ◌∷◌, Option, Some, None, refl, sym, ap, ◌∙◌, subst, inl, inr, ◌⊎◌, arith, leb}
-use Rattle.std.proofs.lemmas.Bool.{cases_Bool, and_parts, and_from, or_cases, or_left, or_right, leb-true, le-leb}
-use Rattle.gz_core.specs.Names.{Name, BallotAt}
+use Rattle.std.proofs.Common.{◌≡◌, ℕ, ◌<◌, ◌≤◌, Bool, true, ◌&&◌, List, [], ◌∷◌, Option, Some, None, refl, sym, subst, inl, inr, arith, leb}
+use Rattle.std.proofs.lemmas.Bool.{and_parts, and_from, or_cases, or_left, or_right}
+use Rattle.gz_core.specs.Names.{Name}
 use Rattle.gz_core.specs.Rows.{RowAt}
-use Rattle.gz_core.specs.Configurations.{need}
 use Rattle.gz_core.specs.Counts.{count_sites}
 use Rattle.gz_core.specs.declared.configuration.Config.{Config}
 use Rattle.gz_core.proofs.Counting.{count_weaker, count_within}
 use Rattle.gz_pick.specs.Looks.{row_top}
 use Rattle.gz_pick.specs.Evidences.{votes_for, decides}
 use Rattle.gz_round.specs.declared.hearing.Seen.{Seen}
-use Rattle.gz_round.specs.History.{Asked, Moment, Sent, Handed, GaveUp}
-use Rattle.gz_round.specs.Sites.{SiteNow, site_now, heard_in, concerns, passes, some_heard, WasHeard}
-use Rattle.gz_round.specs.Shown.{heard_at, IsShown, IsCurrent, IsNext, IsGrounded}
+use Rattle.gz_round.specs.History.{Moment}
+use Rattle.gz_round.specs.Sites.{heard_in, concerns, passes, some_heard, WasHeard}
+use Rattle.gz_round.specs.Shown.{heard_at, IsShown, IsCurrent, IsNext}
 
 -- a row that was heard stays heard
 pub heard_more : (p : RowAt → Bool) (m : Moment) (ms : List Moment) (s : ℕ) → some_heard p ms s ≡ true → some_heard p (m ∷ ms) s ≡ true

@@ -1,26 +1,25 @@
 -- The rows that are known are rows that were heard, and what they show is shown.
-use Rattle.std.proofs.Common.{◌≡◌, ◌≢◌, ℕ, zero, suc, ◌+◌, ◌<◌, ◌≤◌, ◌^◌, Bool, true, false, cond, ◌&&◌, ◌||◌, ◌==◌, List, [], ◌∷◌, length, Option, Some, None, is_some, refl, sym, ap, ◌∙◌, subst, inl, inr, ◌⊎◌, arith, leb}
-use Rattle.std.specs.List.{slice_get, list_all, count_by}
-use Rattle.std.proofs.lemmas.Bool.{cases_Bool, cond-true, cond-false, and_parts, true≢false, le-leb}
+use Rattle.std.proofs.Common.{◌≡◌, ℕ, ◌<◌, ◌≤◌, ◌^◌, Bool, true, false, List, [], ◌∷◌, length, Option, Some, None, is_some, refl, sym, ap, ◌∙◌, subst, inl, inr, ◌⊎◌, arith, leb}
+use Rattle.std.specs.List.{slice_get, count_by}
+use Rattle.std.proofs.lemmas.Bool.{cases_Bool, cond-true, cond-false, le-leb}
 use Rattle.std.proofs.lemmas.Option.{same_Some, none-some, slice_get_within}
 use Rattle.gz_core.specs.Names.{Name, BallotAt}
 use Rattle.gz_core.specs.Rows.{RowAt, empty_row}
 use Rattle.gz_core.specs.Counts.{count_sites}
-use Rattle.gz_core.specs.Configurations.{need}
 use Rattle.gz_core.specs.declared.configuration.Config.{Config}
 use Rattle.gz_core.specs.declared.requests.Reply.{Reply}
 use Rattle.gz_core.specs.declared.requests.Reply.TheVariants.{Row, NoRow, Written, Changed, Failed}
-use Rattle.gz_pick.specs.Looks.{row_top, row_name, highest_of}
+use Rattle.gz_pick.specs.Looks.{row_top, highest_of}
 use Rattle.gz_pick.specs.Evidences.{votes_for, decides, IsEvident, row_at}
 use Rattle.gz_round.specs.declared.hearing.Seen.{Seen}
 use Rattle.gz_round.specs.declared.run.Run.{Run}
-use Rattle.gz_round.specs.History.{Asked, Moment, Sent, Handed, GaveUp, Rested, GaveIn, Caller, Tale}
-use Rattle.gz_round.specs.Sites.{SiteNow, site_now, after, after_reply, after_sent, known, row_seen, seen_in, seen_under, seen_written, written_by, is_changed, is_to, concerns, heard_in, some_heard, WasHeard, can_stand}
+use Rattle.gz_round.specs.History.{Asked, Moment, Sent, Handed, GaveUp, Rested, GaveIn}
+use Rattle.gz_round.specs.Sites.{SiteNow, site_now, after, after_reply, after_sent, known, row_seen, seen_in, seen_under, seen_written, written_by, is_changed, concerns, heard_in, WasHeard, can_stand}
 use Rattle.gz_round.specs.Shown.{heard_at, IsShown, IsCurrent}
 use Rattle.gz_round.specs.Counting.{known_count, outs}
 use Rattle.gz_round.specs.Causes.{rows_known}
 use Rattle.gz_round.specs.Standing.{Knows, mark_of}
-use Rattle.gz_round.specs.Evidence.{NoneEvident, EvidentAt}
+use Rattle.gz_round.specs.Evidence.{NoneEvident}
 use Rattle.gz_round.specs.Following.{NoEvidence}
 use Rattle.gz_round.proofs.Lists.{count_same, count_told}
 use Rattle.gz_round.proofs.Moments.{now_here, now_other}

@@ -1,12 +1,11 @@
 -- What one more moment makes of the sites.
-use Rattle.std.proofs.Common.{◌≡◌, ◌≢◌, ℕ, ◌+◌, ◌<◌, ◌≤◌, Bool, true, false, cond, ◌&&◌, ◌||◌, ◌==◌, List, [], ◌∷◌, ◌++◌, length, Option, Some, None, refl, sym, ap, ◌∙◌, subst, inl, inr, ◌⊎◌, arith, zero-add}
-use Rattle.std.proofs.lemmas.Bool.{cases_Bool, cases_eq, cond-true, cond-false, ne_eqb, eq-eqb}
+use Rattle.std.proofs.Common.{◌≡◌, ◌≢◌, ℕ, ◌+◌, true, false, List, [], ◌∷◌, ◌++◌, length, refl, sym, ap, ◌∙◌, subst, inl, inr, arith}
+use Rattle.std.proofs.lemmas.Bool.{cases_Bool, cond-true, cond-false, ne_eqb, eq-eqb}
 use Rattle.gz_core.specs.declared.requests.Op.{Op}
 use Rattle.gz_core.specs.declared.requests.Op.TheVariants.{ReadRow, WriteRow}
 use Rattle.gz_core.specs.declared.requests.Out.{Out}
-use Rattle.gz_core.specs.declared.requests.Reply.{Reply}
-use Rattle.gz_round.specs.History.{Asked, Moment, Sent, Handed, GaveUp, is_row_request, asked_of, sent_from}
-use Rattle.gz_round.specs.Sites.{SiteNow, site_now, after, after_sent, concerns, is_to}
+use Rattle.gz_round.specs.History.{Asked, Moment, Sent, is_row_request, asked_of, sent_from}
+use Rattle.gz_round.specs.Sites.{SiteNow, site_now, after, concerns, is_to}
 
 -- every request so far is about a row
 pub row_request : (op : Op) → is_row_request op ≡ true

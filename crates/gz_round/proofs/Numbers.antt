@@ -1,12 +1,12 @@
 -- The numbers of the requests that are awaited.
-use Rattle.std.proofs.Common.{◌≡◌, ◌≢◌, ◌==◌, ℕ, ◌+◌, ◌<◌, ◌≤◌, Bool, true, false, List, [], ◌∷◌, length, Option, Some, None, refl, sym, ap, ◌∙◌, subst, inl, inr, ◌⊎◌, arith}
-use Rattle.std.proofs.lemmas.Bool.{cases_Bool, cases_eq, cond-true, cond-false, eqb-true, and_parts}
+use Rattle.std.proofs.Common.{◌≡◌, ◌==◌, ℕ, ◌+◌, ◌<◌, ◌≤◌, Bool, true, false, List, [], ◌∷◌, ◌++◌, length, Option, Some, None, refl, sym, ap, ◌∙◌, subst, inl, inr, ◌⊎◌, arith}
+use Rattle.std.proofs.lemmas.Bool.{cases_Bool, cond-true, cond-false, eqb-true, and_parts}
 use Rattle.std.proofs.lemmas.Option.{same_Some, none-some}
 use Rattle.gz_core.specs.declared.configuration.Config.{Config}
 use Rattle.gz_core.specs.declared.requests.Out.{Out}
 use Rattle.gz_core.specs.declared.requests.Reply.{Reply}
 use Rattle.gz_round.specs.declared.hearing.Seen.{Seen}
-use Rattle.gz_round.specs.History.{Asked, Moment, Sent, Handed, GaveUp, asked_of, sent_from, is_row_request}
+use Rattle.gz_round.specs.History.{Asked, Moment, Sent, Handed, GaveUp, GaveIn, IsClosing, asked_of, sent_from, is_row_request}
 use Rattle.gz_round.specs.Sites.{SiteNow, site_now, after, after_reply, after_sent, concerns, is_to, seen_in, written_by, is_changed}
 use Rattle.gz_round.specs.Numbering.{AreNumbered}
 use Rattle.gz_round.proofs.Moments.{now_here, now_other}
@@ -67,7 +67,7 @@ ended_awaits ms m b s idle e =
       | inr k ↦ sym (ap (λ n. n.awaits) (now_other m ms s k)) ∙ e
     ]
 
-numbered_ended : (c : Config) (ms : List Moment) (m : Moment) (next : ℕ) → ((now : SiteNow) → (after m now).awaits ≡ None) → AreNumbered c ms next → AreNumbered c (m ∷ ms) next
+pub numbered_ended : (c : Config) (ms : List Moment) (m : Moment) (next : ℕ) → ((now : SiteNow) → (after m now).awaits ≡ None) → AreNumbered c ms next → AreNumbered c (m ∷ ms) next
 numbered_ended c ms m next idle h = record {
   below = λ (s : ℕ) (a : Asked) (i : s < c.n) (e : (site_now (m ∷ ms) s).awaits ≡ Some a). h.below s a i (ended_awaits ms m a s idle e);
   apart = λ (s u : ℕ) (a b : Asked) (i : s < c.n) (j : u < c.n) (e : (site_now (m ∷ ms) s).awaits ≡ Some a) (f : (site_now (m ∷ ms) u).awaits ≡ Some b) (same : a.number ≡ b.number).
@@ -86,3 +86,8 @@ numbered_none c next = record {
   below = λ (s : ℕ) (a : Asked) (i : s < c.n) (e : None ≡ Some a). absurd (none-some a e);
   apart = λ (s u : ℕ) (a b : Asked) (i : s < c.n) (j : u < c.n) (e : None ≡ Some a) (f : None ≡ Some b) (same : a.number ≡ b.number). absurd (none-some a e);
 }
+
+-- however an event closes
+pub numbered_closed : (c : Config) (ms closing : List Moment) (next : ℕ) → IsClosing closing → AreNumbered c ms next → AreNumbered c (closing ++ ms) next
+numbered_closed c ms closing next (inl e) h = subst (λ k. AreNumbered c (k ++ ms) next) (sym e) h
+numbered_closed c ms closing next (inr e) h = subst (λ k. AreNumbered c (k ++ ms) next) (sym e) (numbered_ended c ms GaveIn next (λ now. refl) h)

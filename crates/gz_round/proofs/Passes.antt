@@ -1,9 +1,9 @@
 -- A pass over the sites, one after another.
-use Rattle.std.proofs.Common.{◌≡◌, ◌≢◌, ℕ, zero, suc, ◌+◌, ◌<◌, ◌≤◌, Bool, true, false, cond, ◌||◌, List, [], ◌∷◌, ◌++◌, length, Option, Some, None, is_some, refl, sym, ap, ◌∙◌, subst, inl, inr, ◌⊎◌, arith, set, get_or}
-use Rattle.std.proofs.Math.ListN.{length-set, length-append}
+use Rattle.std.proofs.Common.{◌≡◌, ℕ, zero, suc, ◌+◌, ◌<◌, ◌≤◌, true, cond, ◌||◌, List, [], ◌∷◌, length, Option, Some, None, refl, sym, ap, ◌∙◌, subst, inl, inr, arith, set}
+use Rattle.std.proofs.Math.ListN.{length-set}
 use Rattle.std.specs.List.{slice_get}
 use Rattle.std.proofs.lemmas.Bool.{cases_Bool, cond-true, cond-false}
-use Rattle.std.proofs.lemmas.Option.{same_Some, none-some}
+use Rattle.std.proofs.lemmas.Option.{none-some}
 use Rattle.gz_core.specs.Rows.{RowAt}
 use Rattle.gz_core.specs.declared.configuration.Config.{Config}
 use Rattle.gz_core.specs.declared.requests.RowStep.{RowStep}
@@ -12,7 +12,7 @@ use Rattle.gz_round.specs.declared.run.Mark.{Mark}
 use Rattle.gz_round.specs.declared.run.Run.{Run}
 use Rattle.gz_round.specs.History.{Moment, Caller, Tale, sent_from}
 use Rattle.gz_round.specs.Sent.{of_step, vote_by, phase_by, passes_sent}
-use Rattle.gz_round.specs.Asking.{asks_of, sent_run, noted, marked_run, marked_as, phase_after, AskedBy, IsAskedAt, IsLeftBy}
+use Rattle.gz_round.specs.Asking.{asks_of, sent_run, marked_as, phase_after, AskedBy, IsAskedAt, IsLeftBy}
 use Rattle.gz_round.specs.Following.{Asks, AreServed, CanAsk}
 use Rattle.gz_round.proofs.Sends.{Kind, reads, writes, asked_kind}
 use Rattle.gz_round.proofs.Serves.{Passed, passed_more}

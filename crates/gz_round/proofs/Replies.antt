@@ -1,38 +1,27 @@
 -- A reply, or a give-up: what is noted of it stands for it.
-use Rattle.std.proofs.Common.{◌≡◌, ◌≢◌, ℕ, ◌+◌, ◌<◌, ◌≤◌, Bool, true, false, cond, ◌&&◌, ◌||◌, ◌==◌, List, [], ◌∷◌, length, Option, Some, None, is_some, option_map, refl, sym, ap, ◌∙◌, subst, inl, inr, ◌⊎◌, arith, set}
+use Rattle.std.proofs.Common.{◌≡◌, ◌≢◌, ℕ, ◌+◌, ◌<◌, max, Bool, true, false, List, ◌∷◌, length, Option, Some, None, option_map, refl, sym, ap, ◌∙◌, subst, inl, inr}
 use Rattle.std.proofs.Math.ListN.{length-set}
 use Rattle.std.specs.List.{slice_get}
-use Rattle.std.proofs.lemmas.Bool.{cases_Bool, cases_eq, cond-true, cond-false, eqb-true, and_parts, true≢false, false≢true}
-use Rattle.std.proofs.lemmas.Option.{same_Some, none-some}
-use Rattle.gz_core.specs.Names.{Name}
+use Rattle.std.proofs.lemmas.Bool.{cases_eq, cond-true, cond-false}
+use Rattle.std.proofs.lemmas.Option.{none-some}
 use Rattle.gz_core.specs.Rows.{RowAt}
-use Rattle.gz_core.specs.Calls.{own_value}
-use Rattle.gz_core.specs.declared.values.Value.{Value}
 use Rattle.gz_core.specs.declared.configuration.Config.{Config}
 use Rattle.gz_core.specs.declared.requests.Reply.{Reply}
 use Rattle.gz_core.specs.declared.requests.Reply.TheVariants.{Row, NoRow, Written, Changed, Failed}
 use Rattle.gz_round.specs.declared.hearing.Seen.{Seen}
 use Rattle.gz_round.specs.declared.run.Mark.{Mark}
 use Rattle.gz_round.specs.declared.run.Run.{Run}
-use Rattle.gz_round.specs.declared.run.Stage.{Stage}
-use Rattle.gz_round.specs.declared.run.Stage.TheVariants.{Look, Fast}
-use Rattle.gz_round.specs.History.{Asked, Moment, Sent, Handed, GaveUp, Caller, Tale, is_row_request}
-use Rattle.gz_round.specs.Sites.{SiteNow, site_now, after, after_reply, concerns, is_to, known, row_seen, written_by, seen_in, seen_under, seen_written, is_changed}
-use Rattle.gz_round.specs.Sent.{met, overtakes, voted, voted_at, phase_of}
-use Rattle.gz_round.specs.Shown.{IsShown, IsClear}
-use Rattle.gz_round.specs.Sending.{MayFastVote, IsAllowed, IsAwaitedOf}
-use Rattle.gz_round.specs.Noting.{heard_run, overtaken_run, left_run, noted_by, written_at, written_of, IsReplyNoted}
-use Rattle.gz_round.specs.Standing.{Knows, Stands, StageStands, IsSound, mark_of, etag_seen, awaited_of}
+use Rattle.gz_round.specs.History.{Asked, Moment, Handed, GaveUp, Caller, Tale}
+use Rattle.gz_round.specs.Sites.{SiteNow, site_now, after_reply, known, written_by, seen_in, is_changed}
+use Rattle.gz_round.specs.Sent.{met, voted, phase_of, top_round}
+use Rattle.gz_round.specs.Rounds.{top_rounds}
+use Rattle.gz_round.specs.Sending.{IsAllowed, IsAwaitedOf}
+use Rattle.gz_round.specs.Noting.{left_run, noted_by, written_at, written_of, IsReplyNoted}
+use Rattle.gz_round.specs.Standing.{Knows, Stands, StageStands, IsSound, mark_of, awaited_of}
 use Rattle.gz_round.specs.Following.{Ready}
 use Rattle.gz_round.proofs.Lists.{told_after_set, told_same}
-use Rattle.gz_round.proofs.Moments.{is_to_same, is_to_other, now_here, now_other, each_site}
-use Rattle.gz_round.proofs.Heard.{current_more, next_more, shown_more}
-
--- what a moment ends: the request that is awaited from one site, with the row that it showed, or overtaken, or nothing
-pub record Ends (m : Moment) (at : ℕ) (seen : Option Seen) (changed : Bool) : Type 0 where
-  pub here : concerns m at ≡ true
-  pub others : (s : ℕ) → s ≢ at → concerns m s ≡ false
-  pub after_is : (now : SiteNow) → after m now ≡ after_reply seen changed now
+use Rattle.gz_round.proofs.Moments.{is_to_same, is_to_other, now_here, now_other}
+use Rattle.gz_round.proofs.Stages.{Ends, stage_more}
 
 abbrev pub met_by : Option Seen → Bool → ℕ → ℕ
 met_by (Some seen) changed n = n
@@ -93,12 +82,13 @@ pub record IsElse (old new : Run) : Type 0 where
   pub own : new.own ≡ old.own
   pub voted : new.voted ≡ old.voted
   pub wrote : new.wrote ≡ old.wrote
+  pub round : new.round ≡ old.round
   pub stage : new.stage ≡ old.stage
 
 pub ended_else : (run : Run) (at : ℕ) (mark : Mark) (seen : Option Seen) (changed : Bool) → IsElse run (noted_by run at mark seen changed)
-ended_else run at mark (Some seen) changed = record { name = refl; key = refl; own = refl; voted = refl; wrote = refl; stage = refl }
-ended_else run at mark None true = record { name = refl; key = refl; own = refl; voted = refl; wrote = refl; stage = refl }
-ended_else run at mark None false = record { name = refl; key = refl; own = refl; voted = refl; wrote = refl; stage = refl }
+ended_else run at mark (Some seen) changed = record { name = refl; key = refl; own = refl; voted = refl; wrote = refl; round = refl; stage = refl }
+ended_else run at mark None true = record { name = refl; key = refl; own = refl; voted = refl; wrote = refl; round = refl; stage = refl }
+ended_else run at mark None false = record { name = refl; key = refl; own = refl; voted = refl; wrote = refl; round = refl; stage = refl }
 
 sound_ended : (seen : Option Seen) (changed : Bool) (now : SiteNow) (s : ℕ) → IsSound (after_reply seen changed now) s
 sound_ended (Some seen) changed now s = record { inside = λ (a : Asked) (e : None ≡ Some a). absurd (none-some a e); answered = refl }
@@ -107,8 +97,8 @@ sound_ended None false now s = record { inside = λ (a : Asked) (e : None ≡ So
 
 -- what is noted stands for the moment
 pub stands_ended : (c : Config) (w : Caller) (past : List Tale) (run : Run) (ms : List Moment) (m : Moment) (at : ℕ) (seen : Option Seen) (changed : Bool) → Ends m at seen changed → at < c.n → (site_now ms at).out ≡ false →
-    voted w.name (m ∷ ms) ≡ voted w.name ms → phase_of (m ∷ ms) ≡ phase_of ms → met (m ∷ ms) ≡ met_by seen changed (met ms) → IsAllowed c w past ms m → Stands c w past run ms → Stands c w past (noted_by run at (mark_of (site_now ms at)) seen changed) (m ∷ ms)
-stands_ended c w past run ms m at seen changed e l kept votes phase met_then may h =
+    voted w.name (m ∷ ms) ≡ voted w.name ms → phase_of (m ∷ ms) ≡ phase_of ms → top_round (m ∷ ms) ≡ top_round ms → met (m ∷ ms) ≡ met_by seen changed (met ms) → IsAllowed c w past ms m → Stands c w past run ms → Stands c w past (noted_by run at (mark_of (site_now ms at)) seen changed) (m ∷ ms)
+stands_ended c w past run ms m at seen changed e l kept votes phase rounds met_then may h =
     let rest = ended_else run at (mark_of (site_now ms at)) seen changed in
     record {
       name_is = rest.name ∙ h.name_is;
@@ -123,21 +113,13 @@ stands_ended c w past run ms m at seen changed e l kept votes phase met_then may
       met_is = ended_met run at (mark_of (site_now ms at)) seen changed ∙ (ap (met_by seen changed) h.met_is ∙ sym met_then);
       voted_is = rest.voted ∙ (h.voted_is ∙ sym votes);
       wrote_is = rest.wrote ∙ (h.wrote_is ∙ sym phase);
+      round_is = rest.round ∙ (h.round_is ∙ ap (λ (n : ℕ). max (top_rounds past) n) (sym rounds));
       sites = λ (s : ℕ). elim (cases_eq s at) [
         | inl same ↦ subst (λ (z : ℕ). IsSound (site_now (m ∷ ms) z) z) (sym same) (subst (λ n. IsSound n at) (sym (now_here m ms at e.here ∙ e.after_is (site_now ms at))) (sound_ended seen changed (site_now ms at) at))
         | inr n ↦ subst (λ k. IsSound k s) (sym (now_other m ms s (e.others s n))) (h.sites s)
       ];
       allowed = (may, h.allowed);
     }
-
-clear_more : (c : Config) (x : Name) (m : Moment) (ms : List Moment) (v : ℕ) → ((u : ℕ) → voted_at x (m ∷ ms) u ≡ voted_at x ms u) → IsClear c x ms v → IsClear c x (m ∷ ms) v
-clear_more c x m ms v same h u n k = let w = h u n (sym (same u) ∙ k) in (w.0, w.1, shown_more c m ms u w.0 w.2)
-
--- the phase goes on to stand
-pub stage_more : (c : Config) (w : Caller) (m : Moment) (ms : List Moment) (stage : Stage) → voted w.name (m ∷ ms) ≡ voted w.name ms → ((u : ℕ) → voted_at w.name (m ∷ ms) u ≡ voted_at w.name ms u) → StageStands c w stage ms → StageStands c w stage (m ∷ ms)
-stage_more c w m ms Look votes same s = votes ∙ s
-stage_more c w m ms (Fast v) votes same s =
-    (record { above = s.0.above; current = current_more c m ms v s.0.current; next = next_more c m ms v s.0.next; clear = clear_more c w.name m ms v same s.0.clear }, s.1)
 
 seen_unchanged : (written : Option RowAt) (reply : Reply) (seen : Seen) → seen_in written reply ≡ Some seen → is_changed reply ≡ false
 seen_unchanged written (Row etag row) seen e = refl
@@ -162,9 +144,9 @@ ready_handed c w past run new ms at a reply l awaits r noted =
     let ends : Ends (Handed a reply) at (seen_in (written_by a.op) reply) (is_changed reply) = record { here = is_to_same a at sound.1; others = λ (s : ℕ) (n : s ≢ at). is_to_other a s (λ (q : s ≡ a.site). n (q ∙ sound.1)); after_is = λ now. refl } in
     let may : IsAwaitedOf ms a = subst (λ (z : ℕ). (site_now ms z).awaits ≡ Some a) (sym sound.1) awaits in
     let stands : Stands c w past (noted_by run at (mark_of (site_now ms at)) (seen_in (written_by a.op) reply) (is_changed reply)) (Handed a reply ∷ ms) =
-    stands_ended c w past run ms (Handed a reply) at (seen_in (written_by a.op) reply) (is_changed reply) ends l sound.0 refl refl (met_handed a reply ms (seen_in (written_by a.op) reply) (is_changed reply) refl refl) may r.stands in
-    let stage : StageStands c w run.stage (Handed a reply ∷ ms) = stage_more c w (Handed a reply) ms run.stage refl (λ u. refl) r.stage in
-    subst (λ (n : Run). Ready c w past n (Handed a reply ∷ ms)) (sym new_is) (record { stands = stands; stage = subst (λ st. StageStands c w st (Handed a reply ∷ ms)) (sym (ended_else run at (mark_of (site_now ms at)) (seen_in (written_by a.op) reply) (is_changed reply)).stage) stage })
+    stands_ended c w past run ms (Handed a reply) at (seen_in (written_by a.op) reply) (is_changed reply) ends l sound.0 refl refl refl (met_handed a reply ms (seen_in (written_by a.op) reply) (is_changed reply) refl refl) may r.stands in
+    let stage : StageStands c w past run.stage (Handed a reply ∷ ms) = stage_more c w past (Handed a reply) ms at (seen_in (written_by a.op) reply) (is_changed reply) run.stage ends refl (record { voted = refl; voted_at = λ u. refl; phase = refl; promise = refl; cast = refl }) r.stage in
+    subst (λ (n : Run). Ready c w past n (Handed a reply ∷ ms)) (sym new_is) (record { stands = stands; stage = subst (λ st. StageStands c w past st (Handed a reply ∷ ms)) (sym (ended_else run at (mark_of (site_now ms at)) (seen_in (written_by a.op) reply) (is_changed reply)).stage) stage })
 
 -- a request that is given up
 pub ready_gave_up : (c : Config) (w : Caller) (past : List Tale) (run new : Run) (ms : List Moment) (at : ℕ) (a : Asked) → at < c.n → (site_now ms at).awaits ≡ Some a → Ready c w past run ms → new ≡ left_run run at (mark_of (site_now ms at)) → Ready c w past new (GaveUp a ∷ ms)
@@ -172,6 +154,6 @@ ready_gave_up c w past run new ms at a l awaits r new_is =
     let sound = (r.stands.sites at).inside a awaits in
     let ends : Ends (GaveUp a) at None false = record { here = is_to_same a at sound.1; others = λ (s : ℕ) (n : s ≢ at). is_to_other a s (λ (q : s ≡ a.site). n (q ∙ sound.1)); after_is = λ now. refl } in
     let may : IsAwaitedOf ms a = subst (λ (z : ℕ). (site_now ms z).awaits ≡ Some a) (sym sound.1) awaits in
-    let stands : Stands c w past (left_run run at (mark_of (site_now ms at))) (GaveUp a ∷ ms) = stands_ended c w past run ms (GaveUp a) at None false ends l sound.0 refl refl refl may r.stands in
-    let stage : StageStands c w run.stage (GaveUp a ∷ ms) = stage_more c w (GaveUp a) ms run.stage refl (λ u. refl) r.stage in
+    let stands : Stands c w past (left_run run at (mark_of (site_now ms at))) (GaveUp a ∷ ms) = stands_ended c w past run ms (GaveUp a) at None false ends l sound.0 refl refl refl refl may r.stands in
+    let stage : StageStands c w past run.stage (GaveUp a ∷ ms) = stage_more c w past (GaveUp a) ms at None false run.stage ends refl (record { voted = refl; voted_at = λ u. refl; phase = refl; promise = refl; cast = refl }) r.stage in
     subst (λ (n : Run). Ready c w past n (GaveUp a ∷ ms)) (sym new_is) (record { stands = stands; stage = stage })

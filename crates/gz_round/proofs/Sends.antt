@@ -1,36 +1,33 @@
 -- A request that is sent: what it is, that it may be sent, and what is kept of it.
-use Rattle.std.proofs.Common.{◌≡◌, ◌≢◌, ℕ, ◌+◌, ◌<◌, ◌≤◌, Bool, true, false, cond, ◌&&◌, ◌||◌, ◌==◌, not, List, [], ◌∷◌, ◌++◌, length, Option, Some, None, is_some, option_map, refl, sym, ap, ◌∙◌, subst, inl, inr, ◌⊎◌, arith, set}
+use Rattle.std.proofs.Common.{◌≡◌, ◌≢◌, ℕ, ◌<◌, max, true, false, cond, ◌||◌, ◌==◌, not, List, ◌∷◌, length, Option, Some, None, is_some, option_map, refl, sym, ap, ◌∙◌, subst, inl, inr, ◌⊎◌, arith, set}
 use Rattle.std.proofs.Math.ListN.{length-set}
 use Rattle.std.specs.List.{slice_get}
-use Rattle.std.proofs.lemmas.Bool.{cases_Bool, cases_eq, cond-true, cond-false, or_cases, or_parts, and_parts, eqb-true, true≢false, false≢true}
+use Rattle.std.proofs.lemmas.Bool.{cases_Bool, cond-true, cond-false, or_parts, and_parts, eqb-true, true≢false}
 use Rattle.std.proofs.lemmas.Option.{same_Some, none-some}
-use Rattle.gz_core.specs.Names.{Name}
+use Rattle.gz_core.specs.Names.{Name, BallotAt}
 use Rattle.gz_core.specs.Rows.{RowAt}
 use Rattle.gz_core.specs.Calls.{key_of}
 use Rattle.gz_core.specs.declared.calls.Phase.{Phase}
 use Rattle.gz_core.specs.declared.configuration.Config.{Config}
 use Rattle.gz_core.specs.declared.requests.RowStep.{RowStep}
-use Rattle.gz_core.specs.declared.requests.RowStep.TheVariants.{FastVote, Promise, ClassicVote, Decide, Trim}
-use Rattle.gz_core.specs.declared.requests.Op.{Op}
-use Rattle.gz_core.specs.declared.requests.Op.TheVariants.{ReadRow, WriteRow}
+use Rattle.gz_core.specs.declared.requests.Op.TheVariants.{WriteRow}
 use Rattle.gz_core.specs.declared.requests.Out.{Out}
 use Rattle.gz_accept.specs.declared.answers.Step.{Step}
 use Rattle.gz_accept.specs.declared.answers.Step.TheVariants.{Done, Already, Below, Settled, Trimmed}
 use Rattle.gz_round.specs.declared.hearing.Seen.{Seen}
-use Rattle.gz_round.specs.declared.run.Awaited.{Awaited}
 use Rattle.gz_round.specs.declared.run.Mark.{Mark}
 use Rattle.gz_round.specs.declared.run.Run.{Run}
-use Rattle.gz_round.specs.History.{Asked, Moment, Sent, Handed, GaveUp, Caller, Tale, asked_of, is_row_request}
-use Rattle.gz_round.specs.Sites.{SiteNow, site_now, after, after_sent, concerns, is_to, known, row_seen, written_by}
-use Rattle.gz_round.specs.Sent.{vote_by, phase_by, of_step, of_sent, or_earlier, last_sent, passes_sent, some_sent, voted, phase_of, phase_or_look, met}
-use Rattle.gz_round.specs.Sending.{MaySend, MayAsk, MayRead, MayWrite, MayMake, IsMade, AreAllowed, answer_of, made_by}
-use Rattle.gz_round.specs.Counting.{HasNotice, WasSent}
-use Rattle.gz_round.specs.Asking.{asks_of, row_out, step_out, write_out, read_out, made_of, if_done, is_notice, sent_run, noted, marked_run, marked_as, phase_after}
+use Rattle.gz_round.specs.History.{Asked, Moment, Sent, Caller, Tale, asked_of, is_row_request}
+use Rattle.gz_round.specs.Sites.{SiteNow, site_now, after_sent, is_to, known, row_seen}
+use Rattle.gz_round.specs.Sent.{vote_by, phase_by, of_step, or_earlier, last_sent, passes_sent, phase_of, phase_or_look, promise_by, round_after, top_round}
+use Rattle.gz_round.specs.Rounds.{top_rounds}
+use Rattle.gz_round.specs.Sending.{MaySend, MayAsk, MayMake, IsMade, answer_of, made_by}
+use Rattle.gz_round.specs.Asking.{asks_of, row_out, step_out, write_out, read_out, made_of, if_done, is_notice, sent_run, marked_as, phase_after}
 use Rattle.gz_round.specs.Standing.{Knows, Stands, IsSound, mark_of, etag_seen, awaited_of}
-use Rattle.gz_round.specs.Following.{MayMakeOf, IsServed, IsSettledBy}
+use Rattle.gz_round.specs.Following.{MayMakeOf}
 use Rattle.gz_round.proofs.Lists.{told_after_set, told_same}
 use Rattle.gz_round.proofs.Moments.{is_to_same, is_to_other, now_here, now_other, each_site}
-use Rattle.gz_round.proofs.Known.{known_last, last_known, sent_row}
+use Rattle.gz_round.proofs.Known.{known_last, sent_row}
 use Rattle.gz_round.proofs.Guards.{IsOf}
 
 -- a step that is done makes its row
@@ -178,6 +175,10 @@ marks_sent c run ms at number out k l here =
           ap (λ xs. slice_get xs s) (cond-false out.awaited (set run.marks at (marked_as (mark_of (site_now ms at)) number out)) run.marks e) ∙ (k.marks s i ∙ ap (λ n. Some (mark_of n)) (each_site (λ n. site_now ms s ≡ n) (Sent (asked_of number out)) ms s (λ h. sym (cond-false out.awaited _ (site_now ms s) e)) (λ h. refl))))
     ]
 
+round_sent : (o : Option (ℕ × BallotAt)) (round used top : ℕ) → round ≡ max used top → round_after o round ≡ max used (round_after o top)
+round_sent None round used top e = e
+round_sent (Some p) round used top e = omega (arith, e)
+
 -- what is kept once a request has gone out
 pub stands_sent : (c : Config) (w : Caller) (past : List Tale) (run : Run) (ms : List Moment) (at number : ℕ) (out : Out) → at < c.n → out.site ≡ at → Stands c w past run ms → MaySend c w past ms (asked_of number out) →
     Stands c w past (sent_run run at number (mark_of (site_now ms at)) out) (Sent (asked_of number out) ∷ ms)
@@ -197,6 +198,7 @@ stands_sent c w past run ms at number out l here h may = record {
   met_is = h.met_is;
   voted_is = ap (λ (n : Name). passes_sent (λ u. true) (of_step (vote_by n) out.op) || run.voted) h.name_is ∙ ap (λ b. passes_sent (λ u. true) (of_step (vote_by w.name) out.op) || b) h.voted_is;
   wrote_is = ap (phase_after (of_step phase_by out.op)) h.wrote_is ∙ phase_sent (of_step phase_by out.op) ms;
+  round_is = round_sent (of_step promise_by out.op) run.round (top_rounds past) (top_round ms) h.round_is;
   sites = λ (s : ℕ). each_site (λ n. IsSound n s) (Sent (asked_of number out)) ms s
       (λ (k : is_to (asked_of number out) s ≡ true).
       let same : out.site ≡ s = eqb-true out.site s (and_parts (is_row_request out.op) (out.site == s) k).1 in

@@ -1,31 +1,27 @@
 -- A pass over the sites: what each is asked, and what holds once all were asked.
-use Rattle.std.proofs.Common.{◌≡◌, ◌≢◌, ℕ, ◌+◌, ◌<◌, ◌≤◌, Bool, true, false, cond, ◌&&◌, ◌||◌, ◌==◌, not, List, [], ◌∷◌, ◌++◌, length, Option, Some, None, is_some, option_map, refl, sym, ap, ◌∙◌, subst, inl, inr, ◌⊎◌, arith}
-use Rattle.std.specs.List.{slice_get}
-use Rattle.std.proofs.lemmas.Bool.{cases_Bool, cases_eq, cases_lt, cond-true, cond-false, or_cases, or_from, true≢false, false≢true, both_ways, not-false, not_from_true}
-use Rattle.std.proofs.lemmas.Option.{same_Some, none-some}
+use Rattle.std.proofs.Common.{◌≡◌, ◌≢◌, ℕ, ◌+◌, ◌<◌, true, false, ◌||◌, not, List, ◌∷◌, length, Option, Some, None, is_some, option_map, refl, sym, ap, ◌∙◌, subst, inl, inr, arith}
+use Rattle.std.proofs.lemmas.Bool.{cases_Bool, cases_eq, cond-true, cond-false, or_from}
+use Rattle.std.proofs.lemmas.Option.{none-some}
 use Rattle.gz_core.specs.Rows.{RowAt}
 use Rattle.gz_core.specs.Calls.{key_of}
 use Rattle.gz_core.specs.declared.configuration.Config.{Config}
 use Rattle.gz_core.specs.declared.requests.RowStep.{RowStep}
-use Rattle.gz_core.specs.declared.requests.Op.{Op}
-use Rattle.gz_core.specs.declared.requests.Op.TheVariants.{ReadRow, WriteRow}
+use Rattle.gz_core.specs.declared.requests.Op.TheVariants.{WriteRow}
 use Rattle.gz_core.specs.declared.requests.Out.{Out}
-use Rattle.gz_accept.specs.declared.answers.Step.{Step}
-use Rattle.gz_accept.specs.declared.answers.Step.TheVariants.{Done, Already, Below, Settled, Trimmed}
+use Rattle.gz_accept.specs.declared.answers.Step.TheVariants.{Done}
 use Rattle.gz_round.specs.declared.hearing.Seen.{Seen}
-use Rattle.gz_round.specs.declared.run.Mark.{Mark}
 use Rattle.gz_round.specs.declared.run.Run.{Run}
 use Rattle.gz_round.specs.History.{Asked, Moment, Sent, Caller, Tale, asked_of, sent_from}
-use Rattle.gz_round.specs.Sites.{SiteNow, site_now, after_sent, known, row_seen}
-use Rattle.gz_round.specs.Sending.{MayMake, MaySend, IsMade, answer_of, made_by}
-use Rattle.gz_round.specs.Counting.{HasNotice, WasSent}
-use Rattle.gz_round.specs.Asking.{asks_of, row_out, step_out, write_out, read_out, made_of, if_done, is_notice, sent_run, AskedBy, IsAskedAt}
-use Rattle.gz_round.specs.Standing.{Knows, Stands, mark_of, awaited_of, etag_seen}
-use Rattle.gz_round.specs.Following.{Asks, MayMakeOf, IsServed, AreServed, IsSettledBy}
+use Rattle.gz_round.specs.Sites.{SiteNow, site_now, known, row_seen}
+use Rattle.gz_round.specs.Sending.{MaySend, answer_of, made_by}
+use Rattle.gz_round.specs.Asking.{asks_of, row_out, step_out, write_out, read_out, made_of, is_notice, sent_run, AskedBy, IsAskedAt}
+use Rattle.gz_round.specs.Standing.{mark_of, awaited_of, etag_seen}
+use Rattle.gz_round.specs.Following.{Asks, IsServed, IsSettledBy}
 use Rattle.gz_round.proofs.Moments.{is_to_same, is_to_other, now_here, now_other, sent_append}
 use Rattle.gz_round.proofs.Known.{last_known, known_last}
 use Rattle.gz_round.proofs.Guards.{may_kept_of}
-use Rattle.gz_round.proofs.Sends.{Kind, reads, writes, asked_kind, kind_site, kind_of, kind_may, stands_sent, undone_means, etag_last}
+use Rattle.gz_round.proofs.Stages.{held_kept_of}
+use Rattle.gz_round.proofs.Sends.{Kind, reads, writes, asked_kind, kind_site, kind_of, kind_may, stands_sent, undone_means}
 
 write_none : (run : Run) (at : ℕ) (etag : Option ℕ) (step : RowStep) (o : Option RowAt) → write_out run at etag step o ≡ None → o ≡ None
 write_none run at etag step None h = refl
@@ -133,6 +129,7 @@ asked_some c w past run ms step at number out l h p =
       asks = record {
         stands = stands_sent c w past run ms at number out l here p.asks.stands may;
         may = may_kept_of c w past ms (asked_of number out) step (kind_of run at (mark_of (site_now ms at)) step (known (site_now ms at)) out k.2) p.asks.may;
+        held = held_kept_of c w past ms (asked_of number out) step (kind_of run at (mark_of (site_now ms at)) step (known (site_now ms at)) out k.2) p.asks.held;
       };
       served = λ (s : ℕ) (i : s < at + 1). elim (cases_eq s at) [
         | inl e ↦ subst (IsServed w (Sent (asked_of number out) ∷ ms) step) (sym e) (served_some w run ms at number step out p.asks.stands.key_is k.2)

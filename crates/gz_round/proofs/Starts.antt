@@ -1,5 +1,5 @@
 -- A call that begins stands for nothing having happened.
-use Rattle.std.proofs.Common.{◌≡◌, ℕ, ◌<◌, false, List, [], length, Option, Some, None, refl, sym, ap, ◌∙◌}
+use Rattle.std.proofs.Common.{◌≡◌, ℕ, ◌<◌, false, List, [], length, Option, Some, None, refl, sym, ap, ◌∙◌, arith}
 use Rattle.std.specs.List.{slice_get}
 use Rattle.std.proofs.lemmas.Option.{none-some}
 use Rattle.gz_core.specs.Names.{Name}
@@ -10,16 +10,16 @@ use Rattle.gz_core.specs.declared.calls.Call.{Call}
 use Rattle.gz_core.specs.declared.calls.Phase.TheVariants.{Look as LookPhase}
 use Rattle.gz_core.specs.declared.configuration.Config.{Config}
 use Rattle.gz_round.specs.declared.run.Mark.{Mark}
-use Rattle.gz_round.specs.declared.run.Run.{Run}
 use Rattle.gz_round.specs.declared.run.Stage.TheVariants.{Look}
 use Rattle.gz_round.specs.History.{Asked, Caller, Tale}
+use Rattle.gz_round.specs.Rounds.{top_rounds}
 use Rattle.gz_round.specs.Following.{Ready}
 use Rattle.gz_round.specs.Starting.{fresh_mark}
 
-pub start_ready : (c : Config) (w : Caller) (past : List Tale) (name : Name) (call : Call) (key : List ℕ) (own : Option Value) (rows : List (Option RowAt)) (marks : List Mark) → w.name ≡ name → w.call ≡ call → key ≡ key_of call → own ≡ own_value name call →
+pub start_ready : (c : Config) (w : Caller) (past : List Tale) (name : Name) (call : Call) (key : List ℕ) (own : Option Value) (rows : List (Option RowAt)) (marks : List Mark) (round : ℕ) → w.name ≡ name → w.call ≡ call → top_rounds past ≡ round → key ≡ key_of call → own ≡ own_value name call →
     length rows ≡ c.n → ((s : ℕ) → s < c.n → slice_get rows s ≡ Some None) → length marks ≡ c.n → ((s : ℕ) → s < c.n → slice_get marks s ≡ Some fresh_mark) →
-    Ready c w past (record { name = name; key = key; own = own; rows = rows; marks = marks; met = 0; voted = false; wrote = LookPhase; stage = Look }) []
-start_ready c w past name call key own rows marks name_is call_is key_is own_is rows_len rows_none marks_len marks_fresh = record {
+    Ready c w past (record { name = name; key = key; own = own; rows = rows; marks = marks; met = 0; voted = false; wrote = LookPhase; round = round; stage = Look }) []
+start_ready c w past name call key own rows marks round name_is call_is round_is key_is own_is rows_len rows_none marks_len marks_fresh = record {
   stands = record {
     name_is = sym name_is;
     key_is = key_is ∙ ap key_of (sym call_is);
@@ -28,8 +28,9 @@ start_ready c w past name call key own rows marks name_is call_is key_is own_is 
     met_is = refl;
     voted_is = refl;
     wrote_is = refl;
+    round_is = omega (arith, round_is);
     sites = λ (s : ℕ). record { inside = λ (a : Asked) (e : None ≡ Some a). absurd (none-some a e); answered = refl };
     allowed = tt;
   };
-  stage = refl;
+  stage = (refl, refl);
 }

@@ -1,14 +1,14 @@
 -- What an event comes to: the call runs on, or its answer has its cause.
-use Rattle.std.proofs.Common.{◌≡◌, ◌≢◌, ℕ, zero, suc, ◌+◌, ◌<◌, ◌≤◌, Bool, true, false, cond, ◌&&◌, ◌||◌, ◌==◌, List, [], ◌∷◌, ◌++◌, length, Option, Some, None, is_some, option_map, refl, sym, ap, ◌∙◌, subst, inl, inr, ◌⊎◌, arith, leb}
-use Rattle.std.specs.List.{slice_get, list_any}
-use Rattle.std.proofs.lemmas.Bool.{cases_Bool, cases_eq, cond-true, cond-false, true≢false, false≢true, both_ways}
+use Rattle.std.proofs.Common.{◌≡◌, ◌≢◌, ℕ, zero, suc, ◌+◌, ◌<◌, ◌≤◌, Bool, true, false, cond, List, [], ◌∷◌, Option, Some, None, is_some, option_map, refl, sym, ap, ◌∙◌, subst, inl, inr, ◌⊎◌, arith}
+use Rattle.std.specs.Prelude.{nat_lt}
+use Rattle.std.specs.List.{list_any}
+use Rattle.std.proofs.lemmas.Bool.{cases_Bool, true≢false, false≢true, both_ways, or_parts, ltb-false}
 use Rattle.std.proofs.lemmas.Option.{same_Some, none-some, slice_get_within}
-use Rattle.gz_core.specs.Names.{Name}
+use Rattle.gz_core.specs.Names.{Name, BallotAt}
 use Rattle.gz_core.specs.Values.{name_of}
 use Rattle.gz_core.specs.Rows.{RowAt}
 use Rattle.gz_core.specs.Calls.{key_of, own_value}
 use Rattle.gz_core.specs.Counts.{count_sites}
-use Rattle.gz_core.specs.Configurations.{IsConfig}
 use Rattle.gz_core.specs.declared.calls.Call.{Call}
 use Rattle.gz_core.specs.declared.calls.Call.TheVariants.{Put, Get}
 use Rattle.gz_core.specs.declared.calls.Answer.{Answer}
@@ -19,37 +19,37 @@ use Rattle.gz_core.specs.declared.calls.Phase.{Phase}
 use Rattle.gz_core.specs.declared.values.Value.{Value}
 use Rattle.gz_core.specs.declared.configuration.Config.{Config}
 use Rattle.gz_core.specs.declared.requests.RowStep.{RowStep}
-use Rattle.gz_core.specs.declared.requests.RowStep.TheVariants.{FastVote, Decide}
-use Rattle.gz_core.specs.declared.requests.Op.{Op}
-use Rattle.gz_core.specs.declared.requests.Op.TheVariants.{ReadRow, WriteRow}
+use Rattle.gz_core.specs.declared.requests.RowStep.TheVariants.{FastVote, Promise, ClassicVote, Decide}
+use Rattle.gz_core.specs.declared.requests.Op.TheVariants.{WriteRow}
 use Rattle.gz_core.specs.declared.requests.Out.{Out}
 use Rattle.gz_accept.specs.declared.answers.Step.TheVariants.{Done}
-use Rattle.gz_accept.specs.Steps.{fast_answer, decide_answer, decided}
-use Rattle.gz_pick.specs.Looks.{row_top, highest_of}
+use Rattle.gz_accept.specs.Steps.{decided}
+use Rattle.gz_pick.specs.Looks.{highest_of}
 use Rattle.gz_pick.specs.Evidences.{IsEvident}
 use Rattle.gz_round.specs.declared.hearing.Seen.{Seen}
 use Rattle.gz_round.specs.declared.run.Mark.{Mark}
 use Rattle.gz_round.specs.declared.run.Run.{Run}
 use Rattle.gz_round.specs.declared.run.Stage.{Stage}
-use Rattle.gz_round.specs.declared.run.Stage.TheVariants.{Look, Fast}
+use Rattle.gz_round.specs.declared.run.Stage.TheVariants.{Look, Fast, Prepare, Accept}
 use Rattle.gz_round.specs.History.{Asked, Moment, Sent, Caller, Tale, asked_of, sent_from}
-use Rattle.gz_round.specs.Sites.{SiteNow, site_now, known, WasHeard}
-use Rattle.gz_round.specs.Sent.{met, voted, phase_of}
+use Rattle.gz_round.specs.Sites.{site_now, known}
+use Rattle.gz_round.specs.Sent.{met}
 use Rattle.gz_round.specs.Shown.{heard_at, IsShown, IsCurrent}
-use Rattle.gz_round.specs.Sending.{AreAllowed, MayFastVote, MayMake, MayRead}
+use Rattle.gz_round.specs.Rounds.{promises_above, above_known}
+use Rattle.gz_round.specs.Sending.{MayMake, NoneAbove, answer_of}
 use Rattle.gz_round.specs.Counting.{outs, known_count, IsGoing, IsNoticed, HasNotice}
-use Rattle.gz_round.specs.Causes.{HasCause, IsCutOff, IsOvertaken, UnsureCause, IsAbsent, IsLearnt, IsValueHeard, IsChosenOwn, IsUnsettled, IsHighest, rows_known, is_blank}
+use Rattle.gz_round.specs.Causes.{HasCause, IsCutOff, IsOvertaken, UnsureCause, IsValueHeard, IsHighest, rows_known, is_blank}
 use Rattle.gz_round.specs.Asking.{IsLeftBy, is_notice}
-use Rattle.gz_round.specs.Standing.{Knows, Stands, StageStands, AreAskedAgain, IsWaiting, Runs, mark_of, awaited_of}
-use Rattle.gz_round.specs.Following.{Asks, MayMakeOf, AreServed, IsServed, IsSettledBy, NoEvidence, IsUnmet, Ready, Turned}
-use Rattle.gz_round.specs.Acting.{IsPlain, Acts, Finishes, vote_for, notice_for, stage_step, step_in, working_version, version_in, outcome_of}
+use Rattle.gz_round.specs.Standing.{Knows, Stands, StageStands, ArePassed, AreAskedAgain, IsWaiting, mark_of, awaited_of}
+use Rattle.gz_round.specs.Following.{Asks, MayMakeOf, AreServed, IsSettledBy, NoEvidence, IsUnmet, HeldOf, Turned, HasTurned}
+use Rattle.gz_round.specs.Acting.{IsPlain, Steps, RunsOut, Finishes, IsFewIn, IsShortIn, IsAheadIn, is_overtaken_in, is_waiting, vote_for, notice_for, stage_step, step_in, working_version, version_in}
 use Rattle.gz_round.proofs.Lists.{count_same, any_found, any_told}
 use Rattle.gz_round.proofs.Known.{evident_same, last_known, known_last, listed_known}
 use Rattle.gz_round.proofs.Columns.{top_highest, highest_reached}
 use Rattle.gz_round.proofs.Sends.{known_after_sent, out_after_sent}
 
 -- what one request more leaves holds after all requests of an event
-over_sent : (P : List Moment → Type 0) → ((a : Asked) (ms : List Moment) → P ms → P (Sent a ∷ ms)) → (first : ℕ) (outs : List Out) (ms : List Moment) → P ms → P (sent_from first outs ms)
+pub over_sent : (P : List Moment → Type 0) → ((a : Asked) (ms : List Moment) → P ms → P (Sent a ∷ ms)) → (first : ℕ) (outs : List Out) (ms : List Moment) → P ms → P (sent_from first outs ms)
 over_sent P step first [] ms h = h
 over_sent P step first (o ∷ os) ms h = over_sent P step (first + 1) os (Sent (asked_of first o) ∷ ms) (step (asked_of first o) ms h)
 
@@ -89,6 +89,19 @@ going_sent c first sent ms h =
     let enough : outs c ms + c.qc ≤ c.n = h.enough in
     record { few = omega arith; enough = omega arith }
 
+-- and what holds after them held before
+pub going_back : (c : Config) (first : ℕ) (sent : List Out) (ms : List Moment) → IsGoing c (sent_from first sent ms) → IsGoing c ms
+going_back c first sent ms h =
+    let same_met : met ms ≡ met (sent_from first sent ms) = met_sent first sent ms in
+    let same_outs : outs c ms ≡ outs c (sent_from first sent ms) = outs_sent c first sent ms in
+    let few : met (sent_from first sent ms) < c.tries = h.few in
+    let enough : outs c (sent_from first sent ms) + c.qc ≤ c.n = h.enough in
+    record { few = omega arith; enough = omega arith }
+
+pub evidence_back : (c : Config) (v : ℕ) (first : ℕ) (sent : List Out) (ms : List Moment) → NoEvidence c (sent_from first sent ms) v → NoEvidence c ms v
+evidence_back c v first sent ms = over_sent (λ ns. NoEvidence c ns v → NoEvidence c ms v) (λ (a : Asked) (ns : List Moment) (k : NoEvidence c ns v → NoEvidence c ms v) (none : NoEvidence c (Sent a ∷ ns) v).
+    k (λ (x : Name) (e : IsEvident c.n c.qc c.qf (rows_known ns) v x). none x (evident_same c (rows_known ns) (rows_known (Sent a ∷ ns)) v x (λ (s : ℕ) (l : s < c.n). known_after_sent a ns s) e))) first sent ms (λ none. none)
+
 cut_sent : (c : Config) (w : Caller) (past : List Tale) (run new : Run) (ms ns : List Moment) (phase : Phase) (heard : ℕ) → Stands c w past run ms → Stands c w past new ns → new.wrote ≡ run.wrote → met ms ≡ met ns → outs c ms ≡ outs c ns → known_count c ms ≡ known_count c ns → IsCutOff c ms phase heard → IsCutOff c ns phase heard
 cut_sent c w past run new ms ns phase heard h k wrote same_met same_outs same_known cut =
     let few = cut.few in
@@ -122,7 +135,7 @@ plain_sent c w past run new first sent ms (Unsettled v) h k voted_same wrote_sam
 pub close_turned : (c : Config) (w : Caller) (past : List Tale) (run new : Run) (ms : List Moment) (first : ℕ) (sent : List Out) (answer : Answer) → Stands c w past run ms → HasCause c w ms answer × IsPlain answer →
     Asks c w past new (sent_from first sent ms) None → IsLeftBy run new None → Turned c w past new (sent_from first sent ms) (Some answer)
 close_turned c w past run new ms first sent answer h cause asks left =
-    (asks.stands.allowed, plain_sent c w past run new first sent ms answer h asks.stands (left.voted refl) (left.wrote refl) cause.0 cause.1)
+    (asks.stands.allowed, plain_sent c w past run new first sent ms answer h asks.stands (left.voted refl) (left.wrote refl) cause.0 cause.1, asks.stands.round_is)
 
 -- a call's value is under its own name
 pub own_name : (name : Name) (call : Call) (x : Value) → own_value name call ≡ Some x → name_of x ≡ name
@@ -150,24 +163,47 @@ finish_turned c w past run new ms first sent v step f is asked =
     let own : own_value w.name w.call ≡ Some x = f.own.1 in
     let step_is : step ≡ Some (Decide v x) = is ∙ ap (notice_for v) (f.stands.own_is ∙ own) in
     let shown : IsShown c ms v (name_of x) = subst (λ (n : Name). IsShown c ms v n) (sym (own_name w.name w.call x own)) f.shown in
-    let done = asked (record { stands = f.stands; may = subst (MayMakeOf c w past ms) (sym step_is) (shown, inl own) }) in
+    let done = asked (record { stands = f.stands; may = subst (MayMakeOf c w past ms) (sym step_is) (shown, inl own); held = subst (HeldOf c w past ms) (sym step_is) tt }) in
     let served : AreServed c w (sent_from first sent ms) (Some (Decide v x)) = subst (AreServed c w (sent_from first sent ms)) step_is done.1 in
-    (done.0.stands.allowed, (going_sent c first sent ms f.going, (x, own, shown_sent c v w.name first sent ms f.shown), noticed_from c w past new (sent_from first sent ms) v x done.0.stands own served))
+    (done.0.stands.allowed, (going_sent c first sent ms f.going, (x, own, shown_sent c v w.name first sent ms f.shown), noticed_from c w past new (sent_from first sent ms) v x done.0.stands own served), done.0.stands.round_is)
+
+-- no known row promises a ballot above
+pub none_above_listed : (c : Config) (run : Run) (ms : List Moment) (v : ℕ) (b : BallotAt) → Knows c run ms → list_any (above_known v b) run.rows ≡ false → NoneAbove c ms v b
+none_above_listed c run ms v b k none s row l e =
+    elim (cases_Bool (promises_above row v b)) [
+      | inl above ↦ absurd (both_ways (list_any (above_known v b) run.rows) none (any_told (above_known v b) run.rows s (Some row) (k.rows s l ∙ ap (λ o. Some o) e) above))
+      | inr above ↦ above
+    ]
+
+-- and so none was passed
+pub none_passed : (c : Config) (ms : List Moment) (v : ℕ) (b : BallotAt) → NoneAbove c ms v b → ArePassed c ms v b
+none_passed c ms v b none s row l e above = absurd (both_ways (promises_above row v b) (none s row l e) above)
 
 -- the step of a phase may be made
-pub stage_may : (c : Config) (w : Caller) (past : List Tale) (run : Run) (ms : List Moment) (stage : Stage) → Stands c w past run ms → StageStands c w stage ms → MayMakeOf c w past ms (step_in stage run.own)
+pub stage_may : (c : Config) (w : Caller) (past : List Tale) (run : Run) (ms : List Moment) (stage : Stage) → Stands c w past run ms → StageStands c w past stage ms → MayMakeOf c w past ms (step_in stage run.own)
 stage_may c w past run ms Look h s = tt
 stage_may c w past run ms (Fast v) h s = subst (λ o. MayMakeOf c w past ms (vote_for v o)) (sym (h.own_is ∙ s.1.1)) (s.1.1, s.0)
+stage_may c w past run ms (Prepare v b) h s = s.0.works.promise
+stage_may c w past run ms (Accept v b x) h s = s.0
+
+-- the phase holds what is kept while the step is made
+pub stage_held : (c : Config) (w : Caller) (past : List Tale) (run : Run) (ms : List Moment) (stage : Stage) → Stands c w past run ms → StageStands c w past stage ms → IsAheadIn run.rows stage → HeldOf c w past ms (step_in stage run.own)
+stage_held c w past run ms Look h s ahead = tt
+stage_held c w past run ms (Fast v) h s ahead = subst (λ o. HeldOf c w past ms (vote_for v o)) (sym (h.own_is ∙ s.1.1)) s.2
+stage_held c w past run ms (Prepare v b) h s ahead = (s.0, none_above_listed c run ms v b h.knows ahead)
+stage_held c w past run ms (Accept v b x) h s ahead = (s.1, none_above_listed c run ms v b h.knows ahead)
 
 -- and once it was made at the sites the phase goes on to stand
-pub stage_kept : (c : Config) (w : Caller) (past : List Tale) (run new : Run) (ms ns : List Moment) (stage : Stage) → Stands c w past run ms → Stands c w past new ns → IsLeftBy run new (step_in stage run.own) → StageStands c w stage ms → MayMakeOf c w past ns (step_in stage run.own) → StageStands c w stage ns
-stage_kept c w past run new ms ns Look h k left s may = sym k.voted_is ∙ (left.voted refl ∙ (h.voted_is ∙ s))
-stage_kept c w past run new ms ns (Fast v) h k left s may =
+pub stage_kept : (c : Config) (w : Caller) (past : List Tale) (run new : Run) (ms ns : List Moment) (stage : Stage) → Stands c w past run ms → Stands c w past new ns → IsLeftBy run new (step_in stage run.own) → StageStands c w past stage ms → MayMakeOf c w past ns (step_in stage run.own) → HeldOf c w past ns (step_in stage run.own) → StageStands c w past stage ns
+stage_kept c w past run new ms ns Look h k left s may held = (sym k.voted_is ∙ (left.voted refl ∙ (h.voted_is ∙ s.0)), sym k.wrote_is ∙ (left.wrote refl ∙ (h.wrote_is ∙ s.1)))
+stage_kept c w past run new ms ns (Fast v) h k left s may held =
     let made : MayMake c w past ns (FastVote v s.1.0) = subst (λ o. MayMakeOf c w past ns (vote_for v o)) (h.own_is ∙ s.1.1) may in
-    (made.1, s.1)
+    (made.1, s.1, subst (λ o. HeldOf c w past ns (vote_for v o)) (h.own_is ∙ s.1.1) held)
+stage_kept c w past run new ms ns (Prepare v b) h k left s may held = (held.0, none_passed c ns v b held.1)
+stage_kept c w past run new ms ns (Accept v b x) h k left s may held = (may, held.0, none_passed c ns v b held.1)
 
 -- each site that was served was asked again
-again_from : (c : Config) (w : Caller) (ms : List Moment) (step : Option RowStep) → AreServed c w ms step → AreAskedAgain c ms
+pub again_from : (c : Config) (w : Caller) (ms : List Moment) (step : Option RowStep) → AreServed c w ms step → AreAskedAgain c ms
 again_from c w ms step served s l may idle =
     elim (cases_Bool (site_now ms s).out) [
       | inl e ↦ e
@@ -178,7 +214,7 @@ awaits_some : (o : Option Asked) → is_some (option_map awaited_of o) ≡ true 
 awaits_some None h = absurd (false≢true h)
 awaits_some (Some a) h = (a, refl)
 
-waits_from : (c : Config) (run : Run) (ms : List Moment) → Knows c run ms → list_any (λ mark. is_some mark.awaited) run.marks ≡ true → IsWaiting c ms
+pub waits_from : (c : Config) (run : Run) (ms : List Moment) → Knows c run ms → list_any (λ mark. is_some mark.awaited) run.marks ≡ true → IsWaiting c ms
 waits_from c run ms k h =
     let w = any_found (λ mark. is_some mark.awaited) run.marks h in
     let inside : w.0 < c.n = let len = k.marks_len in omega (arith, slice_get_within run.marks w.0 w.1 w.2) in
@@ -186,7 +222,7 @@ waits_from c run ms k h =
     let some = awaits_some (site_now ms w.0).awaits (subst (λ (m : Mark). is_some m.awaited ≡ true) same w.3) in
     (w.0, some.0, inside, some.1)
 
-idle_of : (c : Config) (run : Run) (ms : List Moment) (s : ℕ) (o : Option Asked) → Knows c run ms → list_any (λ mark. is_some mark.awaited) run.marks ≡ false → s < c.n → (site_now ms s).awaits ≡ o → o ≡ None
+pub idle_of : (c : Config) (run : Run) (ms : List Moment) (s : ℕ) (o : Option Asked) → Knows c run ms → list_any (λ mark. is_some mark.awaited) run.marks ≡ false → s < c.n → (site_now ms s).awaits ≡ o → o ≡ None
 idle_of c run ms s None k h l e = refl
 idle_of c run ms s (Some a) k h l e =
     absurd (both_ways (list_any (λ mark. is_some mark.awaited) run.marks) h (any_told (λ mark. is_some mark.awaited) run.marks s (mark_of (site_now ms s)) (k.marks s l) (ap (λ (p : Option Asked). is_some (option_map awaited_of p)) e)))
@@ -204,16 +240,16 @@ count_cover zero p q h = omega arith
 count_cover (suc n) p q h = cover_step (p n) (q n) n (count_sites n p) (count_sites n q) (h n (omega arith)) (count_cover n p q (λ (s : ℕ) (l : s < n). h s (omega arith)))
 
 -- where nothing is awaited after a pass, each site that isn't out is known
-heard_from : (c : Config) (w : Caller) (ms : List Moment) (step : Option RowStep) → AreServed c w ms step → ((s : ℕ) → s < c.n → (site_now ms s).awaits ≡ None) → (s : ℕ) → s < c.n → (site_now ms s).out ≡ false → (row : RowAt) × (rows_known ms s ≡ Some row)
+pub heard_from : (c : Config) (w : Caller) (ms : List Moment) (step : Option RowStep) → AreServed c w ms step → ((s : ℕ) → s < c.n → (site_now ms s).awaits ≡ None) → (s : ℕ) → s < c.n → (site_now ms s).out ≡ false → (row : RowAt) × (rows_known ms s ≡ Some row)
 heard_from c w ms step served idle s l kept = let k = served s l (idle s l) kept in (k.0.row, last_known (site_now ms s) k.0 k.1 kept)
 
 -- and so a classic quorum of sites is known
-quorum_known : (c : Config) (ms : List Moment) → ((s : ℕ) → s < c.n → (site_now ms s).out ≡ false → (row : RowAt) × (rows_known ms s ≡ Some row)) → outs c ms + c.qc ≤ c.n → c.qc ≤ known_count c ms
+pub quorum_known : (c : Config) (ms : List Moment) → ((s : ℕ) → s < c.n → (site_now ms s).out ≡ false → (row : RowAt) × (rows_known ms s ≡ Some row)) → outs c ms + c.qc ≤ c.n → c.qc ≤ known_count c ms
 quorum_known c ms heard enough =
     let cover : c.n ≤ outs c ms + known_count c ms = count_cover c.n (λ s. (site_now ms s).out) (λ s. is_some (known (site_now ms s))) (λ (s : ℕ) (l : s < c.n). elim (cases_Bool (site_now ms s).out) [ inl e ↦ inl e | inr e ↦ inr (ap (λ o. is_some o) (heard s l e).1) ]) in
     omega arith
 
-highest_is : (c : Config) (run : Run) (ms : List Moment) → Knows c run ms → IsHighest c ms (highest_of run.rows)
+pub highest_is : (c : Config) (run : Run) (ms : List Moment) → Knows c run ms → IsHighest c ms (highest_of run.rows)
 highest_is c run ms k = record {
   none_above = λ (s : ℕ) (row : RowAt) (l : s < c.n) (e : rows_known ms s ≡ Some row). top_highest run.rows s row (k.rows s l ∙ ap (λ o. Some o) e);
   reached = elim (highest_reached run.rows) [
@@ -224,45 +260,90 @@ highest_is c run ms k = record {
   ];
 }
 
-unmet_none : (c : Config) (run : Run) (ms ns : List Moment) (stage : Stage) (first : ℕ) (sent : List Out) → c.qc ≤ known_count c (sent_from first sent ms) → IsUnmet c run stage ms → NoEvidence c (sent_from first sent ms) (version_in stage (highest_of run.rows))
-unmet_none c run ms ns Look first sent enough (inl few) = let same = known_sent c first sent ms in absurd (omega arith)
-unmet_none c run ms ns Look first sent enough (inr none) = evidence_sent c (highest_of run.rows) first sent ms none
-unmet_none c run ms ns (Fast v) first sent enough none = evidence_sent c v first sent ms none
+-- a phase that goes on has a version to work at, where no value is known to be chosen
+unmet_out : (c : Config) (w : Caller) (past : List Tale) (run : Run) (ms : List Moment) (stage : Stage) (first : ℕ) (sent : List Out) → c.qc ≤ known_count c (sent_from first sent ms) → StageStands c w past stage ms → IsUnmet c run stage ms → (1 ≤ version_in stage (highest_of run.rows)) × NoEvidence c (sent_from first sent ms) (version_in stage (highest_of run.rows))
+unmet_out c w past run ms Look first sent enough s (inl few) = let same = known_sent c first sent ms in absurd (omega arith)
+unmet_out c w past run ms Look first sent enough s (inr none) = (none.0, evidence_sent c (highest_of run.rows) first sent ms none.1)
+unmet_out c w past run ms (Fast v) first sent enough s none = (s.0.above, evidence_sent c v first sent ms none)
+unmet_out c w past run ms (Prepare v b) first sent enough s none = (s.0.works.pass.above, evidence_sent c v first sent ms none)
+unmet_out c w past run ms (Accept v b x) first sent enough s none = (s.1.pass.above, evidence_sent c v first sent ms none)
 
-stuck_from : (c : Config) (w : Caller) (past : List Tale) (run : Run) (ms : List Moment) (stage : Stage) (own : Option Value) → Stands c w past run ms → StageStands c w stage ms → own ≡ own_value w.name w.call → AreServed c w ms (step_in stage own) → ((s : ℕ) → s < c.n → (site_now ms s).awaits ≡ None) →
-    ((voted w.name ms ≡ false) × IsHighest c ms (version_in stage (highest_of run.rows))) ⊎ ((s : ℕ) (row : RowAt) → s < c.n → rows_known ms s ≡ Some row → fast_answer row (version_in stage (highest_of run.rows)) ≢ Done)
-stuck_from c w past run ms Look own h s is served idle = inl (s, highest_is c run ms h.knows)
-stuck_from c w past run ms (Fast v) own h s is served idle = inr (λ (site : ℕ) (row : RowAt) (l : site < c.n) (e : rows_known ms site ≡ Some row) (done : fast_answer row v ≡ Done).
-    let last = known_last (site_now ms site) row e in
-    let k = served site l (idle site l) last.3 in
+-- the step of a phase is no notice
+stage_plain : (stage : Stage) (own : Option Value) (step : RowStep) → step_in stage own ≡ Some step → is_notice step ≡ false
+stage_plain Look own step e = absurd (none-some step e)
+stage_plain (Fast v) None step e = absurd (none-some step e)
+stage_plain (Fast v) (Some x) step e = sym (ap is_notice (same_Some (FastVote v x) step e))
+stage_plain (Prepare v b) own step e = sym (ap is_notice (same_Some (Promise v b) step e))
+stage_plain (Accept v b x) own step e = sym (ap is_notice (same_Some (ClassicVote v b x) step e))
+
+-- where nothing is awaited after a pass, no known row takes the step
+pub untaken_from : (c : Config) (w : Caller) (ms : List Moment) (step : RowStep) → is_notice step ≡ false → AreServed c w ms (Some step) → ((s : ℕ) → s < c.n → (site_now ms s).awaits ≡ None) → (s : ℕ) (row : RowAt) → s < c.n → rows_known ms s ≡ Some row → answer_of step row ≢ Done
+untaken_from c w ms step plain served idle s row l e done =
+    let last = known_last (site_now ms s) row e in
+    let k = served s l (idle s l) last.3 in
     let same : k.0.row ≡ row = ap (λ (z : Seen). z.row) (same_Some k.0 last.0 (sym k.1 ∙ last.1)) ∙ last.2 in
-    let settled : IsSettledBy w ms site k.0 (Some (FastVote v s.1.0)) = subst (λ o. IsSettledBy w ms site k.0 (vote_for v o)) (is ∙ s.1.1) k.3 in
-    absurd (false≢true (settled (ap (λ r. fast_answer r v) same ∙ done)).0))
+    both_ways (is_notice step) plain (k.3 (ap (answer_of step) same ∙ done)).0
 
-unsettled_from : (c : Config) (w : Caller) (past : List Tale) (run new : Run) (ms : List Moment) (first : ℕ) (sent : List Out) (step : Option RowStep) → Acts c w past run ms → step ≡ stage_step run → IsLeftBy run new step →
-    Stands c w past new (sent_from first sent ms) → StageStands c w run.stage (sent_from first sent ms) → AreServed c w (sent_from first sent ms) step → IsGoing c (sent_from first sent ms) → ((s : ℕ) → s < c.n → (site_now (sent_from first sent ms) s).awaits ≡ None) →
-    IsUnsettled c w (sent_from first sent ms) (working_version new)
-unsettled_from c w past run new ms first sent step a is left k stage served going idle =
-    let heard = heard_from c w (sent_from first sent ms) step served idle in
-    let enough : c.qc ≤ known_count c (sent_from first sent ms) = quorum_known c (sent_from first sent ms) heard going.enough in
-    let version : version_in run.stage (highest_of run.rows) ≡ working_version new = ap (version_in run.stage) (ap highest_of (sym left.rows)) ∙ ap (λ st. version_in st (highest_of new.rows)) (sym left.stage) in
-    let none : NoEvidence c (sent_from first sent ms) (working_version new) = subst (NoEvidence c (sent_from first sent ms)) version (unmet_none c run ms ms run.stage first sent enough a.unmet) in
-    let served_stage : AreServed c w (sent_from first sent ms) (step_in run.stage new.own) = subst (AreServed c w (sent_from first sent ms)) (is ∙ ap (step_in run.stage) (sym left.own)) served in
-    let stuck = stuck_from c w past new (sent_from first sent ms) run.stage new.own k stage k.own_is served_stage idle in
-    record { idle = idle; heard = heard; undecided = none; stuck = subst (λ st. ((voted w.name (sent_from first sent ms) ≡ false) × IsHighest c (sent_from first sent ms) (version_in st (highest_of new.rows))) ⊎ ((s : ℕ) (row : RowAt) → s < c.n → rows_known (sent_from first sent ms) s ≡ Some row → fast_answer row (version_in st (highest_of new.rows)) ≢ Done)) (sym left.stage) stuck }
+short_from : (c : Config) (run : Run) (stage : Stage) → IsFewIn c run stage → is_overtaken_in run stage ≡ false → IsShortIn c run.rows stage
+short_from c run Look few ahead = tt
+short_from c run (Fast v) few ahead = tt
+short_from c run (Prepare v b) (inl l) ahead = let far = ltb-false run.round b.round (or_parts (nat_lt run.round b.round) (list_any (above_known v b) run.rows) ahead).0 in absurd (omega arith)
+short_from c run (Prepare v b) (inr l) ahead = l
+short_from c run (Accept v b x) few ahead = tt
 
--- the phase goes on, or has ended without its goal
-pub go_on_turned : (c : Config) (w : Caller) (past : List Tale) (run new : Run) (ms : List Moment) (first : ℕ) (sent : List Out) (step : Option RowStep) → Acts c w past run ms → step ≡ stage_step run →
-    (Asks c w past run ms step → Asks c w past new (sent_from first sent ms) step × AreServed c w (sent_from first sent ms) step) → IsLeftBy run new step → Turned c w past new (sent_from first sent ms) (outcome_of new)
-go_on_turned c w past run new ms first sent step a is asked left =
+pub ahead_from : (run : Run) (stage : Stage) → is_overtaken_in run stage ≡ false → IsAheadIn run.rows stage
+ahead_from run Look e = tt
+ahead_from run (Fast v) e = tt
+ahead_from run (Prepare v b) e = (or_parts (nat_lt run.round b.round) (list_any (above_known v b) run.rows) e).1
+ahead_from run (Accept v b x) e = e
+
+-- after the step was made at each site that takes it
+pub record Stepped (c : Config) (w : Caller) (past : List Tale) (new : Run) (ms : List Moment) (step : Option RowStep) : Type 0 where
+  pub stands : Stands c w past new ms
+  pub stage : StageStands c w past new.stage ms
+  pub going : IsGoing c ms
+  pub served : AreServed c w ms step
+
+pub steps_ask : (c : Config) (w : Caller) (past : List Tale) (run : Run) (ms : List Moment) (step : Option RowStep) → Steps c w past run ms → step ≡ stage_step run → Asks c w past run ms step
+steps_ask c w past run ms step p is =
+    let a = p.carries.acts in
     let h : Stands c w past run ms = a.ready.stands in
-    let done = asked (record { stands = h; may = subst (MayMakeOf c w past ms) (sym is) (stage_may c w past run ms run.stage h a.ready.stage) }) in
+    record { stands = h; may = subst (MayMakeOf c w past ms) (sym is) (stage_may c w past run ms run.stage h a.ready.stage); held = subst (HeldOf c w past ms) (sym is) (stage_held c w past run ms run.stage h a.ready.stage (ahead_from run run.stage p.ahead)) }
+
+pub stepped_from : (c : Config) (w : Caller) (past : List Tale) (run new : Run) (ms : List Moment) (first : ℕ) (sent : List Out) (step : Option RowStep) → Steps c w past run ms → step ≡ stage_step run →
+    (Asks c w past run ms step → Asks c w past new (sent_from first sent ms) step × AreServed c w (sent_from first sent ms) step) → IsLeftBy run new step → Stepped c w past new (sent_from first sent ms) step
+stepped_from c w past run new ms first sent step p is asked left =
+    let a = p.carries.acts in
+    let h : Stands c w past run ms = a.ready.stands in
+    let done = asked (steps_ask c w past run ms step p is) in
     let k : Stands c w past new (sent_from first sent ms) = done.0.stands in
-    let going : IsGoing c (sent_from first sent ms) = going_sent c first sent ms a.going in
-    let stage : StageStands c w run.stage (sent_from first sent ms) = stage_kept c w past run new ms (sent_from first sent ms) run.stage h k (subst (IsLeftBy run new) is left) a.ready.stage (subst (MayMakeOf c w past (sent_from first sent ms)) is done.0.may) in
-    elim (cases_Bool (list_any (λ mark. is_some mark.awaited) new.marks)) [
-      | inl e ↦ subst (Turned c w past new (sent_from first sent ms)) (sym (cond-true (list_any (λ mark. is_some mark.awaited) new.marks) None (Some (Unsettled (working_version new))) e))
-          (record { stands = k; stage = subst (λ st. StageStands c w st (sent_from first sent ms)) (sym left.stage) stage; again = again_from c w (sent_from first sent ms) step done.1; going = going; waits = waits_from c new (sent_from first sent ms) k.knows e })
-      | inr e ↦ subst (Turned c w past new (sent_from first sent ms)) (sym (cond-false (list_any (λ mark. is_some mark.awaited) new.marks) None (Some (Unsettled (working_version new))) e))
-          (k.allowed, (going, unsettled_from c w past run new ms first sent step a is left k stage done.1 going (λ (s : ℕ) (l : s < c.n). idle_of c new (sent_from first sent ms) s (site_now (sent_from first sent ms) s).awaits k.knows e l refl)))
-    ]
+    let stage : StageStands c w past run.stage (sent_from first sent ms) = stage_kept c w past run new ms (sent_from first sent ms) run.stage h k (subst (IsLeftBy run new) is left) a.ready.stage (subst (MayMakeOf c w past (sent_from first sent ms)) is done.0.may) (subst (HeldOf c w past (sent_from first sent ms)) is done.0.held) in
+    record { stands = k; stage = subst (λ st. StageStands c w past st (sent_from first sent ms)) (sym left.stage) stage; going = going_sent c first sent ms a.going; served = done.1 }
+
+-- a request is awaited, and the call runs on
+pub stepped_runs : (c : Config) (w : Caller) (past : List Tale) (new : Run) (ms : List Moment) (step : Option RowStep) → Stepped c w past new ms step → is_waiting new ≡ true → HasTurned c w past new ms None
+stepped_runs c w past new ms step p e = ([], inl refl, record { stands = p.stands; stage = p.stage; again = again_from c w ms step p.served; going = p.going; waits = waits_from c new ms p.stands.knows e })
+
+-- nothing is awaited, and the phase has ended without its goal
+pub stepped_out : (c : Config) (w : Caller) (past : List Tale) (run new : Run) (ms : List Moment) (first : ℕ) (sent : List Out) (step : Option RowStep) → Steps c w past run ms → step ≡ stage_step run → IsLeftBy run new step → Stepped c w past new (sent_from first sent ms) step → is_waiting new ≡ false → RunsOut c w past new (sent_from first sent ms)
+stepped_out c w past run new ms first sent step p is left q e =
+    let ns = sent_from first sent ms in
+    let a = p.carries.acts in
+    let idle : (s : ℕ) → s < c.n → (site_now (sent_from first sent ms) s).awaits ≡ None = λ (s : ℕ) (l : s < c.n). idle_of c new (sent_from first sent ms) s (site_now (sent_from first sent ms) s).awaits q.stands.knows e l refl in
+    let heard = heard_from c w (sent_from first sent ms) step q.served idle in
+    let enough : c.qc ≤ known_count c (sent_from first sent ms) = quorum_known c (sent_from first sent ms) heard q.going.enough in
+    let out = unmet_out c w past run ms run.stage first sent enough a.ready.stage a.unmet in
+    let version : version_in run.stage (highest_of run.rows) ≡ working_version new = ap (version_in run.stage) (ap highest_of (sym left.rows)) ∙ ap (λ st. version_in st (highest_of new.rows)) (sym left.stage) in
+    let steps : step ≡ stage_step new = is ∙ (ap (step_in run.stage) (sym left.own) ∙ ap (λ st. step_in st new.own) (sym left.stage)) in
+    record {
+      stands = q.stands;
+      stage = q.stage;
+      going = q.going;
+      short = subst (λ st. IsShortIn c new.rows st) (sym left.stage) (subst (λ rows. IsShortIn c rows run.stage) (sym left.rows) (short_from c run run.stage p.carries.few p.ahead));
+      ahead = subst (λ st. IsAheadIn new.rows st) (sym left.stage) (subst (λ rows. IsAheadIn rows run.stage) (sym left.rows) (ahead_from run run.stage p.ahead));
+      above = subst (λ (n : ℕ). 1 ≤ n) version out.0;
+      none = subst (NoEvidence c (sent_from first sent ms)) version out.1;
+      idle = idle;
+      heard = heard;
+      untaken = λ (made : RowStep) (k : stage_step new ≡ Some made). untaken_from c w (sent_from first sent ms) made (stage_plain new.stage new.own made k) (subst (AreServed c w (sent_from first sent ms)) (steps ∙ k) q.served) idle;
+    }

@@ -1,5 +1,6 @@
 -- What a call does at an event, once what came was noted.
-use Rattle.std.specs.Prelude.{ℕ, ◌≡◌, ◌≤◌, Bool, List, if◌then◌else◌, Option, Some, None, is_some, slice_get}
+use Rattle.std.specs.Prelude.{ℕ, ◌≡◌, ◌≢◌, ◌≤◌, ◌<◌, ◌+◌, ◌^◌, ◌⊎◌, ◌||◌, nat_lt, max, Bool, true, false, List, [], ◌∷◌, if◌then◌else◌, Option, Some, None, is_some, slice_get}
+use Rattle.gz_core.specs.Names.{BallotAt, IsClassic}
 use Rattle.gz_core.specs.Calls.{own_value}
 use Rattle.gz_core.specs.Rows.{RowAt}
 use Rattle.gz_core.specs.declared.values.Value.{Value}
@@ -10,16 +11,22 @@ use Rattle.std.specs.List.{count_by, list_any}
 use Rattle.gz_core.specs.declared.calls.UnsureWhy.TheVariants.{NoQuorum as UnsureNoQuorum, Contended as UnsureContended}
 use Rattle.gz_core.specs.declared.configuration.Config.{Config}
 use Rattle.gz_core.specs.declared.requests.RowStep.{RowStep}
-use Rattle.gz_core.specs.declared.requests.RowStep.TheVariants.{FastVote, Promise, ClassicVote, Decide, Trim}
+use Rattle.gz_core.specs.declared.requests.RowStep.TheVariants.{FastVote, Promise, ClassicVote, Decide}
 use Rattle.gz_pick.specs.Looks.{highest_of}
 use Rattle.gz_round.specs.declared.run.Run.{Run}
 use Rattle.gz_round.specs.declared.run.Stage.{Stage}
-use Rattle.gz_round.specs.declared.run.Stage.TheVariants.{Look, Fast}
-use Rattle.gz_round.specs.History.{Moment, Caller, Tale}
-use Rattle.gz_round.specs.Shown.{IsShown}
+use Rattle.gz_round.specs.declared.run.Stage.TheVariants.{Look, Fast, Prepare, Accept}
+use Rattle.gz_core.specs.declared.requests.Out.{Out}
+use Rattle.gz_accept.specs.declared.answers.Step.TheVariants.{Done}
+use Rattle.gz_round.specs.History.{Moment, Caller, Tale, sent_from}
+use Rattle.gz_round.specs.Sites.{site_now}
+use Rattle.gz_round.specs.Sent.{has_promised_at}
+use Rattle.gz_round.specs.Shown.{IsShown, IsGrounded}
+use Rattle.gz_round.specs.Rounds.{passed_since, promises_known, above_known, round_known}
+use Rattle.gz_round.specs.Sending.{NoEvidence, rows_known, answer_of}
 use Rattle.gz_round.specs.Counting.{IsGoing}
 use Rattle.gz_round.specs.Causes.{row_value}
-use Rattle.gz_round.specs.Standing.{Stands}
+use Rattle.gz_round.specs.Standing.{Stands, StageStands, MayPass}
 use Rattle.gz_round.specs.Following.{Ready, IsUnmet}
 
 -- an answer that says nothing of notices, nor of what every site was asked
@@ -32,6 +39,34 @@ IsPlain (Contended m) = Unit {0}
 IsPlain (Unsure why) = Unit {0}
 IsPlain (Unsettled v) = ⊥
 
+abbrev pub vote_for : ℕ → Option Value → Option RowStep
+vote_for v None = None
+vote_for v (Some x) = Some (FastVote v x)
+
+abbrev pub notice_for : ℕ → Option Value → Option RowStep
+notice_for v None = None
+notice_for v (Some x) = Some (Decide v x)
+
+abbrev pub step_in : Stage → Option Value → Option RowStep
+step_in Look own = None
+step_in (Fast v) own = vote_for v own
+step_in (Prepare v b) own = Some (Promise v b)
+step_in (Accept v b x) own = Some (ClassicVote v b x)
+
+-- the step of the phase: none in `Look`, in `Fast` a vote for the call's value, then a promise and a classic vote
+abbrev pub stage_step : Run → Option RowStep
+stage_step run = step_in run.stage run.own
+
+abbrev pub version_in : Stage → ℕ → ℕ
+version_in Look highest = highest
+version_in (Fast v) highest = v
+version_in (Prepare v b) highest = v
+version_in (Accept v b x) highest = v
+
+-- the version that the phase works at
+abbrev pub working_version : Run → ℕ
+working_version run = version_in run.stage (highest_of run.rows)
+
 -- the phase goes on: its goal isn't reached
 pub record Acts (c : Config) (w : Caller) (past : List Tale) (run : Run) (ms : List Moment) : Type 0 where
   pub ready : Ready c w past run ms
@@ -40,6 +75,96 @@ pub record Acts (c : Config) (w : Caller) (past : List Tale) (run : Run) (ms : L
 
 abbrev pub CanAct : Config → Run → Type 0
 CanAct c run = (w : Caller) × (past : List Tale) × (ms : List Moment) × Acts c w past run ms
+
+-- a quorum of known rows doesn't promise the call's ballot yet
+abbrev pub IsFewIn : Config → Run → Stage → Type 0
+IsFewIn c run Look = Unit {0}
+IsFewIn c run (Fast v) = Unit {0}
+IsFewIn c run (Prepare v b) = (run.round < b.round) ⊎ (count_by (promises_known v b) run.rows < c.qc)
+IsFewIn c run (Accept v b x) = Unit {0}
+
+-- nor is there a quorum of promises
+pub record Carries (c : Config) (w : Caller) (past : List Tale) (run : Run) (ms : List Moment) : Type 0 where
+  pub acts : Acts c w past run ms
+  pub few : IsFewIn c run run.stage
+
+abbrev pub CanCarry : Config → Run → Type 0
+CanCarry c run = (w : Caller) × (past : List Tale) × (ms : List Moment) × Carries c w past run ms
+
+-- the ballot of the phase leads no further: a known row promises one above, or the call never promised it
+abbrev pub is_overtaken_in : Run → Stage → Bool
+is_overtaken_in run Look = false
+is_overtaken_in run (Fast v) = false
+is_overtaken_in run (Prepare v b) = nat_lt run.round b.round || list_any (above_known v b) run.rows
+is_overtaken_in run (Accept v b x) = list_any (above_known v b) run.rows
+
+abbrev pub is_overtaken : Run → Bool
+is_overtaken run = is_overtaken_in run run.stage
+
+-- fewer known rows than a quorum promise the ballot that is prepared
+abbrev pub IsShortIn : Config → List (Option RowAt) → Stage → Type 0
+IsShortIn c rows Look = Unit {0}
+IsShortIn c rows (Fast v) = Unit {0}
+IsShortIn c rows (Prepare v b) = count_by (promises_known v b) rows < c.qc
+IsShortIn c rows (Accept v b x) = Unit {0}
+
+-- no known row promises a ballot above the one of the phase
+abbrev pub IsAheadIn : List (Option RowAt) → Stage → Type 0
+IsAheadIn rows Look = Unit {0}
+IsAheadIn rows (Fast v) = Unit {0}
+IsAheadIn rows (Prepare v b) = list_any (above_known v b) rows ≡ false
+IsAheadIn rows (Accept v b x) = list_any (above_known v b) rows ≡ false
+
+-- the step of the phase is made
+pub record Steps (c : Config) (w : Caller) (past : List Tale) (run : Run) (ms : List Moment) : Type 0 where
+  pub carries : Carries c w past run ms
+  pub ahead : is_overtaken run ≡ false
+
+abbrev pub CanStep : Config → Run → Type 0
+CanStep c run = (w : Caller) × (past : List Tale) × (ms : List Moment) × Steps c w past run ms
+
+-- the phase has ended without its goal: nothing is awaited, and no known row takes its step
+pub record RunsOut (c : Config) (w : Caller) (past : List Tale) (run : Run) (ms : List Moment) : Type 0 where
+  pub stands : Stands c w past run ms
+  pub stage : StageStands c w past run.stage ms
+  pub going : IsGoing c ms
+  pub short : IsShortIn c run.rows run.stage
+  pub ahead : IsAheadIn run.rows run.stage
+  pub above : 1 ≤ working_version run
+  pub none : NoEvidence c ms (working_version run)
+  pub idle : (s : ℕ) → s < c.n → (site_now ms s).awaits ≡ None
+  pub heard : (s : ℕ) → s < c.n → (site_now ms s).out ≡ false → (row : RowAt) × (rows_known ms s ≡ Some row)
+  pub untaken : (step : RowStep) → stage_step run ≡ Some step → (s : ℕ) (row : RowAt) → s < c.n → rows_known ms s ≡ Some row → answer_of step row ≢ Done
+
+abbrev pub CanRunOut : Config → Run → ℕ → List Out → Type 0
+CanRunOut c run first outs = (w : Caller) × (past : List Tale) × (ms : List Moment) × RunsOut c w past run (sent_from first outs ms)
+
+-- a put prepares a ballot at a version
+pub record Prepares (c : Config) (w : Caller) (past : List Tale) (run : Run) (ms : List Moment) (v : ℕ) : Type 0 where
+  pub stands : Stands c w past run ms
+  pub going : IsGoing c ms
+  pub pass : MayPass c w ms v
+  pub grounded : IsGrounded c ms v
+  pub passed : (d : BallotAt) → has_promised_at ms v d ≡ true → passed_since v d ms ≡ true
+  pub none : NoEvidence c ms v
+
+abbrev pub CanPrepare : Config → Run → ℕ → List Out → ℕ → Type 0
+CanPrepare c run first outs v = (w : Caller) × (past : List Tale) × (ms : List Moment) × Prepares c w past run (sent_from first outs ms) v
+
+-- the greatest round that known rows promise at a version
+abbrev pub round_in : ℕ → List (Option RowAt) → ℕ
+round_in v [] = 0
+round_in v (row ∷ rows) = max (round_known v row) (round_in v rows)
+
+-- the ballot to prepare: one round above those that the session used or known rows promise; none where no round is left
+pub record IsBallotAbove (run : Run) (v : ℕ) (b : BallotAt) : Type 0 where
+  pub round : b.round ≡ max run.round (round_in v run.rows) + 1
+  pub session : b.session ≡ run.name.session
+  pub classic : IsClassic b
+
+abbrev pub IsNextBallot : Run → ℕ → Option BallotAt → Type 0
+IsNextBallot run v None = 2 ^ 31 ≤ max run.round (round_in v run.rows) + 1
+IsNextBallot run v (Some b) = IsBallotAbove run v b
 
 -- the call's value is chosen at the version
 pub record Finishes (c : Config) (w : Caller) (past : List Tale) (run : Run) (ms : List Moment) (v : ℕ) : Type 0 where
@@ -55,30 +180,6 @@ CanFinish c run v = (w : Caller) × (past : List Tale) × (ms : List Moment) × 
 -- the call can go on
 abbrev pub CanFollow : Config → Run → Type 0
 CanFollow c run = (w : Caller) × (past : List Tale) × (ms : List Moment) × Ready c w past run ms × IsGoing c ms
-
-abbrev pub vote_for : ℕ → Option Value → Option RowStep
-vote_for v None = None
-vote_for v (Some x) = Some (FastVote v x)
-
-abbrev pub notice_for : ℕ → Option Value → Option RowStep
-notice_for v None = None
-notice_for v (Some x) = Some (Decide v x)
-
-abbrev pub step_in : Stage → Option Value → Option RowStep
-step_in Look own = None
-step_in (Fast v) own = vote_for v own
-
--- the step of the phase: none in `Look`, and in `Fast` a vote for the call's value
-abbrev pub stage_step : Run → Option RowStep
-stage_step run = step_in run.stage run.own
-
-abbrev pub version_in : Stage → ℕ → ℕ
-version_in Look highest = highest
-version_in (Fast v) highest = v
-
--- the version that the phase works at
-abbrev pub working_version : Run → ℕ
-working_version run = version_in run.stage (highest_of run.rows)
 
 -- a put's value
 abbrev pub IsPut : Value → Type 0
@@ -112,6 +213,24 @@ contended_of run = if run.voted then Unsure (UnsureContended run.met) else Conte
 abbrev pub cut_off_of : Run → Answer
 cut_off_of run = if run.voted then Unsure (UnsureNoQuorum run.wrote (count_by (λ row. is_some row) run.rows)) else NoQuorum run.wrote (count_by (λ row. is_some row) run.rows)
 
--- what a pass comes to: where nothing is awaited, the phase has ended without its goal
-abbrev pub outcome_of : Run → Option Answer
-outcome_of run = if list_any (λ mark. is_some mark.awaited) run.marks then None else Some (Unsettled (working_version run))
+-- the answer of a call of which every site is out
+abbrev pub given_in_of : Run → Answer
+given_in_of run = if run.voted then Unsure (UnsureNoQuorum run.wrote 0) else NoQuorum run.wrote 0
+
+-- the answer of a phase that ends without its goal; a put prepares after `Look` and `Fast`
+abbrev pub ended_in : Run → Stage → Option Answer
+ended_in run Look = if is_some run.own then None else Some (Unsettled (highest_of run.rows))
+ended_in run (Fast v) = None
+ended_in run (Prepare v b) = Some (given_in_of run)
+ended_in run (Accept v b x) = Some (given_in_of run)
+
+abbrev pub ended_of : Run → Option Answer
+ended_of run = ended_in run run.stage
+
+-- whether a request is awaited
+abbrev pub is_waiting : Run → Bool
+is_waiting run = list_any (λ mark. is_some mark.awaited) run.marks
+
+-- what is left once a ballot was prepared at every site that takes it: to wait, or to give in
+abbrev pub prepared_of : Run → Option Answer
+prepared_of run = if is_waiting run then None else Some (given_in_of run)

@@ -1,6 +1,5 @@
 -- What is asked of a site, as the running call keeps it, and what the call keeps once it is asked.
 use Rattle.std.specs.Prelude.{ℕ, ◌≡◌, ◌+◌, Bool, true, false, ◌||◌, not, if◌then◌else◌, List, [], ◌∷◌, ◌++◌, length, slice_get, slice_set, Option, Some, None, is_some}
-use Rattle.gz_core.specs.Names.{Name}
 use Rattle.gz_core.specs.Rows.{RowAt}
 use Rattle.gz_core.specs.declared.calls.Phase.{Phase}
 use Rattle.gz_core.specs.declared.requests.RowStep.{RowStep}
@@ -13,7 +12,7 @@ use Rattle.gz_accept.specs.declared.answers.Step.TheVariants.{Done, Already, Bel
 use Rattle.gz_round.specs.declared.run.Mark.{Mark}
 use Rattle.gz_round.specs.declared.run.Run.{Run}
 use Rattle.gz_round.specs.Sites.{written_by}
-use Rattle.gz_round.specs.Sent.{vote_by, phase_by, of_step, or_earlier, passes_sent}
+use Rattle.gz_round.specs.Sent.{vote_by, phase_by, promise_by, round_after, of_step, passes_sent}
 use Rattle.gz_round.specs.Sending.{answer_of, made_by}
 
 -- a step that nobody awaits: the others are told what is chosen
@@ -63,11 +62,12 @@ abbrev pub phase_after : Option Phase → Phase → Phase
 phase_after None phase = phase
 phase_after (Some later) phase = later
 
--- what a request says of the call: that it voted for its value, and which part sent a row last
+-- what a request says of the call: that it voted for its value, which part sent a row last, and the greatest round
 abbrev pub noted : Run → Op → Run
 noted run op = record run {
   voted = passes_sent (λ u. true) (of_step (vote_by run.name) op) || run.voted;
   wrote = phase_after (of_step phase_by op) run.wrote;
+  round = round_after (of_step promise_by op) run.round;
 }
 
 abbrev pub marked_run : Run → ℕ → ℕ → Mark → Out → Run

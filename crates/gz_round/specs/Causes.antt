@@ -1,7 +1,6 @@
 -- When each answer of a call comes, by what the call has sent and heard.
-use Rattle.std.specs.Prelude.{ℕ, Bool, true, false, ◌≡◌, ◌≢◌, ◌≤◌, ◌<◌, ◌+◌, ◌⊎◌, ◌&&◌, ◌==◌, List, [], ◌∷◌, Option, Some, None}
+use Rattle.std.specs.Prelude.{ℕ, Bool, true, false, ◌≡◌, ◌≤◌, ◌<◌, ◌+◌, ◌⊎◌, ◌&&◌, ◌==◌, List, Option, Some, None}
 use Rattle.gz_core.specs.Names.{Name}
-use Rattle.gz_core.specs.Puts.{PutData}
 use Rattle.gz_core.specs.Calls.{own_value}
 use Rattle.gz_core.specs.Rows.{RowAt}
 use Rattle.gz_core.specs.declared.values.Value.{Value}
@@ -12,15 +11,14 @@ use Rattle.gz_core.specs.declared.calls.UnsureWhy.{UnsureWhy}
 use Rattle.gz_core.specs.declared.calls.UnsureWhy.TheVariants.{NoQuorum as UnsureNoQuorum, Contended as UnsureContended}
 use Rattle.gz_core.specs.declared.calls.Phase.{Phase}
 use Rattle.gz_core.specs.declared.configuration.Config.{Config}
-use Rattle.gz_accept.specs.declared.answers.Step.TheVariants.{Done}
-use Rattle.gz_accept.specs.Steps.{fast_answer}
 use Rattle.gz_pick.specs.Looks.{row_top}
 use Rattle.gz_pick.specs.Evidences.{IsEvident}
 use Rattle.gz_round.specs.History.{Moment, Caller}
-use Rattle.gz_round.specs.Sites.{SiteNow, site_now, known}
+use Rattle.gz_round.specs.Sites.{site_now}
 use Rattle.gz_round.specs.Sent.{met, voted, phase_of}
 use Rattle.gz_round.specs.Shown.{heard_at, IsShown, IsCurrent}
 pub use Rattle.gz_round.specs.Shown.{vote_value, column_value, row_value, IsValueHeard}
+pub use Rattle.gz_round.specs.Sending.{rows_known}
 use Rattle.gz_round.specs.Counting.{outs, known_count, IsGoing, IsNoticed}
 
 -- the call is a put, and its value is shown at the version
@@ -53,22 +51,19 @@ pub record IsCutOff (c : Config) (ms : List Moment) (phase : Phase) (heard : ℕ
 abbrev pub IsOvertaken : Config → List Moment → ℕ → Type 0
 IsOvertaken c ms m = (c.tries ≤ met ms) × (m ≡ met ms)
 
--- the last row of each site that isn't out
-abbrev pub rows_known : List Moment → ℕ → Option RowAt
-rows_known ms s = known (site_now ms s)
-
 -- the version is the highest at which one of the rows has a vote or a decision
 pub record IsHighest (c : Config) (ms : List Moment) (v : ℕ) : Type 0 where
   pub none_above : (s : ℕ) (row : RowAt) → s < c.n → rows_known ms s ≡ Some row → row_top row ≤ v
   pub reached : (v ≡ 0) ⊎ ((s : ℕ) × (row : RowAt) × (s < c.n) × (rows_known ms s ≡ Some row) × (row_top row ≡ v))
 
--- nothing is awaited, every site was heard or is out, no value is evident at the version, and either the call has
--- not voted and this is the highest version that was begun, or no row takes a vote of the fast ballot there
+-- a call that writes nothing can't tell: nothing is awaited, every site was heard or is out, this is the highest
+-- version that was begun, and no value is evident there
 pub record IsUnsettled (c : Config) (w : Caller) (ms : List Moment) (v : ℕ) : Type 0 where
   pub idle : (s : ℕ) → s < c.n → (site_now ms s).awaits ≡ None
   pub heard : (s : ℕ) → s < c.n → (site_now ms s).out ≡ false → (row : RowAt) × (rows_known ms s ≡ Some row)
   pub undecided : (x : Name) → IsEvident c.n c.qc c.qf (rows_known ms) v x → ⊥
-  pub stuck : ((voted w.name ms ≡ false) × IsHighest c ms v) ⊎ ((s : ℕ) (row : RowAt) → s < c.n → rows_known ms s ≡ Some row → fast_answer row v ≢ Done)
+  pub reads : own_value w.name w.call ≡ None
+  pub highest : IsHighest c ms v
 
 -- why a put ended without knowing
 abbrev pub UnsureCause : Config → List Moment → UnsureWhy → Type 0

@@ -1,5 +1,5 @@
 -- The counts of a call by which it ends: how many sites are out, how many are known, and how often it was overtaken.
-use Rattle.std.specs.Prelude.{ℕ, Bool, true, false, ◌≡◌, ◌≤◌, ◌<◌, ◌+◌, ◌⊎◌, ◌&&◌, ◌||◌, ◌==◌, List, [], ◌∷◌, Option, Some, None, is_some}
+use Rattle.std.specs.Prelude.{ℕ, false, ◌≡◌, ◌≤◌, ◌<◌, ◌+◌, ◌⊎◌, List, [], ◌∷◌, Some, is_some}
 use Rattle.gz_core.specs.Counts.{count_sites}
 use Rattle.gz_core.specs.Calls.{key_of, own_value}
 use Rattle.gz_core.specs.declared.values.Value.{Value}
@@ -11,7 +11,7 @@ use Rattle.gz_accept.specs.declared.answers.Step.TheVariants.{Done}
 use Rattle.gz_accept.specs.Steps.{decide_answer, decided}
 use Rattle.gz_round.specs.History.{Asked, Moment, Sent, Caller}
 use Rattle.gz_round.specs.declared.hearing.Seen.{Seen}
-use Rattle.gz_round.specs.Sites.{SiteNow, site_now, known}
+use Rattle.gz_round.specs.Sites.{site_now, known}
 use Rattle.gz_round.specs.Sent.{met}
 
 -- how many sites are out

@@ -12,6 +12,7 @@ pub mod Asking
 pub mod Standing
 pub mod Following
 pub mod Evidence
+pub mod Choosing
 pub mod Acting
 pub mod Starting
 pub mod Numbering

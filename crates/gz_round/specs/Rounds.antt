@@ -1,5 +1,5 @@
 -- When a call may send a promise of a classic ballot, and a vote in it. (Lamport 2006, "Fast Paxos", section 2.2.)
-use Rattle.std.specs.Prelude.{ℕ, Bool, true, false, ◌≡◌, ◌≢◌, ◌≤◌, ◌⊎◌, ◌&&◌, ◌||◌, ◌==◌, if◌then◌else◌, List, [], ◌∷◌, length, slice_get, Option, Some, None}
+use Rattle.std.specs.Prelude.{ℕ, max, Bool, true, false, not, ◌≡◌, ◌≢◌, ◌≤◌, ◌⊎◌, ◌&&◌, ◌||◌, ◌==◌, if◌then◌else◌, List, [], ◌∷◌, length, slice_get, Option, Some, None}
 use Rattle.std.specs.List.{All}
 use Rattle.gz_core.specs.Names.{Name, BallotAt, IsClassic, is_below, same_ballot, same_name}
 use Rattle.gz_core.specs.Values.{name_of}
@@ -11,19 +11,49 @@ use Rattle.gz_core.specs.declared.configuration.Config.{Config}
 use Rattle.gz_core.specs.declared.requests.RowStep.{RowStep}
 use Rattle.gz_core.specs.declared.requests.RowStep.TheVariants.{FastVote, Promise, ClassicVote, Decide, Trim}
 use Rattle.gz_pick.specs.Looks.{row_vote}
+use Rattle.gz_pick.specs.Evidences.{is_in}
 use Rattle.gz_pick.specs.Choices.{pick_of, AreSites}
 use Rattle.gz_pick.specs.declared.heard.Heard.{Heard}
 use Rattle.gz_pick.specs.declared.heard.Pick.TheVariants.{Forced, Free}
-use Rattle.gz_round.specs.History.{Moment, Sent, Handed, GaveUp, Rested, GaveIn, Caller, Tale}
-use Rattle.gz_round.specs.declared.hearing.Seen.{Seen}
+use Rattle.gz_round.specs.History.{Moment, Caller, Tale}
 use Rattle.gz_round.specs.Sites.{passes, heard_in, WasHeard}
-use Rattle.gz_round.specs.Sent.{of_sent, some_sent, promise_by, has_promised, has_promised_at, last_promise}
-use Rattle.gz_round.specs.Shown.{IsShown, IsCurrent, IsGrounded, IsClear, IsValueHeard}
+use Rattle.gz_round.specs.Sent.{of_sent, some_sent, promise_by, has_promised, has_promised_at, last_promise, top_round}
+use Rattle.gz_round.specs.Shown.{IsCurrent, IsGrounded, IsClear, IsValueHeard}
 
 -- no call of a list promised this ballot
 abbrev pub IsUnused : List Tale → BallotAt → Type 0
 IsUnused [] b = Unit {0}
 IsUnused (tale ∷ tales) b = (has_promised tale.moments b ≡ false) × IsUnused tales b
+
+-- the greatest round of the ballots that the calls of a list promised
+abbrev pub top_rounds : List Tale → ℕ
+top_rounds [] = 0
+top_rounds (tale ∷ tales) = max (top_round tale.moments) (top_rounds tales)
+
+-- the greatest round that a session used, with the moments of its newest call
+abbrev pub rounds_used : List Tale → List Moment → ℕ
+rounds_used past ms = max (top_rounds past) (top_round ms)
+
+-- the round of the ballot that a row promises at a version, 0 where none is promised
+abbrev pub slot_round : Slot → ℕ
+slot_round Gone = 0
+slot_round (DecidedAs x) = 0
+slot_round (OpenAt promise vote) = promise.round
+
+-- whether a row promises this ballot at the version, and has no vote of it there
+abbrev pub slot_promises : Slot → BallotAt → Bool
+slot_promises Gone b = false
+slot_promises (DecidedAs x) b = false
+slot_promises (OpenAt promise vote) b = same_ballot promise b && not (is_in b vote)
+
+-- the same of a row that may be unknown
+abbrev pub promises_known : ℕ → BallotAt → Option RowAt → Bool
+promises_known v b None = false
+promises_known v b (Some row) = slot_promises (slots row v) b
+
+abbrev pub round_known : ℕ → Option RowAt → ℕ
+round_known v None = 0
+round_known v (Some row) = slot_round (slots row v)
 
 -- whether a row promises a ballot above this one at the version
 abbrev pub slot_promises_above : Slot → BallotAt → Bool
@@ -33,6 +63,11 @@ slot_promises_above (OpenAt promise vote) b = is_below b promise
 
 abbrev pub promises_above : RowAt → ℕ → BallotAt → Bool
 promises_above row v b = slot_promises_above (slots row v) b
+
+-- the same of a row that may be unknown
+abbrev pub above_known : ℕ → BallotAt → Option RowAt → Bool
+above_known v b None = false
+above_known v b (Some row) = promises_above row v b
 
 abbrev pub is_promise : ℕ → BallotAt → Option (ℕ × BallotAt) → Bool
 is_promise v b None = false

@@ -1,6 +1,6 @@
 -- Which requests a call may send, by what it has sent and heard so far.
-use Rattle.std.specs.Prelude.{ℕ, Bool, true, false, ◌≡◌, ◌≢◌, ◌≤◌, ◌<◌, ◌+◌, ◌⊎◌, nat_le, List, [], ◌∷◌, Option, Some, None}
-use Rattle.gz_core.specs.Names.{Name, BallotAt, IsClassic, is_below}
+use Rattle.std.specs.Prelude.{ℕ, true, false, ◌≡◌, ◌≢◌, ◌≤◌, ◌<◌, ◌+◌, ◌^◌, ◌⊎◌, List, [], ◌∷◌, Option, Some, None}
+use Rattle.gz_core.specs.Names.{Name, BallotAt}
 use Rattle.gz_core.specs.Values.{name_of}
 use Rattle.gz_core.specs.Calls.{key_of, own_value}
 use Rattle.gz_core.specs.Rows.{RowAt}
@@ -13,11 +13,11 @@ use Rattle.gz_core.specs.declared.requests.Op.TheVariants.{ReadRow, WriteRow}
 use Rattle.gz_accept.specs.declared.answers.Step.{Step}
 use Rattle.gz_accept.specs.declared.answers.Step.TheVariants.{Done}
 use Rattle.gz_accept.specs.Steps.{fast_answer, fast_voted, promise_answer, promised, classic_answer, classic_voted, decide_answer, decided, trim_answer, trimmed_to}
-use Rattle.gz_round.specs.Rounds.{MayPromise, MayClassicVote, IsValueKnown}
+use Rattle.gz_core.specs.Counts.{count_sites}
+use Rattle.gz_pick.specs.Evidences.{IsEvident}
+use Rattle.gz_round.specs.Rounds.{MayPromise, MayClassicVote, rounds_used, round_known, promises_known, promises_above, IsValueKnown}
 use Rattle.gz_round.specs.History.{Asked, Moment, Sent, Handed, GaveUp, Rested, GaveIn, Caller, Tale}
-use Rattle.gz_round.specs.declared.hearing.Seen.{Seen}
-use Rattle.gz_round.specs.Sites.{SiteNow, site_now}
-use Rattle.gz_round.specs.Sent.{has_promised}
+use Rattle.gz_round.specs.Sites.{SiteNow, site_now, known}
 use Rattle.gz_round.specs.Shown.{IsShown, IsCurrent, IsNext, IsClear}
 
 -- what a step answers on a row
@@ -83,9 +83,41 @@ pub record MaySend (c : Config) (w : Caller) (past : List Tale) (ms : List Momen
 abbrev pub MayRest : Config → List Moment → Type 0
 MayRest c ms = (v : ℕ) × (x : Name) × IsShown c ms v x
 
--- no phase gives in yet
-abbrev pub MayGiveIn : Config → Caller → List Moment → Type 0
-MayGiveIn c w ms = ⊥
+-- the last row of each site that isn't out
+abbrev pub rows_known : List Moment → ℕ → Option RowAt
+rows_known ms s = known (site_now ms s)
+
+-- no value is known to be chosen at the version
+abbrev pub NoEvidence : Config → List Moment → ℕ → Type 0
+NoEvidence c ms v = (x : Name) → IsEvident c.n c.qc c.qf (rows_known ms) v x → ⊥
+
+-- no row that is known promises a ballot above this one
+abbrev pub NoneAbove : Config → List Moment → ℕ → BallotAt → Type 0
+NoneAbove c ms v b = (s : ℕ) (row : RowAt) → s < c.n → rows_known ms s ≡ Some row → promises_above row v b ≡ false
+
+-- a step in a classic ballot leads no further: nothing is awaited, every site was heard or is out, no value is
+-- known to be chosen, and no row takes the step, though none promises a ballot above
+pub record IsStuck (c : Config) (ms : List Moment) (v : ℕ) (b : BallotAt) (step : RowStep) : Type 0 where
+  pub idle : (s : ℕ) → s < c.n → (site_now ms s).awaits ≡ None
+  pub heard : (s : ℕ) → s < c.n → (site_now ms s).out ≡ false → (row : RowAt) × (rows_known ms s ≡ Some row)
+  pub undecided : NoEvidence c ms v
+  pub untaken : (s : ℕ) (row : RowAt) → s < c.n → rows_known ms s ≡ Some row → answer_of step row ≢ Done
+  pub none_above : NoneAbove c ms v b
+
+-- fewer rows than a classic quorum that are known promise the ballot, without a vote of it
+abbrev pub IsShort : Config → List Moment → ℕ → BallotAt → Type 0
+IsShort c ms v b = count_sites c.n (λ s. promises_known v b (rows_known ms s)) < c.qc
+
+-- the rounds that a run reaches are used up
+abbrev pub AreRoundsUsedUp : Config → List Tale → List Moment → ℕ → Type 0
+AreRoundsUsedUp c past ms v = (2 ^ 31 ≤ rounds_used past ms + 1) ⊎ ((s : ℕ) × (s < c.n) × (2 ^ 31 ≤ round_known v (rows_known ms s) + 1))
+
+-- a call gives in where its promise or its classic vote leads no further, short of a quorum of promises or of a
+-- value that is chosen; or where no round is left. Rows that stay as written exclude all three.
+pub data MayGiveIn (c : Config) (w : Caller) (past : List Tale) (ms : List Moment) : Type 0 where
+  NoPromise : (v : ℕ) (b : BallotAt) → MayPromise c w past ms v b → IsStuck c ms v b (Promise v b) → IsShort c ms v b → MayGiveIn c w past ms
+  NoVote : (v : ℕ) (b : BallotAt) (x : Value) → MayClassicVote c w ms v b x → IsStuck c ms v b (ClassicVote v b x) → MayGiveIn c w past ms
+  NoRound : (v : ℕ) → NoEvidence c ms v → AreRoundsUsedUp c past ms v → MayGiveIn c w past ms
 
 -- a reply or a give-up is of a request that is awaited
 abbrev pub IsAwaitedOf : List Moment → Asked → Type 0
@@ -96,7 +128,7 @@ IsAllowed c w past ms (Sent a) = MaySend c w past ms a
 IsAllowed c w past ms (Handed a reply) = IsAwaitedOf ms a
 IsAllowed c w past ms (GaveUp a) = IsAwaitedOf ms a
 IsAllowed c w past ms Rested = MayRest c ms
-IsAllowed c w past ms GaveIn = MayGiveIn c w ms
+IsAllowed c w past ms GaveIn = MayGiveIn c w past ms
 
 -- each moment of a call was allowed when it came
 abbrev pub AreAllowed : Config → Caller → List Tale → List Moment → Type 0

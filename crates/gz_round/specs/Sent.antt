@@ -1,5 +1,5 @@
 -- What a call has sent: votes for its own value, promises, its last row write, and how often it was overtaken.
-use Rattle.std.specs.Prelude.{ℕ, ◌+◌, Bool, true, false, ◌&&◌, ◌||◌, ◌==◌, if◌then◌else◌, List, [], ◌∷◌, Option, Some, None, is_some}
+use Rattle.std.specs.Prelude.{ℕ, ◌+◌, max, Bool, true, false, ◌&&◌, ◌||◌, ◌==◌, if◌then◌else◌, List, [], ◌∷◌, Option, Some, None}
 use Rattle.gz_core.specs.Names.{Name, BallotAt, same_ballot, same_name}
 use Rattle.gz_core.specs.Values.{name_of}
 use Rattle.gz_core.specs.declared.calls.Phase.{Phase}
@@ -8,7 +8,7 @@ use Rattle.gz_core.specs.declared.requests.RowStep.{RowStep}
 use Rattle.gz_core.specs.declared.requests.RowStep.TheVariants.{FastVote, Promise, ClassicVote, Decide, Trim}
 use Rattle.gz_core.specs.declared.requests.Op.{Op}
 use Rattle.gz_core.specs.declared.requests.Op.TheVariants.{ReadRow, WriteRow}
-use Rattle.gz_round.specs.History.{Asked, Moment, Sent, Handed, GaveUp, Rested, GaveIn}
+use Rattle.gz_round.specs.History.{Moment, Sent, Handed, GaveUp, Rested, GaveIn}
 use Rattle.gz_round.specs.Sites.{is_changed}
 
 -- the version at which a step votes for the value of this name
@@ -89,6 +89,16 @@ has_promised_at ms v b = some_sent promise_by (λ p. (p.0 == v) && same_ballot p
 -- the version and ballot that it promised last
 abbrev pub last_promise : List Moment → Option (ℕ × BallotAt)
 last_promise ms = last_sent promise_by ms
+
+-- the greater of a round and a promise's, where there is one
+abbrev pub round_after : Option (ℕ × BallotAt) → ℕ → ℕ
+round_after None round = round
+round_after (Some p) round = max p.1.round round
+
+-- the greatest round of the ballots that a call promised
+abbrev pub top_round : List Moment → ℕ
+top_round [] = 0
+top_round (m ∷ ms) = round_after (of_sent promise_by m) (top_round ms)
 
 abbrev pub phase_or_look : Option Phase → Phase
 phase_or_look None = Look

@@ -1,19 +1,23 @@
 -- What a running call keeps stands for what has happened to it.
-use Rattle.std.specs.Prelude.{ℕ, Bool, true, false, ◌≡◌, ◌≢◌, ◌≤◌, ◌<◌, ◌⊎◌, List, length, slice_get, Option, Some, None, is_some, option_map}
+use Rattle.std.specs.Prelude.{ℕ, true, false, ◌≡◌, ◌≤◌, ◌<◌, ◌+◌, ◌⊎◌, List, length, slice_get, Option, Some, None, is_some, option_map}
+use Rattle.gz_core.specs.Names.{Name, BallotAt}
 use Rattle.gz_core.specs.Rows.{RowAt}
 use Rattle.gz_core.specs.Calls.{key_of, own_value}
 use Rattle.gz_core.specs.declared.values.Value.{Value}
+use Rattle.gz_core.specs.declared.calls.Phase.TheVariants.{Look as NotBegun}
 use Rattle.gz_core.specs.declared.configuration.Config.{Config}
 use Rattle.gz_round.specs.declared.run.Awaited.{Awaited}
 use Rattle.gz_round.specs.declared.run.Mark.{Mark}
 use Rattle.gz_round.specs.declared.run.Run.{Run}
 use Rattle.gz_round.specs.declared.run.Stage.{Stage}
-use Rattle.gz_round.specs.declared.run.Stage.TheVariants.{Look, Fast}
+use Rattle.gz_round.specs.declared.run.Stage.TheVariants.{Look, Fast, Prepare, Accept}
 use Rattle.gz_round.specs.History.{Asked, Moment, Caller, Tale}
 use Rattle.gz_round.specs.declared.hearing.Seen.{Seen}
 use Rattle.gz_round.specs.Sites.{SiteNow, site_now, known, written_by}
-use Rattle.gz_round.specs.Sent.{met, voted, phase_of}
-use Rattle.gz_round.specs.Sending.{AreAllowed, MayFastVote, MayRead}
+use Rattle.gz_round.specs.Sent.{met, voted, phase_of, has_promised_at}
+use Rattle.gz_round.specs.Shown.{IsCurrent, IsClear}
+use Rattle.gz_round.specs.Rounds.{MayPromise, MayClassicVote, rounds_used, has_cast, promises_above, passed_since}
+use Rattle.gz_round.specs.Sending.{AreAllowed, MayFastVote, MayRead, rows_known}
 use Rattle.gz_round.specs.Counting.{IsGoing}
 
 abbrev pub etag_seen : Option Seen → Option ℕ
@@ -52,13 +56,43 @@ pub record Stands (c : Config) (w : Caller) (past : List Tale) (run : Run) (ms :
   pub met_is : run.met ≡ met ms
   pub voted_is : run.voted ≡ voted w.name ms
   pub wrote_is : run.wrote ≡ phase_of ms
+  pub round_is : run.round ≡ rounds_used past ms
   pub sites : AreSound ms
   pub allowed : AreAllowed c w past ms
 
+-- no promise was sent at this version, or above
+abbrev pub IsUnpromised : List Moment → ℕ → Type 0
+IsUnpromised ms v = (u : ℕ) (d : BallotAt) → v ≤ u → has_promised_at ms u d ≡ false
+
+-- where a row that is known promises a ballot above this one, such a row was heard since the last promise of it
+abbrev pub ArePassed : Config → List Moment → ℕ → BallotAt → Type 0
+ArePassed c ms v b = (s : ℕ) (row : RowAt) → s < c.n → rows_known ms s ≡ Some row → promises_above row v b ≡ true → passed_since v b ms ≡ true
+
+-- the call may vote at a version, or pass on to the next one once another value is shown there
+pub record MayPass (c : Config) (w : Caller) (ms : List Moment) (v : ℕ) : Type 0 where
+  pub above : 1 ≤ v
+  pub current : IsCurrent c ms v
+  pub clear : IsClear c w.name ms v
+  pub own : (x : Value) × (own_value w.name w.call ≡ Some x)
+  pub later : IsUnpromised ms (v + 1)
+
+-- a put works at a version by a classic ballot
+pub record IsWorking (c : Config) (w : Caller) (past : List Tale) (ms : List Moment) (v : ℕ) (b : BallotAt) : Type 0 where
+  pub promise : MayPromise c w past ms v b
+  pub pass : MayPass c w ms v
+
+-- it has not voted in the ballot, which it has promised, or else no session has used its round
+pub record IsPreparing (c : Config) (w : Caller) (past : List Tale) (ms : List Moment) (v : ℕ) (b : BallotAt) : Type 0 where
+  pub works : IsWorking c w past ms v b
+  pub uncast : (y : Name) → has_cast ms v b y ≡ false
+  pub used : (has_promised_at ms v b ≡ true) ⊎ (rounds_used past ms < b.round)
+
 -- the phase has what its step wants
-abbrev pub StageStands : Config → Caller → Stage → List Moment → Type 0
-StageStands c w Look ms = voted w.name ms ≡ false
-StageStands c w (Fast v) ms = MayFastVote c w ms v × ((x : Value) × (own_value w.name w.call ≡ Some x))
+abbrev pub StageStands : Config → Caller → List Tale → Stage → List Moment → Type 0
+StageStands c w past Look ms = (voted w.name ms ≡ false) × (phase_of ms ≡ NotBegun)
+StageStands c w past (Fast v) ms = MayFastVote c w ms v × ((x : Value) × (own_value w.name w.call ≡ Some x)) × IsUnpromised ms v
+StageStands c w past (Prepare v b) ms = IsPreparing c w past ms v b × ArePassed c ms v b
+StageStands c w past (Accept v b x) ms = MayClassicVote c w ms v b x × IsWorking c w past ms v b × ArePassed c ms v b
 
 -- each site that may be read is being read, or is out
 abbrev pub AreAskedAgain : Config → List Moment → Type 0
@@ -72,7 +106,7 @@ IsWaiting c ms = (s : ℕ) × (a : Asked) × (s < c.n) × ((site_now ms s).await
 -- awaits a request
 pub record Runs (c : Config) (w : Caller) (past : List Tale) (run : Run) (ms : List Moment) : Type 0 where
   pub stands : Stands c w past run ms
-  pub stage : StageStands c w run.stage ms
+  pub stage : StageStands c w past run.stage ms
   pub again : AreAskedAgain c ms
   pub going : IsGoing c ms
   pub waits : IsWaiting c ms

@@ -1,5 +1,5 @@
 -- How a call begins.
-use Rattle.std.specs.Prelude.{ℕ, ◌≤◌, false, length, None}
+use Rattle.std.specs.Prelude.{◌≤◌, false, length, None}
 use Rattle.gz_core.specs.declared.calls.Call.{Call}
 use Rattle.gz_core.specs.declared.calls.Call.TheVariants.{Put, Get}
 use Rattle.gz_round.specs.declared.run.Mark.{Mark}

@@ -3,29 +3,48 @@ ghost use Rattle.std.specs.Prelude.{◌≡◌, ◌≤◌, ◌<◌, ◌+◌, ◌^
 ghost use Rattle.gz_core.specs.Rows.{RowAt};
 ghost use Rattle.gz_core.specs.Configurations.{IsConfig};
 ghost use Rattle.gz_round.specs.History.{Moment, Caller, Tale, sent_from};
-ghost use Rattle.gz_round.specs.Standing.{Stands, IsKept};
+ghost use Rattle.gz_round.specs.Standing.{Stands, Runs, IsKept};
 ghost use Rattle.gz_round.specs.Counting.{IsGoing};
 ghost use Rattle.std.specs.Option.{option_copied};
 ghost use Rattle.gz_round.specs.Causes.{HasCause, row_value, column_value, vote_value};
-ghost use Rattle.gz_round.specs.Acting.{IsPlain, Acts, CanAct, CanFollow, outcome_of, contended_of, cut_off_of, CanFinish, Finishes, IsPut, IsPutAt, IsKnownPut, IsAnswerFor, IsAnswerOf, stage_step, vote_for, notice_for, working_version};
-ghost use Rattle.gz_round.specs.Following.{Ready, IsReady, Turned};
+ghost use Rattle.gz_round.specs.Acting.{IsPlain, Acts, CanAct, CanFollow, Carries, CanCarry, is_overtaken, contended_of, cut_off_of, CanFinish, Finishes, IsPut, IsPutAt, IsKnownPut, IsAnswerFor, IsAnswerOf, stage_step, vote_for, notice_for, working_version};
+ghost use Rattle.gz_round.specs.Following.{Ready, IsReady, Turned, HasTurned};
 
 use crate::following::Next;
 use crate::run::{Run, Stage};
 use gz_core::{
-    Answer, Column, Config, Row, RowStep, SiteId, Turn, UnsureWhy, Value, Version, Vote,
+    Answer, Ballot, Column, Config, Items, Out, Row, RowStep, SiteId, Turn, UnsureWhy, Value,
+    Version, Vote,
 };
 use gz_pick::highest;
 use std::alloc::{AllocError, Global};
 
 impl Run {
+    /// The reads with which a call begins.
+    pub fn open(
+        &mut self,
+        alloc: Global,
+        config: &Config,
+        first: u32,
+    ) -> Result<Items<Out>, AllocError>
+        requires config { IsConfig config.now }
+        requires first { first < 2 ^ 31 }
+        requires opens { (w : Caller) × (past : List Tale) × Ready config.now w past self.old [] }
+        requires stage { self.old.stage ≡ Stage.Look }
+        ensures { IfOk result (λ send. (w : Caller) (past : List Tale) → Ready config.now w past self.old []
+            → Runs config.now w past self.new (sent_from first send [])) }
+    {
+        let send = self.first_pass(alloc, config, &None, first)?;
+        Ok(send)
+    }
+
     /// All that the call does at an event, once what came was noted.
     pub fn act(&mut self, alloc: Global, config: &Config, first: u32) -> Result<Turn, AllocError>
         requires config { IsConfig config.now }
         requires first { first < 2 ^ 31 }
         requires ready { IsReady config.now self.old }
         ensures { IfOk result (λ turn. (w : Caller) (past : List Tale) (ms : List Moment) → Ready config.now w past self.old ms
-            → Turned config.now w past self.new (sent_from first turn.send ms) turn.answer) }
+            → HasTurned config.now w past self.new (sent_from first turn.send ms) turn.answer) }
     {
         match self.stop(config) {
             Some(answer) => self.close(alloc, config, first, answer),
@@ -85,7 +104,7 @@ impl Run {
         requires first { first < 2 ^ 31 }
         requires follows { CanFollow config.now self.old }
         ensures { IfOk result (λ turn. (w : Caller) (past : List Tale) (ms : List Moment) → Ready config.now w past self.old ms → IsGoing config.now ms
-            → Turned config.now w past self.new (sent_from first turn.send ms) turn.answer) }
+            → HasTurned config.now w past self.new (sent_from first turn.send ms) turn.answer) }
     {
         match self.next(config) {
             Next::Wait => self.go_on(alloc, config, first),
@@ -102,41 +121,54 @@ impl Run {
         }
     }
 
-    /// The phase goes on: each site is asked for its step. Where nothing is awaited then, the phase has ended
-    /// without its goal.
+    /// The phase goes on; once a quorum promises the call's ballot, the next one votes in it.
     fn go_on(&mut self, alloc: Global, config: &Config, first: u32) -> Result<Turn, AllocError>
         requires config { IsConfig config.now }
         requires first { first < 2 ^ 31 }
         requires acts { CanAct config.now self.old }
         ensures { IfOk result (λ turn. (w : Caller) (past : List Tale) (ms : List Moment) → Acts config.now w past self.old ms
-            → Turned config.now w past self.new (sent_from first turn.send ms) turn.answer) }
+            → HasTurned config.now w past self.new (sent_from first turn.send ms) turn.answer) }
     {
-        let step = self.step()?;
-        let send = self.first_pass(alloc, config, &step, first)?;
-        let answer = self.outcome();
-        Ok(Turn { send, answer })
-    }
-
-    /// What a pass comes to: where nothing is awaited, the phase has ended without its goal.
-    fn outcome(&self) -> Option<Answer>
-        ensures { result ≡ outcome_of self.now }
-    {
-        if self.waits() {
-            None
-        } else {
-            Some(Answer::Unsettled {
-                version: self.working(),
-            })
+        match self.choose(alloc, config)? {
+            Some(stage) => {
+                self.stage = stage;
+                self.carry_on(alloc, config, first)
+            },
+            None => self.carry_on(alloc, config, first),
         }
     }
 
+    /// The step of the phase is made at each site that takes it. A ballot that leads no further gives way to another.
+    fn carry_on(&mut self, alloc: Global, config: &Config, first: u32) -> Result<Turn, AllocError>
+        requires config { IsConfig config.now }
+        requires first { first < 2 ^ 31 }
+        requires carries { CanCarry config.now self.old }
+        ensures { IfOk result (λ turn. (w : Caller) (past : List Tale) (ms : List Moment) → Carries config.now w past self.old ms
+            → HasTurned config.now w past self.new (sent_from first turn.send ms) turn.answer) }
+    {
+        if self.is_overtaken() {
+            let version = self.working();
+            return self.prepare(config, first, version, Items::new(alloc));
+        }
+        self.make_step(alloc, config, first)
+    }
+
     /// The step of the phase: none in `Look`, which reads alone.
-    fn step(&self) -> Result<Option<RowStep>, AllocError>
+    pub fn step(&self) -> Result<Option<RowStep>, AllocError>
         ensures { IfOk result (λ step. step ≡ stage_step self.now) }
     {
-        match self.stage {
+        match &self.stage {
             Stage::Look => Ok(None),
-            Stage::Fast { version } => self.vote(version),
+            Stage::Fast { version } => self.vote(*version),
+            Stage::Prepare { version, ballot } => Ok(Some(RowStep::Promise {
+                version: *version,
+                ballot: *ballot,
+            })),
+            Stage::Accept {
+                version,
+                ballot,
+                value,
+            } => classic_vote(*version, *ballot, value),
         }
     }
 
@@ -167,12 +199,14 @@ impl Run {
     }
 
     /// The version that the phase works at.
-    fn working(&self) -> Version
+    pub fn working(&self) -> Version
         ensures { result ≡ working_version self.now }
     {
-        match self.stage {
+        match &self.stage {
             Stage::Look => highest(self.rows.as_slice()),
-            Stage::Fast { version } => version,
+            Stage::Fast { version } => *version,
+            Stage::Prepare { version, .. } => *version,
+            Stage::Accept { version, .. } => *version,
         }
     }
 
@@ -232,6 +266,22 @@ impl Run {
     }
 }
 
+/// A vote in a classic ballot.
+fn classic_vote(
+    version: Version,
+    ballot: Ballot,
+    value: &Value,
+) -> Result<Option<RowStep>, AllocError>
+    ensures { IfOk result (λ step. step ≡ Some (RowStep.ClassicVote version ballot value.now)) }
+{
+    let value = value.clone()?;
+    Ok(Some(RowStep::ClassicVote {
+        version,
+        ballot,
+        value,
+    }))
+}
+
 /// The answer with the value that a row has at a version.
 fn bytes_of(row: &Row, version: Version) -> Result<Answer, AllocError>
     requires { IsPutAt row.now version }
@@ -262,7 +312,7 @@ fn put_answer(value: &Value, version: Version) -> Result<Answer, AllocError>
 }
 
 /// The value that a row has at a version, of a vote or a decision.
-fn value_at(row: &Row, version: Version) -> Option<&Value>
+pub fn value_at(row: &Row, version: Version) -> Option<&Value>
     ensures { option_copied result ≡ row_value row.now version }
 {
     match row.column(version) {

@@ -4,10 +4,11 @@ ghost use Rattle.gz_core.specs.Rows.{RowAt};
 ghost use Rattle.gz_round.specs.Steps.{IsStep, IsStepOf};
 ghost use Rattle.gz_round.specs.Asking.{asks_of, step_out, read_out, sent_run, phase_after, noted};
 ghost use Rattle.gz_round.specs.Sites.{written_by};
-ghost use Rattle.gz_round.specs.Sent.{vote_by, phase_by, passes_sent};
+ghost use Rattle.gz_round.specs.Sent.{vote_by, phase_by, promise_by, round_after, passes_sent};
 ghost use Rattle.gz_round.specs.declared.run.Mark.{Mark};
 
 use crate::making::{copy_of, is_notice, made};
+use crate::rounds::later_of;
 use crate::run::{Awaited, Mark, Run};
 use gz_core::{Etag, Key, Op, Out, Phase, Row, RowStep, SiteId};
 use std::alloc::AllocError;
@@ -116,7 +117,8 @@ impl Run {
         Ok(())
     }
 
-    /// Keeps what a request says of the call: that it voted for its value, and which part sent a row last.
+    /// Keeps what a request says of the call: that it voted for its value, which part sent a row last, and the
+    /// greatest round.
     fn note_step(&mut self, op: &Op)
         ensures { self.new ≡ noted self.old op.now }
     {
@@ -127,14 +129,17 @@ impl Run {
     }
 
     fn note_write(&mut self, step: &RowStep)
-        ensures { self.new ≡ record self.old { voted = passes_sent (λ u. true) (vote_by self.old.name step.now) || self.old.voted; wrote = phase_after (phase_by step.now) self.old.wrote } }
+        ensures { self.new ≡ record self.old { voted = passes_sent (λ u. true) (vote_by self.old.name step.now) || self.old.voted; wrote = phase_after (phase_by step.now) self.old.wrote; round = round_after (promise_by step.now) self.old.round } }
     {
         match step {
             RowStep::FastVote { value, .. } => {
                 self.voted = value.name() == self.name || self.voted;
                 self.wrote = Phase::Fast;
             },
-            RowStep::Promise { .. } => self.wrote = Phase::Prepare,
+            RowStep::Promise { ballot, .. } => {
+                self.wrote = Phase::Prepare;
+                self.round = later_of(ballot.round, self.round);
+            },
             RowStep::ClassicVote { value, .. } => {
                 self.voted = value.name() == self.name || self.voted;
                 self.wrote = Phase::Accept;

@@ -4,7 +4,7 @@ ghost use Rattle.gz_core.specs.Rows.{RowAt};
 ghost use Rattle.gz_pick.specs.Looks.{row_name};
 ghost use Rattle.gz_core.specs.Configurations.{IsConfig};
 ghost use Rattle.gz_round.specs.History.{Moment, Caller, Tale};
-ghost use Rattle.gz_round.specs.Following.{IsReady, Ready, NextMeans, MayPass, IsFirst, IsLatest};
+ghost use Rattle.gz_round.specs.Following.{IsReady, Ready, NextMeans, MayPass, IsFirst, IsLatest, IsStageAt};
 ghost use Rattle.gz_core.specs.declared.configuration.Config.{Config};
 ghost use Rattle.gz_round.specs.Evidence.{NoneEvident, EvidentAt};
 ghost use Rattle.gz_round.specs.Standing.{Stands, IsKept};
@@ -35,9 +35,11 @@ impl Run {
         requires ready { IsReady config.now self.now }
         ensures { (w : Caller) (past : List Tale) (ms : List Moment) → Ready config.now w past self.now ms → NextMeans config.now w self.now ms result }
     {
-        match self.stage {
+        match &self.stage {
             Stage::Look => self.after_look(config),
-            Stage::Fast { version } => self.after_fast(config, version),
+            Stage::Fast { version } => self.after_vote(config, *version),
+            Stage::Prepare { version, .. } => self.after_vote(config, *version),
+            Stage::Accept { version, .. } => self.after_vote(config, *version),
         }
     }
 
@@ -89,11 +91,11 @@ impl Run {
         }
     }
 
-    /// The goal of `Fast` is that a value is known to be chosen at its version.
-    fn after_fast(&self, config: &Config, version: Version) -> Next
+    /// Work at a version ends once a value is known to be chosen there.
+    fn after_vote(&self, config: &Config, version: Version) -> Next
         requires config { IsConfig config.now }
         requires ready { IsReady config.now self.now }
-        requires stage { self.now.stage ≡ Stage.Fast version }
+        requires stage { IsStageAt self.now.stage version }
         ensures { (w : Caller) (past : List Tale) (ms : List Moment) → Ready config.now w past self.now ms → NextMeans config.now w self.now ms result }
     {
         match evident(config, self.rows.as_slice(), version) {

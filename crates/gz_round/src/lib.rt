@@ -4,12 +4,15 @@
 mod acting;
 pub mod asking;
 pub mod awaiting;
+mod choosing;
 pub mod counts;
 pub mod following;
 pub mod hearing;
 pub mod making;
 mod noting;
 mod passing;
+mod preparing;
+mod rounds;
 pub mod run;
 mod starting;
 

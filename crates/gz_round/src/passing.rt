@@ -55,6 +55,7 @@ impl Run {
             → Asks config.now w past self.old (sent_from first send.old ms) step.now
             → Asks config.now w past self.new (sent_from first send.new ms) step.now × AreServed config.now w (sent_from first send.new ms) step.now) }
         ensures left { OnOk result (IsLeftBy self.old self.new step.now) }
+        ensures few { OnOk result (length send.new ≤ length send.old + config.now.n) }
     {
         for at in 0..config.n as usize {
             self.ask(at, step, first, send)?;
@@ -78,6 +79,7 @@ impl Run {
         ensures asked { IfOk result (λ send. (w : Caller) (past : List Tale) (ms : List Moment) → Asks config.now w past self.old ms step.now
             → Asks config.now w past self.new (sent_from first send ms) step.now × AreServed config.now w (sent_from first send ms) step.now) }
         ensures left { OnOk result (IsLeftBy self.old self.new step.now) }
+        ensures few { IfOk result (λ send. length send ≤ config.now.n) }
     {
         let mut send = Items::new(alloc);
         self.ask_all(config, step, first, &mut send)?;

@@ -1,7 +1,7 @@
 //! What a running call keeps.
 ghost use Rattle.std.specs.Prelude.{◌≡◌, IfOk};
 
-use gz_core::{Etag, Items, Key, Phase, PutName, Row, Value, Version};
+use gz_core::{Ballot, Etag, Items, Key, Phase, PutName, Row, Value, Version};
 use std::alloc::AllocError;
 
 /// A row request that is awaited: its number, and the row that it writes if it is a write.
@@ -21,16 +21,57 @@ pub struct Mark {
     pub awaited: Option<Awaited>,
 }
 
-/// The phase of a call. `Look` reads every site; `Fast` votes in the fast ballot of a version.
-#[derive(Clone, Copy, Debug, PartialEq, Eq)]
+/// The phase of a call. `Look` reads every site; `Fast` votes in the fast ballot of a version; `Prepare` asks for
+/// promises of a classic ballot, and `Accept` votes in it for a value that the promises allow.
+#[derive(Debug, Drop)]
 pub enum Stage {
     Look,
-    Fast { version: Version },
+    Fast {
+        version: Version,
+    },
+    Prepare {
+        version: Version,
+        ballot: Ballot,
+    },
+    Accept {
+        version: Version,
+        ballot: Ballot,
+        value: Value,
+    },
+}
+
+impl Clone for Stage {
+    ghost use Rattle.std.specs.Prelude.{◌≡◌};
+
+    ghost is_clone = { λ a b. b ≡ a };
+
+    fn clone(&self) -> Result<Stage, AllocError> {
+        match self {
+            Stage::Look => Ok(Stage::Look),
+            Stage::Fast { version } => Ok(Stage::Fast { version: *version }),
+            Stage::Prepare { version, ballot } => Ok(Stage::Prepare {
+                version: *version,
+                ballot: *ballot,
+            }),
+            Stage::Accept {
+                version,
+                ballot,
+                value,
+            } => {
+                let value = value.clone()?;
+                Ok(Stage::Accept {
+                    version: *version,
+                    ballot: *ballot,
+                    value,
+                })
+            },
+        }
+    }
 }
 
 /// A running call: its name, the object's key, the value that it writes if it is a put, the last row of each
 /// site that isn't out, what else it keeps of each site, how often it was overtaken, whether it voted for its
-/// value, the part that sent its last row write, and its phase.
+/// value, the part that sent its last row write, the greatest round that its session promised, and its phase.
 #[derive(Clone, Debug, Drop)]
 pub struct Run {
     pub name: PutName,
@@ -41,6 +82,7 @@ pub struct Run {
     pub met: u32,
     pub voted: bool,
     pub wrote: Phase,
+    pub round: u32,
     pub stage: Stage,
 }
 

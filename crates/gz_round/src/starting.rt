@@ -2,6 +2,7 @@
 ghost use Rattle.std.specs.Prelude.{◌≡◌, ℕ, ◌≤◌, ◌<◌, List, [], length, slice_get, Some, None, IfOk};
 ghost use Rattle.gz_core.specs.Calls.{key_of, own_value};
 ghost use Rattle.gz_round.specs.History.{Caller, Tale};
+ghost use Rattle.gz_round.specs.Rounds.{top_rounds};
 ghost use Rattle.gz_round.specs.Following.{Ready};
 ghost use Rattle.gz_round.specs.Starting.{IsWithin, fresh_mark};
 
@@ -10,15 +11,17 @@ use gz_core::{Call, Config, Items, Key, Phase, PutName, PutValue, Row, Value};
 use std::alloc::{AllocError, Global};
 
 impl Run {
-    /// A call that has sent nothing and heard nothing.
+    /// A call that has sent nothing and heard nothing, of a session that promised ballots up to a round.
     pub fn start(
         alloc: Global,
         config: &Config,
         name: PutName,
         call: Call,
+        round: u32,
     ) -> Result<Run, AllocError>
         requires { IsWithin call }
-        ensures { IfOk result (λ run. (w : Caller) (past : List Tale) → w.name ≡ name → w.call ≡ call → Ready config.now w past run []) }
+        ensures ready { IfOk result (λ run. (w : Caller) (past : List Tale) → w.name ≡ name → w.call ≡ call → top_rounds past ≡ round → Ready config.now w past run []) }
+        ensures stage { IfOk result (λ run. run.stage ≡ Stage.Look) }
     {
         let rows = no_rows(alloc, config.n as usize)?;
         let marks = fresh_marks(alloc, config.n as usize)?;
@@ -32,6 +35,7 @@ impl Run {
             met: 0,
             voted: false,
             wrote: Phase::Look,
+            round,
             stage: Stage::Look,
         })
     }

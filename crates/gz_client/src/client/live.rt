@@ -20,6 +20,7 @@ impl Client {
             config: self.config,
             session: self.session,
             calls: self.calls,
+            round: self.round,
             run,
         })
     }

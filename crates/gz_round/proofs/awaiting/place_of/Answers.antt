@@ -1,4 +1,4 @@
-use Rattle.std.proofs.Common.{◌≡◌, ◌<◌, true, false, length, sym, ap, ◌∙◌, inl, inr, subst, refl, arith}
+use Rattle.std.proofs.Common.{◌≡◌, true, length, sym, ◌∙◌, inl, inr, subst, refl, arith}
 use Rattle.std.proofs.lemmas.Bool.{cases_eq, both_ways}
 use Rattle.std.proofs.lemmas.Option.{same_Some, slice_get_read, slice_get_within}
 use Rattle.gz_round.specs.declared.run.Mark.{Mark}

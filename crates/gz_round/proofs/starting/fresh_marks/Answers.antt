@@ -1,4 +1,4 @@
-use Rattle.std.proofs.Common.{◌≡◌, ◌+◌, None, length, ◌∙◌, ap, arith}
+use Rattle.std.proofs.Common.{◌+◌, length, ◌∙◌, ap}
 use Rattle.std.specs.List.{slice_get}
 use Rattle.std.proofs.lemmas.List.{length_push}
 use Rattle.gz_round.specs.Starting.{fresh_mark}

@@ -1,4 +1,4 @@
-use Rattle.std.proofs.Common.{◌≡◌, ◌<◌, ℕ, length, Some, None}
+use Rattle.std.proofs.Common.{◌≡◌, ◌<◌, ℕ, length, Some}
 use Rattle.std.specs.List.{slice_get}
 use Rattle.gz_round.specs.Starting.{fresh_mark}
 use Rattle.gz_round.proofs.starting.fresh_marks.Given as goal

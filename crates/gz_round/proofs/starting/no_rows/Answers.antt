@@ -1,7 +1,6 @@
-use Rattle.std.proofs.Common.{◌≡◌, ◌+◌, None, length, ◌∙◌, ap, arith}
+use Rattle.std.proofs.Common.{◌+◌, None, length, ◌∙◌, ap}
 use Rattle.std.specs.List.{slice_get}
 use Rattle.std.proofs.lemmas.List.{length_push}
-use Rattle.gz_round.specs.Starting.{fresh_mark}
 use Rattle.gz_round.proofs.Lists.{each_pushed}
 use Rattle.gz_round.proofs.starting.no_rows.Goals as goal
 

@@ -1,6 +1,5 @@
 use Rattle.std.proofs.Common.{◌≡◌, ◌<◌, ℕ, length, Some, None}
 use Rattle.std.specs.List.{slice_get}
-use Rattle.gz_round.specs.Starting.{fresh_mark}
 use Rattle.gz_round.proofs.starting.no_rows.Given as goal
 
 abbrev pub invariant-loop-site : goal.invariant-loop-site

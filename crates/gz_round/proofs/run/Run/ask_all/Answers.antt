@@ -1,5 +1,5 @@
-use Rattle.std.proofs.Common.{◌≡◌, ◌<◌, subst, arith}
-use Rattle.gz_round.proofs.Passes.{Going, going_none, going_more, going_all, inside_rows, inside_marks}
+use Rattle.std.proofs.Common.{◌≡◌, subst, arith}
+use Rattle.gz_round.proofs.Passes.{Going, going_none, going_more, going_all}
 use Rattle.gz_round.proofs.run.Run.ask_all.Goals as goal
 
 pub loop-at-init : goal.loop-at-init

@@ -1,3 +1,4 @@
+use Rattle.std.proofs.Common.{[], refl, inl}
 use Rattle.std.proofs.lemmas.Result.{IfOk-weaker}
 use Rattle.gz_round.specs.Acting.{CanFollow}
 use Rattle.gz_round.proofs.Arms.{votes_acts, learnt_put, learnt_cause}
@@ -28,4 +29,10 @@ pub returns-in_ok-answer-in-Learnt : goal.returns-in_ok-answer-in-Learnt
 returns-in_ok-answer-in-Learnt c =
     IfOk-weaker c.close.result _ _ (λ turn p. λ w past ms r going.
     let f = c.in-Learnt.ensures w past ms r in
-    p w past ms r.stands (learnt_cause c.args.config.now w past c.args.self.now ms c.in-Learnt.version c.in-Learnt.site c.in_ok-answer-in-Learnt.answer r.stands going f (c.in_ok-answer-in-Learnt.ensures f.row f.known))) c.close.ensures
+    ([], inl refl, p w past ms r.stands (learnt_cause c.args.config.now w past c.args.self.now ms c.in-Learnt.version c.in-Learnt.site c.in_ok-answer-in-Learnt.answer r.stands going f (c.in_ok-answer-in-Learnt.ensures f.row f.known)))) c.close.ensures
+
+pub returns-in-Chosen : goal.returns-in-Chosen
+returns-in-Chosen c =
+    IfOk-weaker c.finish.result _ _ (λ turn p. λ w past ms r going.
+    let n = c.in-Chosen.ensures w past ms r in
+    ([], inl refl, p w past ms (record { stands = r.stands; going = going; above = n.0; shown = n.1; own = n.2 }))) c.finish.ensures

@@ -1,4 +1,4 @@
-use Rattle.std.proofs.Common.{◌≡◌, ◌+◌, ◌∙◌, None, Some, sym, ap, subst, arith}
+use Rattle.std.proofs.Common.{◌+◌, ◌∙◌, None, Some, ap, subst, arith}
 use Rattle.gz_round.specs.Awaiting.{IsLeastFrom}
 use Rattle.gz_round.proofs.Least.{live_none, one_more, all_below, live_from}
 use Rattle.gz_round.proofs.run.Run.live_at.Goals as goal

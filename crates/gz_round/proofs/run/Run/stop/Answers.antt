@@ -1,4 +1,4 @@
-use Rattle.std.proofs.Common.{◌≡◌, ◌+◌, ◌≤◌, ◌<◌, sym, subst, arith}
+use Rattle.std.proofs.Common.{sym, subst, arith}
 use Rattle.gz_round.specs.Causes.{HasCause}
 use Rattle.gz_round.specs.Acting.{IsPlain}
 use Rattle.gz_round.proofs.Known.{outs_counted}

@@ -1,0 +1,306 @@
+-- A put prepares a ballot above every one that it knows, and that its session used.
+use Rattle.std.proofs.Common.{◌≡◌, ◌≢◌, ℕ, zero, suc, ◌+◌, ◌<◌, ◌≤◌, ◌^◌, max, Bool, true, false, cond, ◌&&◌, ◌==◌, not, List, [], ◌∷◌, Option, Some, None, is_some, refl, sym, ap, ◌∙◌, subst, inl, inr, ◌⊎◌, arith, leb}
+use Rattle.std.specs.List.{slice_get, list_any}
+use Rattle.std.specs.Prelude.{nat_lt}
+use Rattle.std.proofs.lemmas.Bool.{cases_Bool, cases_lt, cond-true, cond-false, false≢true, both_ways, or_cases, or_right, and_parts, ltb-true, eqb-true, false_from_ne_true, le-leb}
+use Rattle.std.proofs.lemmas.Bool.Decides.{nat_tests}
+use Rattle.std.proofs.lemmas.Option.{same_Some, none-some, slice_get_within}
+use Rattle.gz_core.specs.Names.{Name, BallotAt, same_ballot, same_name}
+use Rattle.gz_core.specs.Values.{name_of}
+use Rattle.gz_core.specs.Rows.{RowAt}
+use Rattle.gz_core.specs.Slots.{Slot, Gone, DecidedAs, OpenAt, slots}
+use Rattle.gz_core.specs.Counts.{count_sites}
+use Rattle.gz_core.specs.Configurations.{IsConfig}
+use Rattle.gz_core.specs.declared.configuration.Config.{Config}
+use Rattle.gz_core.specs.declared.requests.RowStep.{RowStep}
+use Rattle.gz_core.specs.declared.requests.RowStep.TheVariants.{FastVote, Promise, ClassicVote, Decide, Trim}
+use Rattle.gz_core.specs.declared.requests.Op.{Op}
+use Rattle.gz_core.specs.declared.requests.Op.TheVariants.{ReadRow, WriteRow}
+use Rattle.gz_core.proofs.Ballots.{same_means, same_from}
+use Rattle.gz_core.proofs.Counting.{count_found}
+use Rattle.gz_pick.specs.Evidences.{is_in}
+use Rattle.gz_pick.specs.Looks.{row_top, highest_of}
+use Rattle.gz_round.specs.declared.run.Run.{Run}
+use Rattle.gz_round.specs.declared.run.Stage.{Stage}
+use Rattle.gz_round.specs.declared.run.Stage.TheVariants.{Look, Fast, Prepare, Accept}
+use Rattle.gz_round.specs.History.{Moment, Sent, Handed, GaveUp, Rested, GaveIn, Caller, Tale}
+use Rattle.gz_round.specs.Sites.{SiteNow, site_now, some_heard}
+use Rattle.gz_round.specs.Sent.{promise_by, of_step, of_sent, passes_sent, some_sent, has_promised, has_promised_at, top_round, round_after}
+use Rattle.gz_round.specs.Shown.{heard_at, IsGrounded}
+use Rattle.gz_round.specs.Rounds.{MayPromise, IsUnused, Cast, cast_by, has_cast, passed_since, promises_known, above_known, round_known, slot_round, slot_promises, slot_promises_above, top_rounds, rounds_used}
+use Rattle.gz_round.specs.Sending.{NoPromise, NoRound, IsStuck, IsShort, NoEvidence, NoneAbove, AreRoundsUsedUp, AreAllowed, MayAsk, MayMake, rows_known}
+use Rattle.gz_round.specs.Counting.{known_count, IsGoing}
+use Rattle.gz_round.specs.Asking.{IsLeftBy}
+use Rattle.gz_round.specs.Standing.{Knows, Stands, StageStands, ArePassed, IsUnpromised, MayPass}
+use Rattle.gz_round.specs.Following.{Asks, AreServed, IsUnmet, HasTurned}
+use Rattle.gz_round.specs.Acting.{Prepares, RunsOut, Carries, IsBallotAbove, round_in, given_in_of, prepared_of, is_waiting, ended_of, ended_in, is_overtaken, is_overtaken_in, working_version, version_in}
+use Rattle.gz_round.proofs.Lists.{any_found}
+use Rattle.gz_round.proofs.Heard.{heard_passes}
+use Rattle.gz_round.proofs.Known.{listed_known, known_heard, known_current}
+use Rattle.gz_round.proofs.Columns.{top_highest, highest_reached}
+use Rattle.gz_round.proofs.Follows.{unvoted_clear, own_of, looks_unpromised, unpromised_from, pass_from}
+use Rattle.gz_round.proofs.Arms.{stands_stage}
+use Rattle.gz_round.proofs.Turns.{again_from, waits_from, idle_of, heard_from, quorum_known, none_passed, untaken_from}
+use Rattle.gz_round.proofs.GivingIn.{given_in_turned}
+
+-- a ballot that was promised has a round that was used
+round_passes : (o : Option (ℕ × BallotAt)) (p : (ℕ × BallotAt) → Bool) (b : BallotAt) (round : ℕ) → ((q : ℕ × BallotAt) → p q ≡ true → q.1 ≡ b) → passes_sent p o ≡ true → b.round ≤ round_after o round
+round_passes None p b round h e = absurd (false≢true e)
+round_passes (Some q) p b round h e = let same = ap (λ (d : BallotAt). d.round) (h q e) in omega arith
+
+round_grows : (o : Option (ℕ × BallotAt)) (round : ℕ) → round ≤ round_after o round
+round_grows None round = omega arith
+round_grows (Some q) round = omega arith
+
+some_round : (p : (ℕ × BallotAt) → Bool) (b : BallotAt) (ms : List Moment) → ((q : ℕ × BallotAt) → p q ≡ true → q.1 ≡ b) → some_sent promise_by p ms ≡ true → b.round ≤ top_round ms
+some_round p b [] h e = absurd (false≢true e)
+some_round p b (m ∷ ms) h e =
+    elim (or_cases (passes_sent p (of_sent promise_by m)) (some_sent promise_by p ms) e) [
+      | inl here ↦ round_passes (of_sent promise_by m) p b (top_round ms) h here
+      | inr rest ↦ omega (arith, some_round p b ms h rest, round_grows (of_sent promise_by m) (top_round ms))
+    ]
+
+pub promised_round : (ms : List Moment) (b : BallotAt) → has_promised ms b ≡ true → b.round ≤ top_round ms
+promised_round ms b e = some_round (λ p. same_ballot p.1 b) b ms (λ (q : ℕ × BallotAt) (k : same_ballot q.1 b ≡ true). same_means q.1 b k) e
+
+pub promised_round_at : (ms : List Moment) (v : ℕ) (b : BallotAt) → has_promised_at ms v b ≡ true → b.round ≤ top_round ms
+promised_round_at ms v b e = some_round (λ p. (p.0 == v) && same_ballot p.1 b) b ms (λ (q : ℕ × BallotAt) (k : ((q.0 == v) && same_ballot q.1 b) ≡ true). same_means q.1 b (and_parts (q.0 == v) (same_ballot q.1 b) k).1) e
+
+unpromised_above : (ms : List Moment) (b : BallotAt) → top_round ms < b.round → has_promised ms b ≡ false
+unpromised_above ms b l = false_from_ne_true (has_promised ms b) (λ (e : has_promised ms b ≡ true). let low = promised_round ms b e in omega arith)
+
+unused_above : (past : List Tale) (b : BallotAt) → top_rounds past < b.round → IsUnused past b
+unused_above [] b l = tt
+unused_above (tale ∷ tales) b l = (unpromised_above tale.moments b (omega arith), unused_above tales b (omega arith))
+
+cast_same : (o : Option Cast) (v : ℕ) (b : BallotAt) (y : Name) → passes_sent (λ k. (k.version == v) && same_ballot k.ballot b && same_name k.name y) o ≡ true → (k : Cast) × (o ≡ Some k) × (((k.version == v) && same_ballot k.ballot b && same_name k.name y) ≡ true)
+cast_same None v b y e = absurd (false≢true e)
+cast_same (Some k) v b y e = (k, refl, e)
+
+step_cast : (c : Config) (w : Caller) (past : List Tale) (ms : List Moment) (step : RowStep) (v : ℕ) (b : BallotAt) (y : Name) → MayMake c w past ms step → passes_sent (λ k. (k.version == v) && same_ballot k.ballot b && same_name k.name y) (cast_by step) ≡ true → has_promised_at ms v b ≡ true
+step_cast c w past ms (FastVote u x) v b y may e = absurd (false≢true e)
+step_cast c w past ms (Promise u d) v b y may e = absurd (false≢true e)
+step_cast c w past ms (ClassicVote u d x) v b y may e =
+    let outer : (((u == v) && same_ballot d b) ≡ true) × (same_name (name_of x) y ≡ true) = and_parts ((u == v) && same_ballot d b) (same_name (name_of x) y) e in
+    let both : ((u == v) ≡ true) × (same_ballot d b ≡ true) = and_parts (u == v) (same_ballot d b) outer.0 in
+    subst (λ (k : ℕ). has_promised_at ms k b ≡ true) (eqb-true u v both.0) (subst (λ (k : BallotAt). has_promised_at ms u k ≡ true) (same_means d b both.1) may.promised)
+step_cast c w past ms (Decide u x) v b y may e = absurd (false≢true e)
+step_cast c w past ms (Trim to x) v b y may e = absurd may
+
+op_cast : (c : Config) (w : Caller) (past : List Tale) (ms : List Moment) (now : SiteNow) (op : Op) (v : ℕ) (b : BallotAt) (y : Name) → MayAsk c w past ms now op → passes_sent (λ k. (k.version == v) && same_ballot k.ballot b && same_name k.name y) (of_step cast_by op) ≡ true → has_promised_at ms v b ≡ true
+op_cast c w past ms now (ReadRow key) v b y may e = absurd (false≢true e)
+op_cast c w past ms now (WriteRow key expect step row) v b y may e = step_cast c w past ms step v b y may.1.guard e
+
+-- a call votes in a classic ballot only once it has promised it
+pub cast_promised : (c : Config) (w : Caller) (past : List Tale) (ms : List Moment) (v : ℕ) (b : BallotAt) (y : Name) → AreAllowed c w past ms → has_cast ms v b y ≡ true → has_promised_at ms v b ≡ true
+cast_promised c w past [] v b y allowed e = absurd (false≢true e)
+cast_promised c w past (Sent a ∷ ms) v b y allowed e =
+    elim (or_cases (passes_sent (λ k. (k.version == v) && same_ballot k.ballot b && same_name k.name y) (of_step cast_by a.op)) (has_cast ms v b y) e) [
+      | inl here ↦ or_right (passes_sent (λ p. (p.0 == v) && same_ballot p.1 b) (of_step promise_by a.op)) (has_promised_at ms v b) (op_cast c w past ms (site_now ms a.site) a.op v b y allowed.0.asks here)
+      | inr rest ↦ or_right (passes_sent (λ p. (p.0 == v) && same_ballot p.1 b) (of_step promise_by a.op)) (has_promised_at ms v b) (cast_promised c w past ms v b y allowed.1 rest)
+    ]
+cast_promised c w past (Handed a reply ∷ ms) v b y allowed e = cast_promised c w past ms v b y allowed.1 e
+cast_promised c w past (GaveUp a ∷ ms) v b y allowed e = cast_promised c w past ms v b y allowed.1 e
+cast_promised c w past (Rested ∷ ms) v b y allowed e = cast_promised c w past ms v b y allowed.1 e
+cast_promised c w past (GaveIn ∷ ms) v b y allowed e = cast_promised c w past ms v b y allowed.1 e
+
+uncast_above : (c : Config) (w : Caller) (past : List Tale) (ms : List Moment) (v : ℕ) (b : BallotAt) (y : Name) → AreAllowed c w past ms → top_round ms < b.round → has_cast ms v b y ≡ false
+uncast_above c w past ms v b y allowed l = false_from_ne_true (has_cast ms v b y) (λ (e : has_cast ms v b y ≡ true). let low = promised_round_at ms v b (cast_promised c w past ms v b y allowed e) in omega arith)
+
+-- the rounds that rows promise are at most the greatest one
+round_listed : (v : ℕ) (rows : List (Option RowAt)) (s : ℕ) (o : Option RowAt) → slice_get rows s ≡ Some o → round_known v o ≤ round_in v rows
+round_listed v [] s o e = absurd (cc)
+round_listed v (row ∷ rows) zero o e = let same = ap (round_known v) (same_Some row o e) in omega arith
+round_listed v (row ∷ rows) (suc s) o e = omega (arith, round_listed v rows s o e)
+
+-- which is reached
+round_reached : (v : ℕ) (rows : List (Option RowAt)) → (round_in v rows ≡ 0) ⊎ ((s : ℕ) × (o : Option RowAt) × (slice_get rows s ≡ Some o) × (round_known v o ≡ round_in v rows))
+round_reached v [] = inl refl
+round_reached v (row ∷ rows) =
+    elim (cases_lt (round_known v row) (round_in v rows)) [
+      | inl l ↦ elim (round_reached v rows) [ inl e ↦ absurd (omega arith) | inr w ↦ inr (suc w.0, w.1, w.2, omega (arith, w.3)) ]
+      | inr l ↦ inr (zero, row, refl, omega arith)
+    ]
+
+low_above : (slot : Slot) (b : BallotAt) → slot_round slot < b.round → slot_promises_above slot b ≡ false
+low_above Gone b l = refl
+low_above (DecidedAs x) b l = refl
+low_above (OpenAt promise vote) b l = grind (arith, nat_tests)
+
+low_promises : (slot : Slot) (b : BallotAt) → slot_round slot < b.round → slot_promises slot b ≡ false
+low_promises Gone b l = refl
+low_promises (DecidedAs x) b l = refl
+low_promises (OpenAt promise vote) b l =
+    false_from_ne_true (slot_promises (OpenAt promise vote) b) (λ (e : (same_ballot promise b && not (is_in b vote)) ≡ true).
+    let same = ap (λ (d : BallotAt). d.round) (same_means promise b (and_parts (same_ballot promise b) (not (is_in b vote)) e).0) in
+    omega arith)
+
+low_listed : (c : Config) (run : Run) (ms : List Moment) (v : ℕ) (b : BallotAt) (s : ℕ) (row : RowAt) → Knows c run ms → round_in v run.rows < b.round → s < c.n → rows_known ms s ≡ Some row → slot_round (slots row v) < b.round
+low_listed c run ms v b s row k l i e = omega (arith, round_listed v run.rows s (Some row) (k.rows s i ∙ ap (λ o. Some o) e))
+
+-- no known row promises a ballot above the new one
+pub none_above_new : (c : Config) (run : Run) (ms : List Moment) (v : ℕ) (b : BallotAt) → Knows c run ms → round_in v run.rows < b.round → NoneAbove c ms v b
+none_above_new c run ms v b k l s row i e = low_above (slots row v) b (low_listed c run ms v b s row k l i e)
+
+known_low : (c : Config) (run : Run) (ms : List Moment) (v : ℕ) (b : BallotAt) (s : ℕ) (o : Option RowAt) → Knows c run ms → round_in v run.rows < b.round → s < c.n → rows_known ms s ≡ o → promises_known v b o ≡ false
+known_low c run ms v b s None k l i e = refl
+known_low c run ms v b s (Some row) k l i e = low_promises (slots row v) b (low_listed c run ms v b s row k l i e)
+
+-- and none promises the new one
+short_new : (c : Config) (run : Run) (ms : List Moment) (v : ℕ) (b : BallotAt) → IsConfig c → Knows c run ms → round_in v run.rows < b.round → IsShort c ms v b
+short_new c run ms v b config k l =
+    elim (cases_lt 0 (count_sites c.n (λ s. promises_known v b (rows_known ms s)))) [
+      | inl some ↦ (let w = count_found c.n (λ s. promises_known v b (rows_known ms s)) some in absurd (both_ways (promises_known v b (rows_known ms w.0)) (known_low c run ms v b w.0 (rows_known ms w.0) k l w.1 refl) w.2))
+      | inr none ↦ (let q = config.quorums in omega (arith, config.some, q.majority))
+    ]
+
+-- what is kept while the new ballot is promised
+pub prepared_asks : (c : Config) (w : Caller) (past : List Tale) (run : Run) (ms : List Moment) (v : ℕ) (b : BallotAt) → Prepares c w past run ms v → IsBallotAbove run v b → Asks c w past (record run { stage = Prepare v b }) ms (Some (Promise v b))
+prepared_asks c w past run ms v b p n =
+    let round = n.round in
+    let used = p.stands.round_is in
+    let promise : MayPromise c w past ms v b = record {
+      above = p.pass.above;
+      classic = n.classic;
+      session = n.session ∙ ap (λ (x : Name). x.session) p.stands.name_is;
+      unused = unused_above past b (omega arith);
+      own = inl (unpromised_above ms b (omega arith));
+      grounded = p.grounded;
+      passed = λ (d : BallotAt) (k : d ≢ b) (e : has_promised_at ms v d ≡ true). p.passed d e;
+    } in
+    record {
+      stands = stands_stage c w past run ms (Prepare v b) p.stands;
+      may = promise;
+      held = (record { works = record { promise = promise; pass = p.pass }; uncast = λ (y : Name). uncast_above c w past ms v b y p.stands.allowed (omega arith); used = inr (omega arith) }, none_above_new c run ms v b p.stands.knows (omega arith));
+    }
+
+-- once the new ballot was promised at each site that takes it, the call waits, or gives in
+pub prepared_turned : (c : Config) (w : Caller) (past : List Tale) (run new : Run) (ms : List Moment) (v : ℕ) (b : BallotAt) (ns : List Moment) → IsConfig c → Prepares c w past run ms v → IsBallotAbove run v b → IsGoing c ns → NoEvidence c ns v →
+    Asks c w past new ns (Some (Promise v b)) → AreServed c w ns (Some (Promise v b)) → IsLeftBy (record run { stage = Prepare v b }) new (Some (Promise v b)) → HasTurned c w past new ns (prepared_of new)
+prepared_turned c w past run new ms v b ns config p n going none asks served left =
+    let round = n.round in
+    let low : round_in v new.rows < b.round = let same = ap (round_in v) left.rows in omega arith in
+    let k : Stands c w past new ns = asks.stands in
+    elim (cases_Bool (is_waiting new)) [
+      | inl e ↦ subst (HasTurned c w past new ns) (sym (cond-true (is_waiting new) None (Some (given_in_of new)) e))
+          ([], inl refl, record { stands = k; stage = subst (λ st. StageStands c w past st ns) (sym left.stage) (asks.held.0, none_passed c ns v b asks.held.1); again = again_from c w ns (Some (Promise v b)) served; going = going; waits = waits_from c new ns k.knows e })
+      | inr e ↦ (
+          let idle : (s : ℕ) → s < c.n → (site_now ns s).awaits ≡ None = λ (s : ℕ) (l : s < c.n). idle_of c new ns s (site_now ns s).awaits k.knows e l refl in
+          let stuck : IsStuck c ns v b (Promise v b) = record { idle = idle; heard = heard_from c w ns (Some (Promise v b)) served idle; undecided = none; untaken = untaken_from c w ns (Promise v b) refl served idle; none_above = none_above_new c new ns v b k.knows low } in
+          subst (HasTurned c w past new ns) (sym (cond-false (is_waiting new) None (Some (given_in_of new)) e))
+          (given_in_turned c w past new ns config k going (NoPromise v b asks.may stuck (short_new c new ns v b config k.knows low))))
+    ]
+
+used_up : (c : Config) (past : List Tale) (run : Run) (ms : List Moment) (v : ℕ) → Knows c run ms → run.round ≡ rounds_used past ms → 2 ^ 31 ≤ max run.round (round_in v run.rows) + 1 → AreRoundsUsedUp c past ms v
+used_up c past run ms v k e l =
+    elim (cases_lt run.round (round_in v run.rows)) [
+      | inr high ↦ inl (omega arith)
+      | inl low ↦ elim (round_reached v run.rows) [
+        | inl zero_is ↦ absurd (omega arith)
+        | inr w ↦ (
+            let inside : w.0 < c.n = let len = k.rows_len in omega (arith, slice_get_within run.rows w.0 w.1 w.2) in
+            let same : rows_known ms w.0 ≡ w.1 = same_Some (rows_known ms w.0) w.1 (sym (k.rows w.0 inside) ∙ w.2) in
+            let round = ap (round_known v) same in
+            inr (w.0, inside, omega (arith, w.3, round)))
+      ]
+    ]
+
+-- no round is left
+pub spent_turned : (c : Config) (w : Caller) (past : List Tale) (run : Run) (ms : List Moment) (v : ℕ) → IsConfig c → Prepares c w past run ms v → 2 ^ 31 ≤ max run.round (round_in v run.rows) + 1 → HasTurned c w past run ms (Some (given_in_of run))
+spent_turned c w past run ms v config p l = given_in_turned c w past run ms config p.stands p.going (NoRound v p.none (used_up c past run ms v p.stands.knows p.stands.round_is l))
+
+count_step : (b : Bool) (k : ℕ) → k ≤ cond b (suc k) k
+count_step true k = omega arith
+count_step false k = omega arith
+
+one_more : (n s : ℕ) (p : ℕ → Bool) → p s ≡ true → (s ≡ n) ⊎ (1 ≤ count_sites n p) → 1 ≤ count_sites (suc n) p
+one_more n s p e (inl same) = let here : p n ≡ true = subst (λ (k : ℕ). p k ≡ true) same e in let count : count_sites (suc n) p ≡ suc (count_sites n p) = cond-true (p n) (suc (count_sites n p)) (count_sites n p) here in omega arith
+one_more n s p e (inr some) = let grows = count_step (p n) (count_sites n p) in omega arith
+
+count_one : (n : ℕ) (p : ℕ → Bool) (s : ℕ) → s < n → p s ≡ true → 1 ≤ count_sites n p
+count_one zero p s l e = absurd (omega arith)
+count_one (suc n) p s l e = one_more n s p e (elim (cases_lt s n) [ inl low ↦ inr (count_one n p s low e) | inr high ↦ inl (omega arith) ])
+
+heard_one : (c : Config) (p : RowAt → Bool) (ms : List Moment) (s : ℕ) (row : RowAt) → s < c.n → rows_known ms s ≡ Some row → p row ≡ true → 1 ≤ heard_at c p ms
+heard_one c p ms s row l e h = count_one c.n (some_heard p ms) s l (heard_passes p ms s row (known_heard ms s row e) h)
+
+unpromised_passed : (ms : List Moment) (v u : ℕ) → v ≤ u → IsUnpromised ms v → (d : BallotAt) → has_promised_at ms u d ≡ true → passed_since u d ms ≡ true
+unpromised_passed ms v u l h d e = absurd (both_ways (has_promised_at ms u d) (h u d l) e)
+
+ended_prepares : (c : Config) (w : Caller) (past : List Tale) (run : Run) (ms : List Moment) (stage : Stage) → run.stage ≡ stage → RunsOut c w past run ms → ended_in run stage ≡ None → Prepares c w past run ms (version_in stage (highest_of run.rows))
+ended_prepares c w past run ms Look at r e =
+    elim (cases_Bool (is_some run.own)) [
+      | inr none ↦ absurd (none-some _ (sym (sym (cond-false (is_some run.own) None _ none) ∙ e)))
+      | inl own ↦ (
+          let s : StageStands c w past Look ms = subst (λ st. StageStands c w past st ms) at r.stage in
+          let above : 1 ≤ highest_of run.rows = subst (λ st. 1 ≤ version_in st (highest_of run.rows)) at r.above in
+          let none : NoEvidence c ms (highest_of run.rows) = subst (λ st. NoEvidence c ms (version_in st (highest_of run.rows))) at r.none in
+          let enough : c.qc ≤ known_count c ms = quorum_known c ms r.heard r.going.enough in
+          let unpromised : IsUnpromised ms 0 = looks_unpromised ms 0 s.1 in
+          let pass : MayPass c w ms (highest_of run.rows) = record {
+            above = above;
+            current = known_current c run ms r.stands.knows (highest_of run.rows) enough (λ (site : ℕ) (row : RowAt) (k : slice_get run.rows site ≡ Some (Some row)). top_highest run.rows site row k);
+            clear = unvoted_clear c w.name ms (highest_of run.rows) s.0;
+            own = own_of c w past run ms r.stands own;
+            later = unpromised_from ms 0 (highest_of run.rows + 1) (omega arith) unpromised;
+          } in
+          let grounded : IsGrounded c ms (highest_of run.rows) = elim (highest_reached run.rows) [
+            | inl zero_is ↦ absurd (omega arith)
+            | inr k ↦ (
+                let inside : k.0 < c.n = let len = r.stands.knows.rows_len in omega (arith, slice_get_within run.rows k.0 (Some k.1) k.2) in
+                let top = k.3 in
+                inr (heard_one c (λ row. leb (highest_of run.rows) (row_top row)) ms k.0 k.1 inside (listed_known c run ms r.stands.knows k.0 k.1 inside k.2) (le-leb (highest_of run.rows) (row_top k.1) (omega arith))))
+          ] in
+          record { stands = r.stands; going = r.going; pass = pass; grounded = grounded; passed = unpromised_passed ms 0 (highest_of run.rows) (omega arith) unpromised; none = none })
+    ]
+ended_prepares c w past run ms (Fast v) at r e =
+    let s : StageStands c w past (Fast v) ms = subst (λ st. StageStands c w past st ms) at r.stage in
+    let none : NoEvidence c ms v = subst (λ st. NoEvidence c ms (version_in st (highest_of run.rows))) at r.none in
+    record { stands = r.stands; going = r.going; pass = pass_from c w ms v s.0 s.1 s.2; grounded = inl s.0.next; passed = unpromised_passed ms v v (omega arith) s.2; none = none }
+ended_prepares c w past run ms (Prepare v b) at r e = absurd (none-some _ (sym e))
+ended_prepares c w past run ms (Accept v b x) at r e = absurd (none-some _ (sym e))
+
+-- a put prepares once its first phases ended
+pub out_prepares : (c : Config) (w : Caller) (past : List Tale) (run : Run) (ms : List Moment) → RunsOut c w past run ms → ended_of run ≡ None → Prepares c w past run ms (working_version run)
+out_prepares c w past run ms r e = ended_prepares c w past run ms run.stage refl r e
+
+passed_row : (c : Config) (ms : List Moment) (v : ℕ) (b : BallotAt) (s : ℕ) (o : Option RowAt) → s < c.n → rows_known ms s ≡ o → ArePassed c ms v b → above_known v b o ≡ true → passed_since v b ms ≡ true
+passed_row c ms v b s None l e passed h = absurd (false≢true h)
+passed_row c ms v b s (Some row) l e passed h = passed s row l e h
+
+passed_by : (c : Config) (w : Caller) (past : List Tale) (run : Run) (ms : List Moment) (v : ℕ) (b d : BallotAt) → Stands c w past run ms → MayPromise c w past ms v b → ArePassed c ms v b → (run.round < b.round) ⊎ (list_any (above_known v b) run.rows ≡ true) → has_promised_at ms v d ≡ true → passed_since v d ms ≡ true
+passed_by c w past run ms v b d h may passed why e =
+    elim (cases_Bool (same_ballot d b)) [
+      | inr apart ↦ may.passed d (λ (k : d ≡ b). both_ways (same_ballot d b) apart (same_from d b k)) e
+      | inl same ↦ subst (λ (k : BallotAt). passed_since v k ms ≡ true) (sym (same_means d b same)) (elim why [
+        | inl l ↦ (
+            let low = promised_round_at ms v d e in
+            let round = ap (λ (k : BallotAt). k.round) (same_means d b same) in
+            let used = h.round_is in
+            absurd (omega arith))
+        | inr some ↦ (
+            let w = any_found (above_known v b) run.rows some in
+            let inside : w.0 < c.n = let len = h.knows.rows_len in omega (arith, slice_get_within run.rows w.0 w.1 w.2) in
+            let there : rows_known ms w.0 ≡ w.1 = same_Some (rows_known ms w.0) w.1 (sym (h.knows.rows w.0 inside) ∙ w.2) in
+            passed_row c ms v b w.0 w.1 inside there passed w.3)
+      ])
+    ]
+
+lost_prepares : (c : Config) (w : Caller) (past : List Tale) (run : Run) (ms : List Moment) (stage : Stage) → run.stage ≡ stage → Carries c w past run ms → is_overtaken_in run stage ≡ true → Prepares c w past run ms (version_in stage (highest_of run.rows))
+lost_prepares c w past run ms Look at p e = absurd (false≢true e)
+lost_prepares c w past run ms (Fast v) at p e = absurd (false≢true e)
+lost_prepares c w past run ms (Prepare v b) at p e =
+    let h = p.acts.ready.stands in
+    let s : StageStands c w past (Prepare v b) ms = subst (λ st. StageStands c w past st ms) at p.acts.ready.stage in
+    let none : NoEvidence c ms v = subst (λ st. IsUnmet c run st ms) at p.acts.unmet in
+    let why : (run.round < b.round) ⊎ (list_any (above_known v b) run.rows ≡ true) = elim (or_cases (nat_lt run.round b.round) (list_any (above_known v b) run.rows) e) [ inl l ↦ inl (ltb-true run.round b.round l) | inr k ↦ inr k ] in
+    record { stands = h; going = p.acts.going; pass = s.0.works.pass; grounded = s.0.works.promise.grounded; passed = λ (d : BallotAt) (k : has_promised_at ms v d ≡ true). passed_by c w past run ms v b d h s.0.works.promise s.1 why k; none = none }
+lost_prepares c w past run ms (Accept v b x) at p e =
+    let h = p.acts.ready.stands in
+    let s : StageStands c w past (Accept v b x) ms = subst (λ st. StageStands c w past st ms) at p.acts.ready.stage in
+    let none : NoEvidence c ms v = subst (λ st. IsUnmet c run st ms) at p.acts.unmet in
+    record { stands = h; going = p.acts.going; pass = s.1.pass; grounded = s.1.promise.grounded; passed = λ (d : BallotAt) (k : has_promised_at ms v d ≡ true). passed_by c w past run ms v b d h s.1.promise s.2 (inr e) k; none = none }
+
+-- a put prepares again where its ballot leads no further
+pub overtaken_prepares : (c : Config) (w : Caller) (past : List Tale) (run : Run) (ms : List Moment) → Carries c w past run ms → is_overtaken run ≡ true → Prepares c w past run ms (working_version run)
+overtaken_prepares c w past run ms p e = lost_prepares c w past run ms run.stage refl p e

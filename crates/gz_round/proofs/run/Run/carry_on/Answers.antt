@@ -1,0 +1,22 @@
+use Rattle.std.proofs.Common.{sym, subst}
+use Rattle.std.proofs.lemmas.Result.{IfOk-weaker}
+use Rattle.gz_round.specs.History.{sent_from}
+use Rattle.gz_round.specs.Acting.{CanCarry, Prepares}
+use Rattle.gz_round.proofs.Prepares.{overtaken_prepares}
+use Rattle.gz_round.proofs.run.Run.carry_on.Goals as goal
+
+pub prepare-requires-clause-prepares : goal.prepare-requires-clause-prepares
+prepare-requires-clause-prepares c =
+    let k : CanCarry c.args.config.now c.args.self.now = c.requires.carries in (
+      k.0,
+      k.1,
+      k.2,
+      subst (λ outs. Prepares c.args.config.now k.0 k.1 c.args.self.now (sent_from c.args.first outs k.2) c.working-version.result) (sym c.new.ensures)
+          (subst (Prepares c.args.config.now k.0 k.1 c.args.self.now k.2) (sym c.working-version.ensures) (overtaken_prepares c.args.config.now k.0 k.1 c.args.self.now k.2 k.3 (cc))),
+    )
+
+pub returns-then-is_overtaken : goal.returns-then-is_overtaken
+returns-then-is_overtaken c =
+    IfOk-weaker c.prepare.result _ _ (λ turn h. λ w past ms p.
+    h w past ms (subst (λ outs. Prepares c.args.config.now w past c.args.self.now (sent_from c.args.first outs ms) c.working-version.result) (sym c.new.ensures)
+    (subst (Prepares c.args.config.now w past c.args.self.now ms) (sym c.working-version.ensures) (overtaken_prepares c.args.config.now w past c.args.self.now ms p (cc))))) c.prepare.ensures

@@ -1,0 +1,31 @@
+use Rattle.std.proofs.lemmas.Result.{IfOk-weaker}
+use Rattle.gz_round.specs.Acting.{CanStep}
+use Rattle.gz_round.proofs.Turns.{steps_ask, stepped_from, stepped_runs, stepped_out}
+use Rattle.gz_round.proofs.run.Run.make_step.Goals as goal
+
+pub returns-then-waits : goal.returns-then-waits
+returns-then-waits c = λ w past ms p.
+    stepped_runs c.args.config.now w past c.first_pass.new.self _ c.in_ok-step.step (stepped_from c.args.config.now w past c.args.self.now c.first_pass.new.self ms c.args.first c.in_ok-send.send c.in_ok-step.step p c.in_ok-step.ensures (c.in_ok-send.ensures.asked w past ms) c.in_ok-send.ensures.left) (cc)
+
+pub run_out-requires-clause-runs_out : goal.run_out-requires-clause-runs_out
+run_out-requires-clause-runs_out c =
+    let k : CanStep c.args.config.now c.args.self.now = c.requires.steps in (
+      k.0,
+      k.1,
+      k.2,
+      stepped_out c.args.config.now k.0 k.1 c.args.self.now c.first_pass.new.self k.2 c.args.first c.in_ok-send.send c.in_ok-step.step k.3 c.in_ok-step.ensures c.in_ok-send.ensures.left
+          (stepped_from c.args.config.now k.0 k.1 c.args.self.now c.first_pass.new.self k.2 c.args.first c.in_ok-send.send c.in_ok-step.step k.3 c.in_ok-step.ensures (c.in_ok-send.ensures.asked k.0 k.1 k.2) c.in_ok-send.ensures.left)
+          (cc),
+    )
+
+pub first_pass-requires-clause-asks : goal.first_pass-requires-clause-asks
+first_pass-requires-clause-asks c =
+    let k : CanStep c.args.config.now c.args.self.now = c.requires.steps in
+    (k.0, k.1, k.2, steps_ask c.args.config.now k.0 k.1 c.args.self.now k.2 c.in_ok-step.step k.3 c.in_ok-step.ensures)
+
+pub returns : goal.returns
+returns c =
+    IfOk-weaker c.run_out.result _ _ (λ turn h. λ w past ms p.
+    h w past ms (stepped_out c.args.config.now w past c.args.self.now c.first_pass.new.self ms c.args.first c.in_ok-send.send c.in_ok-step.step p c.in_ok-step.ensures c.in_ok-send.ensures.left
+    (stepped_from c.args.config.now w past c.args.self.now c.first_pass.new.self ms c.args.first c.in_ok-send.send c.in_ok-step.step p c.in_ok-step.ensures (c.in_ok-send.ensures.asked w past ms) c.in_ok-send.ensures.left)
+    (cc))) c.run_out.ensures

@@ -1,0 +1,20 @@
+use Rattle.std.proofs.Common.{sym, subst}
+use Rattle.std.proofs.lemmas.Result.{IfOk-weaker}
+use Rattle.gz_round.specs.History.{sent_from}
+use Rattle.gz_round.specs.Acting.{CanRunOut, Prepares}
+use Rattle.gz_round.proofs.GivingIn.{ended_turned}
+use Rattle.gz_round.proofs.Prepares.{out_prepares}
+use Rattle.gz_round.proofs.run.Run.run_out.Goals as goal
+
+pub returns-in-Some : goal.returns-in-Some
+returns-in-Some c = λ w past ms r. ended_turned c.args.config.now w past c.args.self.now (sent_from c.args.first c.args.send ms) c.in-Some.answer c.requires.config r (sym c.in-Some.ensures)
+
+pub prepare-requires-clause-prepares : goal.prepare-requires-clause-prepares
+prepare-requires-clause-prepares c =
+    let k : CanRunOut c.args.config.now c.args.self.now c.args.first c.args.send = c.requires.runs_out in
+    (k.0, k.1, k.2, subst (Prepares c.args.config.now k.0 k.1 c.args.self.now (sent_from c.args.first c.args.send k.2)) (sym c.working-version.ensures) (out_prepares c.args.config.now k.0 k.1 c.args.self.now (sent_from c.args.first c.args.send k.2) k.3 (sym c.in-None.ensures)))
+
+pub returns-in-None : goal.returns-in-None
+returns-in-None c =
+    IfOk-weaker c.prepare.result _ _ (λ turn h. λ w past ms r.
+    h w past ms (subst (Prepares c.args.config.now w past c.args.self.now (sent_from c.args.first c.args.send ms)) (sym c.working-version.ensures) (out_prepares c.args.config.now w past c.args.self.now (sent_from c.args.first c.args.send ms) r (sym c.in-None.ensures)))) c.prepare.ensures

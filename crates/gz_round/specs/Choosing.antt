@@ -1,0 +1,43 @@
+-- The value that is proposed in a classic ballot, by the rows that promise it.
+use Rattle.std.specs.Prelude.{ℕ, ◌≡◌, ◌<◌, ◌⊎◌, ◌&&◌, not, if◌then◌else◌, List, length, take, slice_get, count_by, Option, Some, None}
+use Rattle.std.specs.List.{All}
+use Rattle.gz_core.specs.Names.{Name, BallotAt, same_ballot}
+use Rattle.gz_core.specs.Rows.{RowAt}
+use Rattle.gz_core.specs.Slots.{Slot, Gone, DecidedAs, OpenAt, slots}
+use Rattle.gz_core.specs.declared.values.Value.{Value}
+use Rattle.gz_core.specs.declared.configuration.Config.{Config}
+use Rattle.gz_pick.specs.Evidences.{is_in}
+use Rattle.gz_pick.specs.Choices.{pick_of, AreSites}
+use Rattle.gz_pick.specs.declared.heard.Heard.{Heard}
+use Rattle.gz_pick.specs.declared.heard.Pick.TheVariants.{Forced, Free}
+use Rattle.gz_round.specs.declared.run.Run.{Run}
+use Rattle.gz_round.specs.Rounds.{promises_known}
+use Rattle.gz_round.specs.Causes.{row_value}
+
+-- the vote of a slot that promises a ballot without a vote of it, none where it is not such a slot
+abbrev pub slot_vote : BallotAt → Slot → Option (Option (BallotAt × Name))
+slot_vote b Gone = None
+slot_vote b (DecidedAs x) = None
+slot_vote b (OpenAt promise vote) = if same_ballot promise b && not (is_in b vote) then Some vote else None
+
+-- the same of a row that may be unknown
+abbrev pub heard_vote : ℕ → BallotAt → Option RowAt → Option (Option (BallotAt × Name))
+heard_vote v b None = None
+heard_vote v b (Some row) = slot_vote b (slots row v)
+
+-- the row of a site promises the ballot, with this vote
+abbrev pub IsHeardIn : List (Option RowAt) → ℕ → BallotAt → Heard → Type 0
+IsHeardIn rows v b h = (row : RowAt) × (slice_get rows h.site ≡ Some (Some row)) × (slot_vote b (slots row v) ≡ Some h.vote)
+
+-- all rows below a place that promise the ballot
+pub record AreHeardIn (c : Config) (rows : List (Option RowAt)) (v : ℕ) (b : BallotAt) (heard : List Heard) (at : ℕ) : Type 0 where
+  pub sites : AreSites c.n heard
+  pub below : All (λ (h : Heard). h.site < at) heard
+  pub rows_are : All (IsHeardIn rows v b) heard
+  pub counted : length heard ≡ count_by (promises_known v b) (take at rows)
+
+-- the value is the one that the votes force, and the call's own where they force none
+abbrev pub IsProposed : Config → Run → ℕ → List Heard → Value → Type 0
+IsProposed c run v heard x =
+    ((pick_of c.n c.qf heard ≡ Free) × (run.own ≡ Some x))
+    ⊎ ((at : ℕ) × (h : Heard) × (row : RowAt) × (pick_of c.n c.qf heard ≡ Forced at) × (slice_get heard at ≡ Some h) × (slice_get run.rows h.site ≡ Some (Some row)) × (row_value row v ≡ Some x))

@@ -1,0 +1,158 @@
+//! How a put goes on by a classic ballot, where a phase ended without its goal. (Lamport 2006, "Fast Paxos", section 2.2.)
+ghost use Rattle.std.specs.Prelude.{◌≡◌, ◌≤◌, ◌<◌, ◌+◌, ◌^◌, if◌then◌else◌, List, [], length, Some, None, is_some, IfOk};
+ghost use Rattle.gz_core.specs.declared.calls.Answer.TheVariants.{Unsettled};
+ghost use Rattle.gz_pick.specs.Looks.{highest_of};
+ghost use Rattle.gz_core.specs.Configurations.{IsConfig};
+ghost use Rattle.gz_round.specs.History.{Moment, Caller, Tale, sent_from};
+ghost use Rattle.gz_round.specs.Following.{HasTurned};
+ghost use Rattle.gz_round.specs.Acting.{Steps, CanStep, RunsOut, CanRunOut, Prepares, CanPrepare, IsNextBallot, given_in_of, ended_of, prepared_of, is_overtaken};
+
+use crate::run::{Run, Stage};
+use gz_core::{Answer, Ballot, Config, Items, Out, RowStep, Turn, UnsureWhy, Version};
+use gz_pick::highest;
+use std::alloc::{AllocError, Global};
+
+impl Run {
+    /// Each site is asked for the step of the phase. Where nothing is awaited then, the phase has ended without its
+    /// goal.
+    pub fn make_step(
+        &mut self,
+        alloc: Global,
+        config: &Config,
+        first: u32,
+    ) -> Result<Turn, AllocError>
+        requires config { IsConfig config.now }
+        requires first { first < 2 ^ 31 }
+        requires steps { CanStep config.now self.old }
+        ensures { IfOk result (λ turn. (w : Caller) (past : List Tale) (ms : List Moment) → Steps config.now w past self.old ms
+            → HasTurned config.now w past self.new (sent_from first turn.send ms) turn.answer) }
+    {
+        let step = self.step()?;
+        let send = self.first_pass(alloc, config, &step, first)?;
+        if self.waits() {
+            return Ok(Turn { send, answer: None });
+        }
+        self.run_out(config, first, send)
+    }
+
+    /// A phase that ended without its goal: a put prepares a classic ballot after `Look` and `Fast`; a get ends as
+    /// unsettled; where a classic ballot leads no further, every site goes out.
+    fn run_out(&mut self, config: &Config, first: u32, send: Items<Out>) -> Result<Turn, AllocError>
+        requires config { IsConfig config.now }
+        requires first { first < 2 ^ 31 }
+        requires few { length send ≤ 16 }
+        requires runs_out { CanRunOut config.now self.old first send }
+        ensures { IfOk result (λ turn. (w : Caller) (past : List Tale) (ms : List Moment) → RunsOut config.now w past self.old (sent_from first send ms)
+            → HasTurned config.now w past self.new (sent_from first turn.send ms) turn.answer) }
+    {
+        match self.ended() {
+            Some(answer) => Ok(Turn {
+                send,
+                answer: Some(answer),
+            }),
+            None => {
+                let version = self.working();
+                self.prepare(config, first, version, send)
+            },
+        }
+    }
+
+    /// The answer of a call whose phase ended without its goal, none where a put prepares.
+    fn ended(&self) -> Option<Answer>
+        ensures { result ≡ ended_of self.now }
+    {
+        match &self.stage {
+            Stage::Look => self.unsettled(),
+            Stage::Fast { .. } => None,
+            Stage::Prepare { .. } => Some(self.given_in()),
+            Stage::Accept { .. } => Some(self.given_in()),
+        }
+    }
+
+    /// The answer of a get that can't tell; a put goes on.
+    fn unsettled(&self) -> Option<Answer>
+        ensures { result ≡ (if is_some self.now.own then None else Some (Unsettled (highest_of self.now.rows))) }
+    {
+        if self.own.is_some() {
+            None
+        } else {
+            Some(Answer::Unsettled {
+                version: highest(self.rows.as_slice()),
+            })
+        }
+    }
+
+    /// The answer of a call of which every site goes out.
+    fn given_in(&self) -> Answer
+        ensures { result ≡ given_in_of self.now }
+    {
+        let phase = self.wrote;
+        if self.voted {
+            Answer::Unsure {
+                why: UnsureWhy::NoQuorum { phase, heard: 0 },
+            }
+        } else {
+            Answer::NoQuorum { phase, heard: 0 }
+        }
+    }
+
+    /// Prepares a ballot at a version, after the requests that the event sends already.
+    pub fn prepare(
+        &mut self,
+        config: &Config,
+        first: u32,
+        version: Version,
+        send: Items<Out>,
+    ) -> Result<Turn, AllocError>
+        requires config { IsConfig config.now }
+        requires first { first < 2 ^ 31 }
+        requires few { length send ≤ 16 }
+        requires prepares { CanPrepare config.now self.old first send version }
+        ensures { IfOk result (λ turn. (w : Caller) (past : List Tale) (ms : List Moment) → Prepares config.now w past self.old (sent_from first send ms) version
+            → HasTurned config.now w past self.new (sent_from first turn.send ms) turn.answer) }
+    {
+        match self.next_ballot(version) {
+            None => Ok(Turn {
+                send,
+                answer: Some(self.given_in()),
+            }),
+            Some(ballot) => self.promise(config, first, version, ballot, send),
+        }
+    }
+
+    /// Asks each site to promise a new ballot.
+    fn promise(
+        &mut self,
+        config: &Config,
+        first: u32,
+        version: Version,
+        ballot: Ballot,
+        send: Items<Out>,
+    ) -> Result<Turn, AllocError>
+        requires config { IsConfig config.now }
+        requires first { first < 2 ^ 31 }
+        requires few { length send ≤ 16 }
+        requires prepares { CanPrepare config.now self.old first send version }
+        requires ballot { IsNextBallot self.old version (Some ballot) }
+        ensures { IfOk result (λ turn. (w : Caller) (past : List Tale) (ms : List Moment) → Prepares config.now w past self.old (sent_from first send ms) version
+            → HasTurned config.now w past self.new (sent_from first turn.send ms) turn.answer) }
+    {
+        self.stage = Stage::Prepare { version, ballot };
+        let step = Some(RowStep::Promise { version, ballot });
+        let mut send = send;
+        self.ask_all(config, &step, first, &mut send)?;
+        let answer = self.prepared();
+        Ok(Turn { send, answer })
+    }
+
+    /// What is left once a ballot was prepared at every site that takes it: to wait, or to give in.
+    fn prepared(&self) -> Option<Answer>
+        ensures { result ≡ prepared_of self.now }
+    {
+        if self.waits() {
+            None
+        } else {
+            Some(self.given_in())
+        }
+    }
+}

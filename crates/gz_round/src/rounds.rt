@@ -1,0 +1,142 @@
+//! The rounds of classic ballots: which one comes next, and when one leads no further.
+ghost use Rattle.std.specs.Prelude.{◌≡◌, ◌≤◌, ◌<◌, ◌+◌, ◌^◌, ◌&&◌, nat_lt, nat_le, max};
+ghost use Rattle.std.specs.List.{list_any, count_by};
+ghost use Rattle.gz_core.specs.Rows.{column_in};
+ghost use Rattle.gz_core.specs.Slots.{slots, slot_of};
+ghost use Rattle.gz_round.specs.Rounds.{round_known, above_known, promises_known, slot_round, promises_above, slot_promises_above, slot_promises};
+ghost use Rattle.gz_round.specs.Acting.{round_in, is_overtaken, IsNextBallot};
+
+use crate::run::{Run, Stage};
+use gz_core::{Ballot, Column, Row, Version, Vote};
+
+/// The rounds that a run reaches lie below this one.
+const ROUNDS: u32 = 1 << 31;
+
+/// The greater of two rounds.
+pub fn later_of(a: u32, b: u32) -> u32
+    ensures { result ≡ max a b }
+{
+    if a < b { b } else { a }
+}
+
+impl Run {
+    /// The ballot to prepare at a version: one round above those that the session used, and those that known rows
+    /// promise there. None where no round is left.
+    pub fn next_ballot(&self, version: Version) -> Option<Ballot>
+        ensures { IsNextBallot self.now version result }
+    {
+        let top = later_of(self.round, top_round(self.rows.as_slice(), version));
+        if top >= ROUNDS - 1 {
+            return None;
+        }
+        Some(Ballot {
+            round: top + 1,
+            session: self.name.session_number(),
+        })
+    }
+
+    /// Whether the ballot of the phase leads no further: a known row promises one above, or the call never
+    /// promised it.
+    pub fn is_overtaken(&self) -> bool
+        ensures { result ≡ is_overtaken self.now }
+    {
+        match &self.stage {
+            Stage::Look => false,
+            Stage::Fast { .. } => false,
+            Stage::Prepare { version, ballot } => {
+                self.round < ballot.round || any_above(self.rows.as_slice(), *version, *ballot)
+            },
+            Stage::Accept {
+                version,
+                ballot,
+                ..
+            } => any_above(self.rows.as_slice(), *version, *ballot),
+        }
+    }
+}
+
+/// The greatest round that known rows promise at a version.
+fn top_round(rows: &[Option<Row>], version: Version) -> u32
+    ensures { result ≡ round_in version rows.now }
+{
+    let mut top = 0;
+    for row in rows {
+        top = later_of(top, round_at(row, version));
+    }
+    top
+}
+
+/// The round that a row promises at a version.
+fn round_at(row: &Option<Row>, version: Version) -> u32
+    ensures { result ≡ round_known version row.now }
+{
+    match row {
+        None => 0,
+        Some(row) => round_of_row(row, version),
+    }
+}
+
+fn round_of_row(row: &Row, version: Version) -> u32
+    ensures { result ≡ slot_round (slots row.now version) }
+{
+    if is_collected(row, version) {
+        return 0;
+    }
+    match row.column(version) {
+        None => 0,
+        Some(column) => round_of_column(column),
+    }
+}
+
+fn round_of_column(column: &Column) -> u32
+    ensures { result ≡ slot_round (slot_of (Some column.now)) }
+{
+    match column {
+        Column::Open { promise, .. } => promise.round,
+        Column::Decided { .. } => 0,
+    }
+}
+
+/// Whether a version of a row was collected.
+pub fn is_collected(row: &Row, version: Version) -> bool
+    ensures { result ≡ (nat_lt 0 row.now.floor && nat_le version row.now.floor) }
+{
+    row.floor() > Version::none() && version <= row.floor()
+}
+
+/// Whether some row promises a ballot above this one at a version.
+fn any_above(rows: &[Option<Row>], version: Version, ballot: Ballot) -> bool
+    ensures { result ≡ list_any (above_known version ballot) rows.now }
+{
+    rows.iter().any(|row| is_above(row, version, ballot))
+}
+
+fn is_above(row: &Option<Row>, version: Version, ballot: Ballot) -> bool
+    ensures { result ≡ above_known version ballot row.now }
+{
+    match row {
+        None => false,
+        Some(row) => is_row_above(row, version, ballot),
+    }
+}
+
+fn is_row_above(row: &Row, version: Version, ballot: Ballot) -> bool
+    ensures { result ≡ promises_above row.now version ballot }
+{
+    if is_collected(row, version) {
+        return false;
+    }
+    match row.column(version) {
+        None => ballot.is_below(Ballot::fast()),
+        Some(column) => is_column_above(column, ballot),
+    }
+}
+
+fn is_column_above(column: &Column, ballot: Ballot) -> bool
+    ensures { result ≡ slot_promises_above (slot_of (Some column.now)) ballot }
+{
+    match column {
+        Column::Open { promise, .. } => ballot.is_below(*promise),
+        Column::Decided { .. } => false,
+    }
+}
