@@ -317,10 +317,10 @@ fn a_put_is_left_at_three_sites(rt: HostRuntime) -> Result<(), Fail> {
     let world = bench.world.ok_or("a world")?;
     assert_eq!(rt; world.calls.len(), 2);
     let key = Key::new(Vec::from_slice(alloc, b"a")?).ok_or("a key")?;
-    let mut rows = 0;
+    let mut rows = 0u32;
     for mut site in world.into_sites() {
         if let Ok(RowRead::Row { .. }) = site.read_row(alloc, &key) {
-            rows += 1;
+            rows = rows.saturating_add(1);
         }
     }
     assert_eq!(rt; rows, 3);
