@@ -146,7 +146,7 @@ fn events_in_any_order(rt: HostRuntime) -> Result<(), Fail> {
         ),
         (
             "session\nput 1 a x:0102\nsettle 1 without 2\n",
-            "1.1 put a 0102 2 11 unsettled 1\nend 1 11 0\n",
+            "1.1 put a 0102 2 19 ok 1\nend 1 19 0\n",
         ),
         (
             "session\nput 1 a x:0102\ntake 1\ntake 2\ntake 3\ndeliver 4\ncrash 1\nsession\nget 2 a\nsettle 2\n",

@@ -98,7 +98,7 @@ fn each_event_of_a_line_has_a_tick(rt: HostRuntime) -> Result<(), Fail> {
         ),
         (
             b"session\nput 1 a x:0102\nsettle 1 without 2\n",
-            &[2, 11, 11],
+            &[2, 19, 19],
         ),
         (
             b"session\nput 1 a x:0102\ntake 1\ntake 2\ntake 3\ndeliver 4\ncrash 1\nsession\nget 2 a\nsettle 2\n",
@@ -141,7 +141,7 @@ fn answers_of_calls_that_lose_sites(rt: HostRuntime) -> Result<(), Fail> {
         rt.alloc(),
         b"session\nput 1 a x:0102\ntake 1\ntake 2\ngiveup 4\ngiveup 5\n",
     )?;
-    let unsettled = played(rt.alloc(), b"session\nput 1 a x:0102\nsettle 1 without 2\n")?;
+    let placed = played(rt.alloc(), b"session\nput 1 a x:0102\nsettle 1 without 2\n")?;
     let no_quorum = Answer::NoQuorum {
         phase: Phase::Look,
         heard: 1,
@@ -153,9 +153,6 @@ fn answers_of_calls_that_lose_sites(rt: HostRuntime) -> Result<(), Fail> {
     let version = Version(1);
     assert_eq!(rt; first_answer(short), Some(no_quorum));
     assert_eq!(rt; first_answer(unsure), Some(Answer::Unsure { why }));
-    assert_eq!(rt;
-        first_answer(unsettled),
-        Some(Answer::Unsettled { version })
-    );
+    assert_eq!(rt; first_answer(placed), Some(Answer::Ok { version }));
     Ok(())
 }
