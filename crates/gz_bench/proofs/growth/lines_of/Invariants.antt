@@ -1,0 +1,6 @@
+use Rattle.std.proofs.Common.{All}
+use Rattle.gz_script.specs.Schedule.{IsBounded}
+use Rattle.gz_bench.proofs.growth.lines_of.Given as goal
+
+abbrev pub invariant-loop-i : goal.invariant-loop-i
+invariant-loop-i l = All IsBounded l.lines.items
