@@ -11,6 +11,8 @@ use crate::names::{PutName, Version};
 pub enum Call {
     /// Writes the bytes as a new version of the object. At most 1,048,576 bytes.
     Put { key: Key, bytes: Items<u8> },
+    /// Writes a tombstone as a new version of the object.
+    Delete { key: Key },
     /// Reads the latest version.
     Get { key: Key },
 }
@@ -21,8 +23,7 @@ impl Call {
         ensures { result.now ≡ key_of self.now }
     {
         match self {
-            Call::Put { key, .. } => key,
-            Call::Get { key } => key,
+            Call::Put { key, .. } | Call::Delete { key } | Call::Get { key } => key,
         }
     }
 }
@@ -37,7 +38,7 @@ pub enum Phase {
     Trim,
 }
 
-/// Why a put that may have taken effect ended without knowing.
+/// Why a put or delete that may have taken effect ended without knowing.
 #[derive(Clone, Copy, Debug, PartialEq, Eq)]
 pub enum UnsureWhy {
     /// Too few sites were left. `heard` counts the sites that were heard and are not given up.
@@ -49,7 +50,7 @@ pub enum UnsureWhy {
 /// The answer of a call.
 #[derive(Clone, Debug, PartialEq, Eq, Drop)]
 pub enum Answer {
-    /// The put is chosen at this version.
+    /// The put or delete is chosen at this version.
     Ok {
         version: Version,
     },
@@ -58,6 +59,11 @@ pub enum Answer {
         version: Version,
         name: PutName,
         bytes: Items<u8>,
+    },
+    /// The latest version is a tombstone: that of the delete with this name.
+    Gone {
+        version: Version,
+        name: PutName,
     },
     /// The object was never written.
     Absent,
@@ -70,12 +76,8 @@ pub enum Answer {
     Contended {
         met: u32,
     },
-    /// The put may have taken effect or may yet take it.
+    /// The put or delete may have taken effect or may yet take it.
     Unsure {
         why: UnsureWhy,
-    },
-    /// Every site was heard or given up, and no value is known to be chosen at this version.
-    Unsettled {
-        version: Version,
     },
 }
