@@ -109,6 +109,15 @@ impl<T: Drop> Items<T> {
         self.items[at] = item;
     }
 
+    /// Puts another element at a place, and gives back the one that stood there.
+    pub fn replace(&mut self, at: usize, item: T) -> T
+        requires { at < length self.old }
+        ensures set { self.new ≡ slice_set self.old at item }
+        ensures was { slice_get self.old at ≡ Some result }
+    {
+        std::mem::replace(&mut self.items[at], item)
+    }
+
     /// Puts an element after the last.
     pub fn push(&mut self, item: T) -> Result<(), AllocError>
         ensures ok { OnOk result (self.new ≡ self.old ++ item ∷ []) }
