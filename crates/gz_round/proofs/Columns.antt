@@ -1,19 +1,18 @@
 -- What a row shows, against its columns: the greatest version, names, and what a run can hold.
-use Rattle.std.proofs.Common.{◌≡◌, ℕ, zero, suc, ◌<◌, ◌≤◌, ◌^◌, max, Bool, true, false, cond, ◌&&◌, ◌==◌, nat_lt, List, [], ◌∷◌, length, Option, Some, None, refl, sym, ap, ◌∙◌, subst, inl, inr, ◌⊎◌, arith}
+use Rattle.std.proofs.Common.{◌≡◌, ℕ, zero, suc, ◌<◌, ◌≤◌, ◌^◌, max, Bool, true, false, cond, ◌&&◌, ◌==◌, nat_lt, List, [], ◌∷◌, length, Option, Some, None, refl, sym, ap, ◌∙◌, inl, inr, ◌⊎◌, arith}
 use Rattle.std.specs.List.{slice_get, list_all}
+use Rattle.std.specs.Prelude.{IsSome}
 use Rattle.std.proofs.lemmas.Bool.{cases_Bool, cond-true, cond-false, and_parts, ltb-true, eqb-true, cases_lt}
 use Rattle.std.proofs.lemmas.Option.{same_Some, none-some}
 use Rattle.gz_core.specs.Names.{Name}
 use Rattle.gz_core.specs.Values.{name_of}
 use Rattle.gz_core.specs.Rows.{RowAt, empty_row, column_in}
 use Rattle.gz_core.specs.declared.values.Value.{Value}
-use Rattle.gz_core.specs.declared.values.Value.TheVariants.{Tomb, Put}
 use Rattle.gz_core.specs.declared.rows.Column.{Column}
 use Rattle.gz_core.specs.declared.rows.Column.TheVariants.{Open, Decided}
 use Rattle.gz_pick.specs.Looks.{row_top, top_in, row_name, column_name, shows_value, highest_of}
-use Rattle.gz_round.specs.Sites.{can_stand, entry_stands, column_stands, vote_stands, value_stands}
+use Rattle.gz_round.specs.Sites.{can_stand, entry_stands, column_stands}
 use Rattle.gz_round.specs.Causes.{row_value, column_value}
-use Rattle.gz_round.specs.Acting.{IsPut, IsSomePut, IsPutAt}
 
 -- a column that names a value shows one
 name_shows : (column : Column) (x : Name) → column_name (Some column) ≡ Some x → shows_value column ≡ true
@@ -72,32 +71,15 @@ stands_low row h = low_columns row.columns (stand_columns row h)
 pub empty_stands : can_stand empty_row ≡ true
 empty_stands = refl
 
-value_put : (value : Value) → value_stands value ≡ true → IsPut value
-value_put (Tomb name) h = absurd (cc)
-value_put (Put put) h = tt
+-- a row has a value at a version at which it names one
+columns_valued : (column : Option Column) (x : Name) → column_name column ≡ Some x → IsSome (column_value column)
+columns_valued None x e = absurd (none-some x e)
+columns_valued (Some (Open promise None)) x e = absurd (none-some x e)
+columns_valued (Some (Open promise (Some vote))) x e = refl
+columns_valued (Some (Decided value)) x e = refl
 
-column_put : (column : Column) (x : Name) → column_stands column ≡ true → column_name (Some column) ≡ Some x → IsSomePut (column_value (Some column))
-column_put (Open promise None) x h e = absurd (none-some x e)
-column_put (Open promise (Some vote)) x h e = value_put vote.value (and_parts (nat_lt promise.round (2 ^ 31)) (vote_stands (Some vote)) h).1
-column_put (Decided value) x h e = value_put value h
-
-columns_put : (columns : List (ℕ × Column)) (v : ℕ) (x : Name) → list_all entry_stands columns ≡ true → column_name (column_in columns v) ≡ Some x → IsSomePut (column_value (column_in columns v))
-columns_put [] v x h e = absurd (none-some x e)
-columns_put (c ∷ cs) v x h e =
-    let both : (entry_stands c ≡ true) × (list_all entry_stands cs ≡ true) = and_parts (entry_stands c) (list_all entry_stands cs) h in
-    let parts : (nat_lt c.0 (2 ^ 62) ≡ true) × (column_stands c.1 ≡ true) = and_parts (nat_lt c.0 (2 ^ 62)) (column_stands c.1) both.0 in
-    elim (cases_Bool (c.0 == v)) [
-      | inl k ↦ (
-          let found : column_in (c ∷ cs) v ≡ Some c.1 = cond-true (c.0 == v) (Some c.1) (column_in cs v) k in
-          subst (λ o. IsSomePut (column_value o)) (sym found) (column_put c.1 x parts.1 (sym (ap column_name found) ∙ e)))
-      | inr k ↦ (
-          let found : column_in (c ∷ cs) v ≡ column_in cs v = cond-false (c.0 == v) (Some c.1) (column_in cs v) k in
-          subst (λ o. IsSomePut (column_value o)) (sym found) (columns_put cs v x both.1 (sym (ap column_name found) ∙ e)))
-    ]
-
--- the value that such a row names is a put's
-pub named_put : (row : RowAt) (v : ℕ) (x : Name) → can_stand row ≡ true → row_name row v ≡ Some x → IsPutAt row v
-named_put row v x h e = columns_put row.columns v x (stand_columns row h) e
+pub named_has : (row : RowAt) (v : ℕ) (x : Name) → row_name row v ≡ Some x → IsSome (row_value row v)
+named_has row v x e = columns_valued (column_in row.columns v) x e
 
 -- the value that a put's answer tells has the name that the row shows
 put_named : (column : Column) (x : Name) (value : Value) → column_name (Some column) ≡ Some x → column_value (Some column) ≡ Some value → name_of value ≡ x

@@ -7,7 +7,7 @@ use Rattle.gz_core.specs.Names.{BallotAt}
 use Rattle.gz_core.specs.Counts.{count_sites}
 use Rattle.gz_core.specs.Configurations.{IsConfig}
 use Rattle.gz_core.specs.declared.calls.Answer.{Answer}
-use Rattle.gz_core.specs.declared.calls.Answer.TheVariants.{NoQuorum, Unsure, Unsettled}
+use Rattle.gz_core.specs.declared.calls.Answer.TheVariants.{NoQuorum, Unsure}
 use Rattle.gz_core.specs.declared.calls.UnsureWhy.TheVariants.{NoQuorum as UnsureNoQuorum}
 use Rattle.gz_core.specs.declared.configuration.Config.{Config}
 use Rattle.gz_core.specs.declared.requests.RowStep.{RowStep}
@@ -18,7 +18,7 @@ use Rattle.gz_round.specs.declared.run.Stage.{Stage}
 use Rattle.gz_round.specs.declared.run.Stage.TheVariants.{Look, Fast, Prepare, Accept}
 use Rattle.gz_round.specs.History.{Moment, GaveIn, Caller, Tale}
 use Rattle.gz_round.specs.Rounds.{promises_known, above_known}
-use Rattle.gz_round.specs.Sending.{MayGiveIn, NoPromise, NoVote, IsStuck, IsShort, NoEvidence, rows_known}
+use Rattle.gz_round.specs.Sending.{MayGiveIn, NoPromise, NoVote, NoRepair, IsStuck, IsShort, NoEvidence, rows_known}
 use Rattle.gz_round.specs.Counting.{outs, IsGoing}
 use Rattle.gz_round.specs.Causes.{HasCause, IsCutOff}
 use Rattle.gz_round.specs.Standing.{Knows, Stands, StageStands}
@@ -26,7 +26,7 @@ use Rattle.gz_round.specs.Following.{HasTurned}
 use Rattle.gz_round.specs.Acting.{RunsOut, given_in_of, ended_of, ended_in, stage_step, step_in, working_version, version_in, IsShortIn, IsAheadIn}
 use Rattle.gz_round.proofs.Lists.{count_told}
 use Rattle.gz_round.proofs.Follows.{no_own}
-use Rattle.gz_round.proofs.Turns.{highest_is, none_above_listed}
+use Rattle.gz_round.proofs.Turns.{none_above_listed}
 
 count_all : (n : ℕ) → count_sites n (λ s. true) ≡ n
 count_all zero = refl
@@ -66,11 +66,11 @@ stuck_from c w past run ms v b step r is at ahead = record {
 ended_at : (c : Config) (w : Caller) (past : List Tale) (run : Run) (ms : List Moment) (stage : Stage) (answer : Answer) → IsConfig c → run.stage ≡ stage → RunsOut c w past run ms → ended_in run stage ≡ Some answer → HasTurned c w past run ms (Some answer)
 ended_at c w past run ms Look answer config at r e =
     elim (cases_Bool (is_some run.own)) [
-      | inl own ↦ absurd (none-some answer (sym (cond-true (is_some run.own) None (Some (Unsettled (highest_of run.rows))) own) ∙ e))
+      | inl own ↦ absurd (none-some answer (sym (cond-true (is_some run.own) None (Some (given_in_of run)) own) ∙ e))
       | inr none ↦ (
-          let told : Unsettled (highest_of run.rows) ≡ answer = same_Some (Unsettled (highest_of run.rows)) answer (sym (cond-false (is_some run.own) None (Some (Unsettled (highest_of run.rows))) none) ∙ e) in
+          let told : given_in_of run ≡ answer = same_Some (given_in_of run) answer (sym (cond-false (is_some run.own) None (Some (given_in_of run)) none) ∙ e) in
           let undecided : NoEvidence c ms (highest_of run.rows) = subst (λ st. NoEvidence c ms (version_in st (highest_of run.rows))) at r.none in
-          subst (λ a. HasTurned c w past run ms (Some a)) told ([], inl refl, (r.stands.allowed, (r.going, record { idle = r.idle; heard = r.heard; undecided = undecided; reads = no_own c w past run ms r.stands none; highest = highest_is c run ms r.stands.knows }), r.stands.round_is)))
+          subst (λ a. HasTurned c w past run ms (Some a)) told (given_in_turned c w past run ms config r.stands r.going (NoRepair (highest_of run.rows) (no_own c w past run ms r.stands none) (record { idle = r.idle; heard = r.heard }) undecided)))
     ]
 ended_at c w past run ms (Fast v) answer config at r e = absurd (none-some answer e)
 ended_at c w past run ms (Prepare v b) answer config at r e =

@@ -10,9 +10,9 @@ use Rattle.gz_core.specs.Rows.{RowAt}
 use Rattle.gz_core.specs.Calls.{key_of, own_value}
 use Rattle.gz_core.specs.Counts.{count_sites}
 use Rattle.gz_core.specs.declared.calls.Call.{Call}
-use Rattle.gz_core.specs.declared.calls.Call.TheVariants.{Put, Get}
+use Rattle.gz_core.specs.declared.calls.Call.TheVariants.{Put, Delete, Get}
 use Rattle.gz_core.specs.declared.calls.Answer.{Answer}
-use Rattle.gz_core.specs.declared.calls.Answer.TheVariants.{Ok, Bytes, Absent, NoQuorum, Contended, Unsure, Unsettled}
+use Rattle.gz_core.specs.declared.calls.Answer.TheVariants.{Ok, Bytes, Gone, Absent, NoQuorum, Contended, Unsure}
 use Rattle.gz_core.specs.declared.calls.UnsureWhy.{UnsureWhy}
 use Rattle.gz_core.specs.declared.calls.UnsureWhy.TheVariants.{NoQuorum as UnsureNoQuorum, Contended as UnsureContended}
 use Rattle.gz_core.specs.declared.calls.Phase.{Phase}
@@ -38,14 +38,13 @@ use Rattle.gz_round.specs.Shown.{heard_at, IsShown, IsCurrent}
 use Rattle.gz_round.specs.Rounds.{promises_above, above_known}
 use Rattle.gz_round.specs.Sending.{MayMake, NoneAbove, answer_of}
 use Rattle.gz_round.specs.Counting.{outs, known_count, IsGoing, IsNoticed, HasNotice}
-use Rattle.gz_round.specs.Causes.{HasCause, IsCutOff, IsOvertaken, UnsureCause, IsValueHeard, IsHighest, rows_known, is_blank}
+use Rattle.gz_round.specs.Causes.{HasCause, IsCutOff, IsOvertaken, UnsureCause, IsValueHeard, IsLearnt, rows_known, is_blank}
 use Rattle.gz_round.specs.Asking.{IsLeftBy, is_notice}
 use Rattle.gz_round.specs.Standing.{Knows, Stands, StageStands, ArePassed, AreAskedAgain, IsWaiting, mark_of, awaited_of}
 use Rattle.gz_round.specs.Following.{Asks, MayMakeOf, AreServed, IsSettledBy, NoEvidence, IsUnmet, HeldOf, Turned, HasTurned}
 use Rattle.gz_round.specs.Acting.{IsPlain, Steps, RunsOut, Finishes, IsFewIn, IsShortIn, IsAheadIn, is_overtaken_in, is_waiting, vote_for, notice_for, stage_step, step_in, working_version, version_in}
 use Rattle.gz_round.proofs.Lists.{count_same, any_found, any_told}
-use Rattle.gz_round.proofs.Known.{evident_same, last_known, known_last, listed_known}
-use Rattle.gz_round.proofs.Columns.{top_highest, highest_reached}
+use Rattle.gz_round.proofs.Known.{evident_same, last_known, known_last}
 use Rattle.gz_round.proofs.Sends.{known_after_sent, out_after_sent}
 
 -- what one request more leaves holds after all requests of an event
@@ -115,12 +114,15 @@ unsure_sent : (c : Config) (w : Caller) (past : List Tale) (run new : Run) (ms n
 unsure_sent c w past run new ms ns (UnsureNoQuorum phase heard) h k wrote same_met same_outs same_known cause = cut_sent c w past run new ms ns phase heard h k wrote same_met same_outs same_known cause
 unsure_sent c w past run new ms ns (UnsureContended m) h k wrote same_met same_outs same_known cause = overtaken_sent c ms ns m same_met cause
 
+learnt_sent : (c : Config) (w : Caller) (v : ℕ) (x : Value) (first : ℕ) (sent : List Out) (ms : List Moment) → IsLearnt c w ms v x → IsLearnt c w (sent_from first sent ms) v x
+learnt_sent c w v x first sent ms h = record { reads = h.reads; shown = shown_sent c v (name_of x) first sent ms h.shown; current = current_sent c v first sent ms h.current; heard = value_sent v x first sent ms h.heard }
+
 -- reads leave the cause of a plain answer
 plain_sent : (c : Config) (w : Caller) (past : List Tale) (run new : Run) (first : ℕ) (sent : List Out) (ms : List Moment) (answer : Answer) → Stands c w past run ms → Stands c w past new (sent_from first sent ms) → new.voted ≡ run.voted → new.wrote ≡ run.wrote →
     HasCause c w ms answer → IsPlain answer → HasCause c w (sent_from first sent ms) answer
 plain_sent c w past run new first sent ms (Ok v) h k voted_same wrote_same cause plain = absurd plain
-plain_sent c w past run new first sent ms (Bytes v x bytes) h k voted_same wrote_same cause plain =
-    (going_sent c first sent ms cause.0, record { reads = cause.1.reads; shown = shown_sent c v x first sent ms cause.1.shown; current = current_sent c v first sent ms cause.1.current; heard = value_sent v _ first sent ms cause.1.heard })
+plain_sent c w past run new first sent ms (Bytes v x bytes) h k voted_same wrote_same cause plain = (going_sent c first sent ms cause.0, learnt_sent c w v _ first sent ms cause.1)
+plain_sent c w past run new first sent ms (Gone v x) h k voted_same wrote_same cause plain = (going_sent c first sent ms cause.0, learnt_sent c w v _ first sent ms cause.1)
 plain_sent c w past run new first sent ms Absent h k voted_same wrote_same cause plain =
     (going_sent c first sent ms cause.0, (cause.1.0, omega (arith, cause.1.1, heard_sent c is_blank first sent ms)))
 plain_sent c w past run new first sent ms (NoQuorum phase heard) h k voted_same wrote_same cause plain =
@@ -129,7 +131,6 @@ plain_sent c w past run new first sent ms (Contended m) h k voted_same wrote_sam
     (sym k.voted_is ∙ (voted_same ∙ (h.voted_is ∙ cause.0)), overtaken_sent c ms (sent_from first sent ms) m (met_sent first sent ms) cause.1)
 plain_sent c w past run new first sent ms (Unsure why) h k voted_same wrote_same cause plain =
     (sym k.voted_is ∙ (voted_same ∙ (h.voted_is ∙ cause.0)), unsure_sent c w past run new ms (sent_from first sent ms) why h k wrote_same (met_sent first sent ms) (outs_sent c first sent ms) (known_sent c first sent ms) cause.1)
-plain_sent c w past run new first sent ms (Unsettled v) h k voted_same wrote_same cause plain = absurd plain
 
 -- a call that ends after its reads
 pub close_turned : (c : Config) (w : Caller) (past : List Tale) (run new : Run) (ms : List Moment) (first : ℕ) (sent : List Out) (answer : Answer) → Stands c w past run ms → HasCause c w ms answer × IsPlain answer →
@@ -140,6 +141,7 @@ close_turned c w past run new ms first sent answer h cause asks left =
 -- a call's value is under its own name
 pub own_name : (name : Name) (call : Call) (x : Value) → own_value name call ≡ Some x → name_of x ≡ name
 own_name name (Put key bytes) x e = sym (ap name_of (same_Some _ x e))
+own_name name (Delete key) x e = sym (ap name_of (same_Some _ x e))
 own_name name (Get key) x e = absurd (none-some x e)
 
 idle_from : (o : Option Asked) (b : Bool) → b ≡ is_some o → b ≡ false → o ≡ None
@@ -248,17 +250,6 @@ pub quorum_known : (c : Config) (ms : List Moment) → ((s : ℕ) → s < c.n �
 quorum_known c ms heard enough =
     let cover : c.n ≤ outs c ms + known_count c ms = count_cover c.n (λ s. (site_now ms s).out) (λ s. is_some (known (site_now ms s))) (λ (s : ℕ) (l : s < c.n). elim (cases_Bool (site_now ms s).out) [ inl e ↦ inl e | inr e ↦ inr (ap (λ o. is_some o) (heard s l e).1) ]) in
     omega arith
-
-pub highest_is : (c : Config) (run : Run) (ms : List Moment) → Knows c run ms → IsHighest c ms (highest_of run.rows)
-highest_is c run ms k = record {
-  none_above = λ (s : ℕ) (row : RowAt) (l : s < c.n) (e : rows_known ms s ≡ Some row). top_highest run.rows s row (k.rows s l ∙ ap (λ o. Some o) e);
-  reached = elim (highest_reached run.rows) [
-    | inl e ↦ inl e
-    | inr w ↦ (
-        let inside : w.0 < c.n = let len = k.rows_len in omega (arith, slice_get_within run.rows w.0 (Some w.1) w.2) in
-        inr (w.0, w.1, inside, listed_known c run ms k w.0 w.1 inside w.2, w.3))
-  ];
-}
 
 -- a phase that goes on has a version to work at, where no value is known to be chosen
 unmet_out : (c : Config) (w : Caller) (past : List Tale) (run : Run) (ms : List Moment) (stage : Stage) (first : ℕ) (sent : List Out) → c.qc ≤ known_count c (sent_from first sent ms) → StageStands c w past stage ms → IsUnmet c run stage ms → (1 ≤ version_in stage (highest_of run.rows)) × NoEvidence c (sent_from first sent ms) (version_in stage (highest_of run.rows))

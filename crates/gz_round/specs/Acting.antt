@@ -1,12 +1,12 @@
 -- What a call does at an event, once what came was noted.
-use Rattle.std.specs.Prelude.{ℕ, ◌≡◌, ◌≢◌, ◌≤◌, ◌<◌, ◌+◌, ◌^◌, ◌⊎◌, ◌||◌, nat_lt, max, Bool, true, false, List, [], ◌∷◌, if◌then◌else◌, Option, Some, None, is_some, slice_get}
+use Rattle.std.specs.Prelude.{ℕ, ◌≡◌, ◌≢◌, ◌≤◌, ◌<◌, ◌+◌, ◌^◌, ◌⊎◌, ◌||◌, nat_lt, max, Bool, true, false, List, [], ◌∷◌, if◌then◌else◌, Option, Some, None, is_some, IsSome, slice_get}
 use Rattle.gz_core.specs.Names.{BallotAt, IsClassic}
 use Rattle.gz_core.specs.Calls.{own_value}
 use Rattle.gz_core.specs.Rows.{RowAt}
 use Rattle.gz_core.specs.declared.values.Value.{Value}
 use Rattle.gz_core.specs.declared.values.Value.TheVariants.{Tomb, Put}
 use Rattle.gz_core.specs.declared.calls.Answer.{Answer}
-use Rattle.gz_core.specs.declared.calls.Answer.TheVariants.{Ok, Bytes, Absent, NoQuorum, Contended, Unsure, Unsettled}
+use Rattle.gz_core.specs.declared.calls.Answer.TheVariants.{Ok, Bytes, Gone, Absent, NoQuorum, Contended, Unsure}
 use Rattle.std.specs.List.{count_by, list_any}
 use Rattle.gz_core.specs.declared.calls.UnsureWhy.TheVariants.{NoQuorum as UnsureNoQuorum, Contended as UnsureContended}
 use Rattle.gz_core.specs.declared.configuration.Config.{Config}
@@ -33,11 +33,11 @@ use Rattle.gz_round.specs.Following.{Ready, IsUnmet}
 abbrev pub IsPlain : Answer → Type 0
 IsPlain (Ok v) = ⊥
 IsPlain (Bytes v x bytes) = Unit {0}
+IsPlain (Gone v x) = Unit {0}
 IsPlain Absent = Unit {0}
 IsPlain (NoQuorum phase heard) = Unit {0}
 IsPlain (Contended m) = Unit {0}
 IsPlain (Unsure why) = Unit {0}
-IsPlain (Unsettled v) = ⊥
 
 abbrev pub vote_for : ℕ → Option Value → Option RowStep
 vote_for v None = None
@@ -181,25 +181,13 @@ CanFinish c run v = (w : Caller) × (past : List Tale) × (ms : List Moment) × 
 abbrev pub CanFollow : Config → Run → Type 0
 CanFollow c run = (w : Caller) × (past : List Tale) × (ms : List Moment) × Ready c w past run ms × IsGoing c ms
 
--- a put's value
-abbrev pub IsPut : Value → Type 0
-IsPut (Tomb name) = ⊥
-IsPut (Put put) = Unit {0}
-
-abbrev pub IsSomePut : Option Value → Type 0
-IsSomePut None = ⊥
-IsSomePut (Some x) = IsPut x
-
--- the row has a put's value at the version
-abbrev pub IsPutAt : RowAt → ℕ → Type 0
-IsPutAt row v = IsSomePut (row_value row v)
-
-abbrev pub IsKnownPut : Run → ℕ → ℕ → Type 0
-IsKnownPut run s v = (row : RowAt) × (slice_get run.rows s ≡ Some (Some row)) × IsPutAt row v
+-- the row that is known of a site has a value at the version
+abbrev pub HasValue : Run → ℕ → ℕ → Type 0
+HasValue run s v = (row : RowAt) × (slice_get run.rows s ≡ Some (Some row)) × IsSome (row_value row v)
 
 -- the answer tells this value
 abbrev pub IsAnswerFor : Value → ℕ → Answer → Type 0
-IsAnswerFor (Tomb name) v answer = ⊥
+IsAnswerFor (Tomb name) v answer = answer ≡ Gone v name
 IsAnswerFor (Put put) v answer = answer ≡ Bytes v put.name put.bytes
 
 abbrev pub IsAnswerOf : RowAt → ℕ → Answer → Type 0
@@ -219,7 +207,7 @@ given_in_of run = if run.voted then Unsure (UnsureNoQuorum run.wrote 0) else NoQ
 
 -- the answer of a phase that ends without its goal; a put prepares after `Look` and `Fast`
 abbrev pub ended_in : Run → Stage → Option Answer
-ended_in run Look = if is_some run.own then None else Some (Unsettled (highest_of run.rows))
+ended_in run Look = if is_some run.own then None else Some (given_in_of run)
 ended_in run (Fast v) = None
 ended_in run (Prepare v b) = Some (given_in_of run)
 ended_in run (Accept v b x) = Some (given_in_of run)

@@ -112,12 +112,19 @@ IsShort c ms v b = count_sites c.n (λ s. promises_known v b (rows_known ms s)) 
 abbrev pub AreRoundsUsedUp : Config → List Tale → List Moment → ℕ → Type 0
 AreRoundsUsedUp c past ms v = (2 ^ 31 ≤ rounds_used past ms + 1) ⊎ ((s : ℕ) × (s < c.n) × (2 ^ 31 ≤ round_known v (rows_known ms s) + 1))
 
+-- nothing is awaited, and every site was heard or is out
+pub record IsIdle (c : Config) (ms : List Moment) : Type 0 where
+  pub idle : (s : ℕ) → s < c.n → (site_now ms s).awaits ≡ None
+  pub heard : (s : ℕ) → s < c.n → (site_now ms s).out ≡ false → (row : RowAt) × (rows_known ms s ≡ Some row)
+
 -- a call gives in where its promise or its classic vote leads no further, short of a quorum of promises or of a
--- value that is chosen; or where no round is left. Rows that stay as written exclude all three.
+-- value that is chosen; or where no round is left. Rows that stay as written exclude these three. A call that writes
+-- nothing gives in, too, where every site was heard or is out, nothing is awaited, and no value is known to be chosen.
 pub data MayGiveIn (c : Config) (w : Caller) (past : List Tale) (ms : List Moment) : Type 0 where
   NoPromise : (v : ℕ) (b : BallotAt) → MayPromise c w past ms v b → IsStuck c ms v b (Promise v b) → IsShort c ms v b → MayGiveIn c w past ms
   NoVote : (v : ℕ) (b : BallotAt) (x : Value) → MayClassicVote c w ms v b x → IsStuck c ms v b (ClassicVote v b x) → MayGiveIn c w past ms
   NoRound : (v : ℕ) → NoEvidence c ms v → AreRoundsUsedUp c past ms v → MayGiveIn c w past ms
+  NoRepair : (v : ℕ) → own_value w.name w.call ≡ None → IsIdle c ms → NoEvidence c ms v → MayGiveIn c w past ms
 
 -- a reply or a give-up is of a request that is awaited
 abbrev pub IsAwaitedOf : List Moment → Asked → Type 0

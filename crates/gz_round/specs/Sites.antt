@@ -3,9 +3,6 @@
 use Rattle.std.specs.Prelude.{ℕ, ◌≡◌, ◌⊎◌, Bool, true, false, ◌&&◌, ◌||◌, ◌==◌, ◌^◌, nat_lt, if◌then◌else◌, List, [], ◌∷◌, length, Option, Some, None}
 use Rattle.std.specs.List.{list_all}
 use Rattle.gz_core.specs.Rows.{RowAt, empty_row}
-use Rattle.gz_core.specs.declared.values.Value.{Value}
-use Rattle.gz_core.specs.declared.values.Value.TheVariants.{Tomb, Put}
-use Rattle.gz_core.specs.declared.rows.Vote.{Vote}
 use Rattle.gz_core.specs.declared.rows.Column.{Column}
 use Rattle.gz_core.specs.declared.rows.Column.TheVariants.{Open, Decided}
 use Rattle.gz_core.specs.declared.requests.Op.{Op}
@@ -15,19 +12,10 @@ use Rattle.gz_core.specs.declared.requests.Reply.TheVariants.{Row, NoRow, Writte
 use Rattle.gz_round.specs.declared.hearing.Seen.{Seen}
 use Rattle.gz_round.specs.History.{Asked, Moment, Sent, Handed, GaveUp, Rested, GaveIn, is_row_request}
 
--- no call of this store deletes yet, so a value is a put's
-abbrev pub value_stands : Value → Bool
-value_stands (Tomb name) = false
-value_stands (Put put) = true
-
-abbrev pub vote_stands : Option Vote → Bool
-vote_stands None = true
-vote_stands (Some vote) = value_stands vote.value
-
--- a promise below the rounds that no run reaches, and a value that a run can hold
+-- a promise below the rounds that no run reaches
 abbrev pub column_stands : Column → Bool
-column_stands (Open promise vote) = nat_lt promise.round (2 ^ 31) && vote_stands vote
-column_stands (Decided value) = value_stands value
+column_stands (Open promise vote) = nat_lt promise.round (2 ^ 31)
+column_stands (Decided value) = true
 
 -- the same at a version that a run can reach
 abbrev pub entry_stands : ℕ × Column → Bool

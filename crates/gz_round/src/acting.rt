@@ -1,5 +1,5 @@
 //! All that a call does at an event, once what came was noted.
-ghost use Rattle.std.specs.Prelude.{◌≡◌, ◌≤◌, ◌<◌, ◌+◌, ◌^◌, ℕ, List, [], length, Some, slice_get, IfOk, MatchOption};
+ghost use Rattle.std.specs.Prelude.{IsSome, ◌≡◌, ◌≤◌, ◌<◌, ◌+◌, ◌^◌, ℕ, List, [], length, Some, slice_get, IfOk, MatchOption};
 ghost use Rattle.gz_core.specs.Rows.{RowAt};
 ghost use Rattle.gz_core.specs.Configurations.{IsConfig};
 ghost use Rattle.gz_round.specs.History.{Moment, Caller, Tale, sent_from};
@@ -7,7 +7,7 @@ ghost use Rattle.gz_round.specs.Standing.{Stands, Runs, IsKept};
 ghost use Rattle.gz_round.specs.Counting.{IsGoing};
 ghost use Rattle.std.specs.Option.{option_copied};
 ghost use Rattle.gz_round.specs.Causes.{HasCause, row_value, column_value, vote_value};
-ghost use Rattle.gz_round.specs.Acting.{IsPlain, Acts, CanAct, CanFollow, Carries, CanCarry, is_overtaken, contended_of, cut_off_of, CanFinish, Finishes, IsPut, IsPutAt, IsKnownPut, IsAnswerFor, IsAnswerOf, stage_step, vote_for, notice_for, working_version};
+ghost use Rattle.gz_round.specs.Acting.{IsPlain, Acts, CanAct, CanFollow, Carries, CanCarry, is_overtaken, contended_of, cut_off_of, CanFinish, Finishes, HasValue, IsAnswerFor, IsAnswerOf, stage_step, vote_for, notice_for, working_version};
 ghost use Rattle.gz_round.specs.Following.{Ready, IsReady, Turned, HasTurned};
 
 use crate::following::Next;
@@ -256,12 +256,12 @@ impl Run {
     /// The answer of a call that has learnt the value of a version, which the row of this site has.
     fn told(&self, version: Version, site: SiteId) -> Result<Answer, AllocError>
         requires site { site < length self.now.rows }
-        requires known { IsKnownPut self.now site version }
+        requires known { HasValue self.now site version }
         ensures { IfOk result (λ answer. (row : RowAt) → slice_get self.now.rows site ≡ Some (Some row) → IsAnswerOf row version answer) }
     {
         match self.rows.at(site.index()) {
             None => unreachable!(),
-            Some(row) => bytes_of(row, version),
+            Some(row) => answer_at(row, version),
         }
     }
 }
@@ -283,22 +283,24 @@ fn classic_vote(
 }
 
 /// The answer with the value that a row has at a version.
-fn bytes_of(row: &Row, version: Version) -> Result<Answer, AllocError>
-    requires { IsPutAt row.now version }
+fn answer_at(row: &Row, version: Version) -> Result<Answer, AllocError>
+    requires { IsSome (row_value row.now version) }
     ensures { IfOk result (λ answer. IsAnswerOf row.now version answer) }
 {
     match value_at(row, version) {
         None => unreachable!(),
-        Some(value) => put_answer(value, version),
+        Some(value) => answer_with(value, version),
     }
 }
 
-fn put_answer(value: &Value, version: Version) -> Result<Answer, AllocError>
-    requires { IsPut value.now }
+fn answer_with(value: &Value, version: Version) -> Result<Answer, AllocError>
     ensures { IfOk result (λ answer. IsAnswerFor value.now version answer) }
 {
     match value {
-        Value::Tomb { .. } => unreachable!(),
+        Value::Tomb { name } => Ok(Answer::Gone {
+            version,
+            name: *name,
+        }),
         Value::Put(put) => {
             let name = put.name;
             let bytes = put.bytes.clone()?;

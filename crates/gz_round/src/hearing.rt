@@ -1,12 +1,12 @@
 //! What a reply tells of a site.
 ghost use Rattle.std.specs.Prelude.{◌≡◌, ◌<◌, ◌+◌, ◌^◌, length, slice_get, Some, IfOk};
 ghost use Rattle.std.specs.List.{list_all};
-ghost use Rattle.gz_round.specs.Sites.{value_stands, vote_stands, column_stands, entry_stands, can_stand, seen_in, seen_under, seen_written};
+ghost use Rattle.gz_round.specs.Sites.{column_stands, entry_stands, can_stand, seen_in, seen_under, seen_written};
 ghost use Rattle.gz_round.specs.declared.run.Mark.{Mark};
 ghost use Rattle.gz_round.specs.Noting.{heard_run, overtaken_run, left_run};
 
 use crate::run::{Mark, Run};
-use gz_core::{Column, Etag, Reply, Row, Value, Version, Vote};
+use gz_core::{Column, Etag, Reply, Row, Version};
 use std::alloc::{AllocError, Global};
 
 /// A row that was heard, and the tag that it stands under (none: there was no row).
@@ -48,26 +48,8 @@ fn column_stands(column: &Column) -> bool
     ensures { result ≡ column_stands column.now }
 {
     match column {
-        Column::Open { promise, vote } => promise.round < ROUNDS && vote_stands(vote),
-        Column::Decided { value } => value_stands(value),
-    }
-}
-
-fn vote_stands(vote: &Option<Vote>) -> bool
-    ensures { result ≡ vote_stands vote.now }
-{
-    match vote {
-        None => true,
-        Some(vote) => value_stands(&vote.value),
-    }
-}
-
-fn value_stands(value: &Value) -> bool
-    ensures { result ≡ value_stands value.now }
-{
-    match value {
-        Value::Tomb { .. } => false,
-        Value::Put(_) => true,
+        Column::Open { promise, .. } => promise.round < ROUNDS,
+        Column::Decided { .. } => true,
     }
 }
 

@@ -1,7 +1,5 @@
 //! How a put goes on by a classic ballot, where a phase ended without its goal. (Lamport 2006, "Fast Paxos", section 2.2.)
 ghost use Rattle.std.specs.Prelude.{◌≡◌, ◌≤◌, ◌<◌, ◌+◌, ◌^◌, if◌then◌else◌, List, [], length, Some, None, is_some, IfOk};
-ghost use Rattle.gz_core.specs.declared.calls.Answer.TheVariants.{Unsettled};
-ghost use Rattle.gz_pick.specs.Looks.{highest_of};
 ghost use Rattle.gz_core.specs.Configurations.{IsConfig};
 ghost use Rattle.gz_round.specs.History.{Moment, Caller, Tale, sent_from};
 ghost use Rattle.gz_round.specs.Following.{HasTurned};
@@ -9,7 +7,6 @@ ghost use Rattle.gz_round.specs.Acting.{Steps, CanStep, RunsOut, CanRunOut, Prep
 
 use crate::run::{Run, Stage};
 use gz_core::{Answer, Ballot, Config, Items, Out, RowStep, Turn, UnsureWhy, Version};
-use gz_pick::highest;
 use std::alloc::{AllocError, Global};
 
 impl Run {
@@ -35,8 +32,8 @@ impl Run {
         self.run_out(config, first, send)
     }
 
-    /// A phase that ended without its goal: a put prepares a classic ballot after `Look` and `Fast`; a get ends as
-    /// unsettled; where a classic ballot leads no further, every site goes out.
+    /// A phase that ended without its goal: a put prepares a classic ballot after `Look` and `Fast`; a get gives in;
+    /// where a classic ballot leads no further, every site goes out.
     fn run_out(&mut self, config: &Config, first: u32, send: Items<Out>) -> Result<Turn, AllocError>
         requires config { IsConfig config.now }
         requires first { first < 2 ^ 31 }
@@ -62,7 +59,7 @@ impl Run {
         ensures { result ≡ ended_of self.now }
     {
         match &self.stage {
-            Stage::Look => self.unsettled(),
+            Stage::Look => self.unrepaired(),
             Stage::Fast { .. } => None,
             Stage::Prepare { .. } => Some(self.given_in()),
             Stage::Accept { .. } => Some(self.given_in()),
@@ -70,15 +67,13 @@ impl Run {
     }
 
     /// The answer of a get that can't tell; a put goes on.
-    fn unsettled(&self) -> Option<Answer>
-        ensures { result ≡ (if is_some self.now.own then None else Some (Unsettled (highest_of self.now.rows))) }
+    fn unrepaired(&self) -> Option<Answer>
+        ensures { result ≡ (if is_some self.now.own then None else Some (given_in_of self.now)) }
     {
         if self.own.is_some() {
             None
         } else {
-            Some(Answer::Unsettled {
-                version: highest(self.rows.as_slice()),
-            })
+            Some(self.given_in())
         }
     }
 

@@ -49,6 +49,7 @@ fn parts(name: PutName, call: Call) -> (Key, Option<Value>)
 {
     match call {
         Call::Put { key, bytes } => (key, Some(Value::Put(PutValue { name, bytes }))),
+        Call::Delete { key } => (key, Some(Value::Tomb { name })),
         Call::Get { key } => (key, None),
     }
 }

@@ -1,7 +1,7 @@
 use Rattle.std.proofs.Common.{[], refl, inl}
 use Rattle.std.proofs.lemmas.Result.{IfOk-weaker}
 use Rattle.gz_round.specs.Acting.{CanFollow}
-use Rattle.gz_round.proofs.Arms.{votes_acts, learnt_put, learnt_cause}
+use Rattle.gz_round.proofs.Arms.{votes_acts, learnt_has, learnt_cause}
 use Rattle.gz_round.proofs.run.Run.follow.Goals as goal
 
 pub go_on-requires-clause-acts : goal.go_on-requires-clause-acts
@@ -23,7 +23,7 @@ finish-requires-clause-finishes c =
 pub told-requires-clause-known : goal.told-requires-clause-known
 told-requires-clause-known c =
     let k : CanFollow c.args.config.now c.args.self.now = c.requires.follows in
-    learnt_put c.args.config.now k.0 k.1 c.args.self.now k.2 c.in-Learnt.version c.in-Learnt.site k.3.stands (c.in-Learnt.ensures k.0 k.1 k.2 k.3)
+    learnt_has c.args.config.now k.0 c.args.self.now k.2 c.in-Learnt.version c.in-Learnt.site (c.in-Learnt.ensures k.0 k.1 k.2 k.3)
 
 pub returns-in_ok-answer-in-Learnt : goal.returns-in_ok-answer-in-Learnt
 returns-in_ok-answer-in-Learnt c =
