@@ -3,7 +3,7 @@ use Rattle.std.proofs.Common.{◌≡◌, ◌+◌, ◌<◌, ◌≤◌, ◌↔◌,
 use Rattle.std.proofs.lemmas.Bool.{false≢true}
 use Rattle.std.proofs.lemmas.Option.{same_Some, none-some}
 use Rattle.gz_core.specs.declared.calls.Answer.{Answer}
-use Rattle.gz_core.specs.declared.calls.Answer.TheVariants.{Ok, Bytes, Absent, NoQuorum, Contended, Unsure, Unsettled}
+use Rattle.gz_core.specs.declared.calls.Answer.TheVariants.{Ok, Bytes, Gone, Absent, NoQuorum, Contended, Unsure}
 use Rattle.gz_core.specs.declared.calls.UnsureWhy.{UnsureWhy}
 use Rattle.gz_core.specs.declared.calls.UnsureWhy.TheVariants.{NoQuorum as UnsureNoQuorum, Contended as UnsureContended}
 use Rattle.gz_core.specs.declared.configuration.Config.{Config}
@@ -18,23 +18,23 @@ use Rattle.gz_client.specs.Endings.{LacksSites, lacking, contending, EndsExactly
 is_lack : Answer → Bool
 is_lack (Ok v) = false
 is_lack (Bytes v x bytes) = false
+is_lack (Gone v x) = false
 is_lack Absent = false
 is_lack (NoQuorum phase heard) = true
 is_lack (Contended m) = false
 is_lack (Unsure (UnsureNoQuorum phase heard)) = true
 is_lack (Unsure (UnsureContended m)) = false
-is_lack (Unsettled v) = false
 
 -- an answer of a call that was overtaken too often
 is_contended : Answer → Bool
 is_contended (Ok v) = false
 is_contended (Bytes v x bytes) = false
+is_contended (Gone v x) = false
 is_contended Absent = false
 is_contended (NoQuorum phase heard) = false
 is_contended (Contended m) = true
 is_contended (Unsure (UnsureNoQuorum phase heard)) = false
 is_contended (Unsure (UnsureContended m)) = true
-is_contended (Unsettled v) = false
 
 lacking_lacks : (c : Config) (ms : List Moment) (b : Bool) → is_lack (lacking c ms b) ≡ true
 unfolding is_lack
@@ -71,12 +71,12 @@ ending_of : (c : Config) (w : Caller) (ms : List Moment) (answer : Answer) → H
 unfolding is_lack is_contended
 ending_of c w ms (Ok v) h = going c w ms (Ok v) h.0 refl refl
 ending_of c w ms (Bytes v x bytes) h = going c w ms (Bytes v x bytes) h.0 refl refl
+ending_of c w ms (Gone v x) h = going c w ms (Gone v x) h.0 refl refl
 ending_of c w ms Absent h = going c w ms Absent h.0 refl refl
 ending_of c w ms (NoQuorum phase heard) h = lacks h.1.few h.1.lost
     (ap (λ p. Some (NoQuorum p heard)) h.1.phase_is ∙ (ap (λ n. Some (NoQuorum (phase_of ms) n)) h.1.heard_is ∙ ap (λ b. Some (lacking c ms b)) (sym h.0))) (not_contending ms (NoQuorum phase heard) refl)
 ending_of c w ms (Contended m) h = contends h.1.0 (ap (λ n. Some (Contended n)) h.1.1 ∙ ap (λ b. Some (contending ms b)) (sym h.0)) (not_lacking c ms (Contended m) refl)
 ending_of c w ms (Unsure why) h = unsure_ending c w ms why h.0 h.1
-ending_of c w ms (Unsettled v) h = going c w ms (Unsettled v) h.0 refl refl
 
 told_ending : (c : Config) (t : Tale) (answer : Option Answer) → IsAnswered c t answer → Ending c t.caller t.moments answer
 told_ending c t None h = goes h.0.few h.0.enough (λ b e. none-some _ e) (λ b e. none-some _ e)

@@ -648,8 +648,8 @@ fn a_get_that_is_unsettled(rt: HostRuntime) -> Result<(), Fail> {
     use Move::{GiveUp, Take, Vote};
     let moves = [Vote(0), Vote(1), Take(1), Take(2), GiveUp(3)];
     let end = get_alone(rt.alloc(), &moves)?;
-    let version = Version(1);
-    assert_eq!(rt; end, (Some(Answer::Unsettled { version }), 3, 0));
+    let phase = Phase::Look;
+    assert_eq!(rt; end, (Some(Answer::NoQuorum { phase, heard: 0 }), 3, 0));
     Ok(())
 }
 
