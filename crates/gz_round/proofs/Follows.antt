@@ -33,7 +33,7 @@ use Rattle.gz_round.specs.declared.run.Stage.{Stage}
 use Rattle.gz_round.specs.declared.run.Stage.TheVariants.{Look, Fast, Prepare, Accept}
 use Rattle.gz_round.specs.Standing.{Stands, StageStands, IsUnpromised}
 use Rattle.gz_round.specs.Evidence.{NoneEvident, EvidentAt}
-use Rattle.gz_round.specs.Following.{NoEvidence, NextMeans, MayPass, IsFirst, IsLatest, IsFound, IsStageAt, IsUnmet, is_topless, is_blank_known}
+use Rattle.gz_round.specs.Following.{NoEvidence, NextMeans, MayPass, IsFirst, IsFound, IsStageAt, IsUnmet, is_topless, is_blank_known}
 use Rattle.gz_round.proofs.Lists.{all_at}
 use Rattle.gz_round.proofs.Heard.{counted_heard, heard_means, heard_passes}
 use Rattle.gz_round.proofs.Columns.{named_top, top_highest}
@@ -54,11 +54,27 @@ evidence_means c rows v (Some s) len h =
 pub evident_highest : (c : Config) (rows : List (Option RowAt)) (v s : ℕ) → EvidentAt c rows v s → v ≤ highest_of rows
 evident_highest c rows v s e = omega (arith, named_top e.row.columns v e.name e.named, top_highest rows s e.row e.known)
 
+own_some : (o : Option Value) → is_some o ≡ true → (x : Value) × (o ≡ Some x)
+own_some None h = absurd (false≢true h)
+own_some (Some x) h = (x, refl)
+
+own_none : (o : Option Value) → is_some o ≡ false → o ≡ None
+own_none None h = refl
+own_none (Some x) h = absurd (true≢false h)
+
+-- the call writes a value
+pub own_of : (c : Config) (w : Caller) (past : List Tale) (run : Run) (ms : List Moment) → Stands c w past run ms → is_some run.own ≡ true → (x : Value) × (own_value w.name w.call ≡ Some x)
+own_of c w past run ms h some = let k = own_some run.own some in (k.0, sym h.own_is ∙ k.1)
+
+-- it writes none
+pub no_own : (c : Config) (w : Caller) (past : List Tale) (run : Run) (ms : List Moment) → Stands c w past run ms → is_some run.own ≡ false → own_value w.name w.call ≡ None
+no_own c w past run ms h none = sym h.own_is ∙ own_none run.own none
+
 -- the call's own value is chosen
-pub chosen_means : (c : Config) (w : Caller) (past : List Tale) (run : Run) (ms : List Moment) (v s : ℕ) → Stands c w past run ms → MayPass c w ms v → (e : EvidentAt c run.rows v s) → row_name e.row v ≡ Some run.name → NextMeans c w run ms (Chosen v)
-chosen_means c w past run ms v s h m e own =
+pub chosen_means : (c : Config) (w : Caller) (past : List Tale) (run : Run) (ms : List Moment) (v s : ℕ) → Stands c w past run ms → is_some run.own ≡ true → MayPass c w ms v → (e : EvidentAt c run.rows v s) → row_name e.row v ≡ Some run.name → NextMeans c w run ms (Chosen v)
+chosen_means c w past run ms v s h writes m e own =
     let same : e.name ≡ w.name = same_Some e.name run.name (sym e.named ∙ own) ∙ h.name_is in
-    (m.above, subst (λ (x : Name). IsShown c ms v x) same (listed_shown c run ms h.knows v e.name e.evident), m.own)
+    (m.above, subst (λ (x : Name). IsShown c ms v x) same (listed_shown c run ms h.knows v e.name e.evident), own_of c w past run ms h writes)
 
 heard_weaker : (c : Config) (p q : RowAt → Bool) (ms : List Moment) → ((r : RowAt) → p r ≡ true → q r ≡ true) → heard_at c p ms ≤ heard_at c q ms
 heard_weaker c p q ms h = count_weaker c.n (some_heard p ms) (some_heard q ms) (λ (s : ℕ) (k : some_heard p ms s ≡ true). let w = heard_means p ms s k in heard_passes q ms s w.0 w.2 (h w.0 w.1))
@@ -89,8 +105,8 @@ pub unpromised_from : (ms : List Moment) (v u : ℕ) → v ≤ u → IsUnpromise
 unpromised_from ms v u l h k d m = h k d (omega arith)
 
 -- a call that may vote may pass on
-pub pass_from : (c : Config) (w : Caller) (ms : List Moment) (v : ℕ) → MayFastVote c w ms v → ((x : Value) × (own_value w.name w.call ≡ Some x)) → IsUnpromised ms v → MayPass c w ms v
-pass_from c w ms v h own later = record { above = h.above; current = h.current; clear = h.clear; own = own; later = unpromised_from ms v (v + 1) (omega arith) later }
+pub pass_from : (c : Config) (w : Caller) (ms : List Moment) (v : ℕ) → MayFastVote c w ms v → IsUnpromised ms v → MayPass c w ms v
+pass_from c w ms v h later = record { above = h.above; current = h.current; clear = h.clear; later = unpromised_from ms v (v + 1) (omega arith) later }
 
 some_passes : (o : Option ℕ) (u : ℕ) → passes_sent (λ k. k == u) o ≡ true → passes_sent (λ k. true) o ≡ true
 some_passes None u h = absurd (false≢true h)
@@ -169,22 +185,6 @@ some_row : (o : Option RowAt) → is_some o ≡ true → (row : RowAt) × (o ≡
 some_row None h = absurd (false≢true h)
 some_row (Some row) h = (row, refl)
 
-own_some : (o : Option Value) → is_some o ≡ true → (x : Value) × (o ≡ Some x)
-own_some None h = absurd (false≢true h)
-own_some (Some x) h = (x, refl)
-
-own_none : (o : Option Value) → is_some o ≡ false → o ≡ None
-own_none None h = refl
-own_none (Some x) h = absurd (true≢false h)
-
--- the call writes a value
-pub own_of : (c : Config) (w : Caller) (past : List Tale) (run : Run) (ms : List Moment) → Stands c w past run ms → is_some run.own ≡ true → (x : Value) × (own_value w.name w.call ≡ Some x)
-own_of c w past run ms h some = let k = own_some run.own some in (k.0, sym h.own_is ∙ k.1)
-
--- it writes none
-pub no_own : (c : Config) (w : Caller) (past : List Tale) (run : Run) (ms : List Moment) → Stands c w past run ms → is_some run.own ≡ false → own_value w.name w.call ≡ None
-no_own c w past run ms h none = sym h.own_is ∙ own_none run.own none
-
 step_unpromised : (step : RowStep) (ms : List Moment) (u : ℕ) (d : BallotAt) → phase_or_look (or_earlier (phase_by step) (last_sent phase_by ms)) ≡ NotBegun → has_promised_at ms u d ≡ false → (passes_sent (λ p. (p.0 == u) && same_ballot p.1 d) (promise_by step) || has_promised_at ms u d) ≡ false
 step_unpromised (FastVote v x) ms u d e h = h
 step_unpromised (Promise v b) ms u d e h = absurd (cc)
@@ -238,21 +238,17 @@ first_from c w past run ms config h unvoted looks blank topless enough =
           omega arith);
     }
 
--- the highest version that the known rows of a classic quorum show
-pub latest_from : (c : Config) (w : Caller) (past : List Tale) (run : Run) (ms : List Moment) → Stands c w past run ms → voted w.name ms ≡ false → phase_of ms ≡ NotBegun → list_all is_topless run.rows ≡ false → c.qc ≤ known_count c ms → IsLatest c w ms (highest_of run.rows)
+-- the call may work at the highest version that the known rows of a classic quorum show
+pub latest_from : (c : Config) (w : Caller) (past : List Tale) (run : Run) (ms : List Moment) → Stands c w past run ms → voted w.name ms ≡ false → phase_of ms ≡ NotBegun → list_all is_topless run.rows ≡ false → c.qc ≤ known_count c ms → MayPass c w ms (highest_of run.rows)
 latest_from c w past run ms h unvoted looks shown enough = record {
   above = highest_positive run.rows shown;
   current = known_current c run ms h.knows (highest_of run.rows) enough (λ (s : ℕ) (row : RowAt) (e : slice_get run.rows s ≡ Some (Some row)). top_highest run.rows s row e);
-  unvoted = unvoted;
-  unpromised = looks_unpromised ms 0 looks;
+  clear = unvoted_clear c w.name ms (highest_of run.rows) unvoted;
+  later = looks_unpromised ms (highest_of run.rows + 1) looks;
 }
 
--- a put goes on from the latest version
-pub latest_pass : (c : Config) (w : Caller) (past : List Tale) (run : Run) (ms : List Moment) (v : ℕ) → Stands c w past run ms → IsLatest c w ms v → is_some run.own ≡ true → MayPass c w ms v
-latest_pass c w past run ms v h l some = record { above = l.above; current = l.current; clear = unvoted_clear c w.name ms v l.unvoted; own = own_of c w past run ms h some; later = unpromised_from ms 0 (v + 1) (omega arith) l.unpromised }
-
--- a get has learnt its value
-pub found_means : (c : Config) (w : Caller) (past : List Tale) (run : Run) (ms : List Moment) (v s : ℕ) → Stands c w past run ms → IsLatest c w ms v → EvidentAt c run.rows v s → is_some run.own ≡ false → IsFound c w run ms v s
+-- a call that writes nothing has learnt the value
+pub found_means : (c : Config) (w : Caller) (past : List Tale) (run : Run) (ms : List Moment) (v s : ℕ) → Stands c w past run ms → MayPass c w ms v → EvidentAt c run.rows v s → is_some run.own ≡ false → IsFound c w run ms v s
 found_means c w past run ms v s h l e none = record {
   reads = no_own c w past run ms h none;
   current = l.current;
@@ -268,12 +264,12 @@ found_means c w past run ms v s h l e none = record {
 pub unmet_at : (c : Config) (run : Run) (ms : List Moment) (v : ℕ) (stage : Stage) → IsStageAt stage v → NoEvidence c ms v → IsUnmet c run stage ms
 unmet_at c run ms v Look at none = absurd at
 unmet_at c run ms v (Fast u) at none = subst (NoEvidence c ms) (sym at) none
-unmet_at c run ms v (Prepare u b) at none = subst (NoEvidence c ms) (sym at) none
+unmet_at c run ms v (Prepare u b found) at none = subst (NoEvidence c ms) (sym at) none
 unmet_at c run ms v (Accept u b x) at none = subst (NoEvidence c ms) (sym at) none
 
--- a put that works at a version may pass on from there
+-- a call that works at a version may pass on from there
 pub pass_at : (c : Config) (w : Caller) (past : List Tale) (ms : List Moment) (v : ℕ) (stage : Stage) → IsStageAt stage v → StageStands c w past stage ms → MayPass c w ms v
 pass_at c w past ms v Look at s = absurd at
-pass_at c w past ms v (Fast u) at s = subst (MayPass c w ms) at (pass_from c w ms u s.0 s.1 s.2)
-pass_at c w past ms v (Prepare u b) at s = subst (MayPass c w ms) at s.0.works.pass
+pass_at c w past ms v (Fast u) at s = subst (MayPass c w ms) at (pass_from c w ms u s.0 s.2)
+pass_at c w past ms v (Prepare u b found) at s = subst (MayPass c w ms) at s.0.works.pass
 pass_at c w past ms v (Accept u b x) at s = subst (MayPass c w ms) at s.1.pass

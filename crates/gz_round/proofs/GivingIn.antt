@@ -1,5 +1,5 @@
 -- A call whose phase leads no further gives in: every site goes out.
-use Rattle.std.proofs.Common.{◌≡◌, ℕ, zero, suc, ◌<◌, true, false, List, [], ◌∷◌, Some, None, is_some, refl, sym, ap, ◌∙◌, subst, inl, inr, arith}
+use Rattle.std.proofs.Common.{◌≡◌, ℕ, zero, suc, ◌<◌, true, false, List, [], ◌∷◌, Some, refl, sym, ap, ◌∙◌, subst, inl, inr, arith}
 use Rattle.std.specs.List.{list_any, count_by}
 use Rattle.std.proofs.lemmas.Bool.{cases_Bool, cond-true, cond-false}
 use Rattle.std.proofs.lemmas.Option.{same_Some, none-some}
@@ -18,14 +18,13 @@ use Rattle.gz_round.specs.declared.run.Stage.{Stage}
 use Rattle.gz_round.specs.declared.run.Stage.TheVariants.{Look, Fast, Prepare, Accept}
 use Rattle.gz_round.specs.History.{Moment, GaveIn, Caller, Tale}
 use Rattle.gz_round.specs.Rounds.{promises_known, above_known}
-use Rattle.gz_round.specs.Sending.{MayGiveIn, NoPromise, NoVote, NoRepair, IsStuck, IsShort, NoEvidence, rows_known}
+use Rattle.gz_round.specs.Sending.{MayGiveIn, NoPromise, NoVote, IsStuck, IsShort, NoEvidence, rows_known}
 use Rattle.gz_round.specs.Counting.{outs, IsGoing}
 use Rattle.gz_round.specs.Causes.{HasCause, IsCutOff}
 use Rattle.gz_round.specs.Standing.{Knows, Stands, StageStands}
 use Rattle.gz_round.specs.Following.{HasTurned}
 use Rattle.gz_round.specs.Acting.{RunsOut, given_in_of, ended_of, ended_in, stage_step, step_in, working_version, version_in, IsShortIn, IsAheadIn}
 use Rattle.gz_round.proofs.Lists.{count_told}
-use Rattle.gz_round.proofs.Follows.{no_own}
 use Rattle.gz_round.proofs.Turns.{none_above_listed}
 
 count_all : (n : ℕ) → count_sites n (λ s. true) ≡ n
@@ -62,21 +61,14 @@ stuck_from c w past run ms v b step r is at ahead = record {
   none_above = none_above_listed c run ms v b r.stands.knows ahead;
 }
 
--- a phase that has ended without its goal ends the call, but for a put's first phases
+-- a phase that has ended without its goal ends the call, but for the first phases
 ended_at : (c : Config) (w : Caller) (past : List Tale) (run : Run) (ms : List Moment) (stage : Stage) (answer : Answer) → IsConfig c → run.stage ≡ stage → RunsOut c w past run ms → ended_in run stage ≡ Some answer → HasTurned c w past run ms (Some answer)
-ended_at c w past run ms Look answer config at r e =
-    elim (cases_Bool (is_some run.own)) [
-      | inl own ↦ absurd (none-some answer (sym (cond-true (is_some run.own) None (Some (given_in_of run)) own) ∙ e))
-      | inr none ↦ (
-          let told : given_in_of run ≡ answer = same_Some (given_in_of run) answer (sym (cond-false (is_some run.own) None (Some (given_in_of run)) none) ∙ e) in
-          let undecided : NoEvidence c ms (highest_of run.rows) = subst (λ st. NoEvidence c ms (version_in st (highest_of run.rows))) at r.none in
-          subst (λ a. HasTurned c w past run ms (Some a)) told (given_in_turned c w past run ms config r.stands r.going (NoRepair (highest_of run.rows) (no_own c w past run ms r.stands none) (record { idle = r.idle; heard = r.heard }) undecided)))
-    ]
+ended_at c w past run ms Look answer config at r e = absurd (none-some answer e)
 ended_at c w past run ms (Fast v) answer config at r e = absurd (none-some answer e)
-ended_at c w past run ms (Prepare v b) answer config at r e =
-    let s : StageStands c w past (Prepare v b) ms = subst (λ st. StageStands c w past st ms) at r.stage in
-    let ahead : IsAheadIn run.rows (Prepare v b) = subst (λ st. IsAheadIn run.rows st) at r.ahead in
-    let short : IsShortIn c run.rows (Prepare v b) = subst (λ st. IsShortIn c run.rows st) at r.short in
+ended_at c w past run ms (Prepare v b found) answer config at r e =
+    let s : StageStands c w past (Prepare v b found) ms = subst (λ st. StageStands c w past st ms) at r.stage in
+    let ahead : IsAheadIn run.rows (Prepare v b found) = subst (λ st. IsAheadIn run.rows st) at r.ahead in
+    let short : IsShortIn c run.rows (Prepare v b found) = subst (λ st. IsShortIn c run.rows st) at r.short in
     let stuck = stuck_from c w past run ms v b (Promise v b) r (ap (λ st. step_in st run.own) at) (ap (λ st. version_in st (highest_of run.rows)) at) ahead in
     subst (λ a. HasTurned c w past run ms (Some a)) (same_Some (given_in_of run) answer e) (given_in_turned c w past run ms config r.stands r.going (NoPromise v b s.0.works.promise stuck (short_known c run ms v b r.stands.knows short)))
 ended_at c w past run ms (Accept v b x) answer config at r e =

@@ -19,6 +19,7 @@ use Rattle.gz_round.specs.Rounds.{MayPromise, MayClassicVote, MayPropose, IsLeft
 use Rattle.gz_pick.specs.declared.heard.Heard.{Heard}
 use Rattle.gz_round.specs.Sending.{MayFastVote, MayMake}
 use Rattle.gz_round.specs.Following.{MayMakeOf}
+use Rattle.gz_round.proofs.LookBacks.{back_more}
 
 -- what a request that is sent in a pass does: it reads, or makes the step
 pub record IsOf (op : Op) (step : Option RowStep) : Type 0 where
@@ -149,6 +150,7 @@ classic_kept c w ms a v b value is h = record {
   choice = left_kept c w ms a v b h.heard value is h.choice;
   known = known_kept w ms a v value h.known;
   one = λ (y : Name) (k : has_cast (Sent a ∷ ms) v b y ≡ true). one_cast (of_step cast_by a.op) v b value y (has_cast ms v b y) (cast_sent a.op v b value is) (h.one y) k;
+  back = λ reads free. back_more c (Sent a) ms v b (Some value) (h.back reads free);
 }
 
 -- a guard that holds goes on to hold

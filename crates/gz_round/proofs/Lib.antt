@@ -3,6 +3,7 @@ pub mod Moments
 pub mod Heard
 pub mod Columns
 pub mod Known
+pub mod LookBacks
 pub mod Guards
 pub mod Stages
 pub mod Sends

@@ -21,6 +21,12 @@ slice_get-set_other (y ∷ ys) zero (suc k) x n = refl
 slice_get-set_other (y ∷ ys) (suc i) zero x n = refl
 slice_get-set_other (y ∷ ys) (suc i) (suc k) x n = slice_get-set_other ys i k x (λ (e : k ≡ i). n (ap suc e))
 
+-- a place in the list has an element
+pub place_of : {A : Type 0} (xs : List A) (i : ℕ) → i < length xs → (x : A) × (slice_get xs i ≡ Some x)
+place_of [] i l = absurd (omega arith)
+place_of (y ∷ ys) zero l = (y, refl)
+place_of (y ∷ ys) (suc i) l = place_of ys i (omega arith)
+
 -- a list that tells a function of the site goes on to, where one place changes as the function does
 pub told_after_set : {A : Type 0} (n : ℕ) (xs : List A) (f g : ℕ → A) (at : ℕ) (y : A) → length xs ≡ n → ((s : ℕ) → s < n → slice_get xs s ≡ Some (f s)) →
     y ≡ g at → ((s : ℕ) → s ≢ at → f s ≡ g s) → (s : ℕ) → s < n → slice_get (set xs at y) s ≡ Some (g s)

@@ -12,12 +12,9 @@ use Rattle.gz_round.specs.Counting.{outs, IsGoing}
 use Rattle.gz_round.specs.Asking.{IsLeftBy}
 use Rattle.gz_round.specs.Standing.{StageStands, IsWaiting, Runs}
 use Rattle.gz_round.specs.Following.{Asks, AreServed, Ready}
-use Rattle.gz_round.proofs.Sends.{row_after_sent, out_after_sent}
-use Rattle.gz_round.proofs.Turns.{over_sent, going_sent, again_from, stage_kept}
+use Rattle.gz_round.proofs.Sends.{out_after_sent}
+use Rattle.gz_round.proofs.Turns.{over_sent, row_sent, earlier_sent, going_sent, again_from, stage_kept}
 use Rattle.gz_round.proofs.GivingIn.{count_none}
-
-row_sent : (first : ℕ) (sent : List Out) (ms : List Moment) (s : ℕ) → (site_now (sent_from first sent ms) s).row ≡ (site_now ms s).row
-row_sent first sent ms s = over_sent (λ ns. (site_now ns s).row ≡ (site_now ms s).row) (λ (a : Asked) (ns : List Moment) (e : (site_now ns s).row ≡ (site_now ms s).row). sym (row_after_sent a ns s) ∙ e) first sent ms refl
 
 out_sent : (first : ℕ) (sent : List Out) (ms : List Moment) (s : ℕ) → (site_now (sent_from first sent ms) s).out ≡ (site_now ms s).out
 out_sent first sent ms s = over_sent (λ ns. (site_now ns s).out ≡ (site_now ms s).out) (λ (a : Asked) (ns : List Moment) (e : (site_now ns s).out ≡ (site_now ms s).out). sym (out_after_sent a ns s) ∙ e) first sent ms refl
@@ -37,7 +34,7 @@ opens c w past run new first sent config r look asks served left =
     let s : StageStands c w past Look [] = subst (λ st. StageStands c w past st []) look r.stage in
     record {
       stands = asks.stands;
-      stage = subst (λ st. StageStands c w past st (sent_from first sent [])) (sym (left.stage ∙ look)) (stage_kept c w past run new [] (sent_from first sent []) Look r.stands asks.stands left s tt tt);
+      stage = subst (λ st. StageStands c w past st (sent_from first sent [])) (sym (left.stage ∙ look)) (stage_kept c w past run new [] (sent_from first sent []) Look r.stands asks.stands left (earlier_sent first sent []) s tt tt);
       again = again_from c w (sent_from first sent []) None served;
       going = going_sent c first sent [] begins;
       waits = waits_first c w first sent (site_now (sent_from first sent []) 0).awaits (omega (arith, config.some)) refl served;

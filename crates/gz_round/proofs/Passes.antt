@@ -1,7 +1,6 @@
 -- A pass over the sites, one after another.
-use Rattle.std.proofs.Common.{◌≡◌, ℕ, zero, suc, ◌+◌, ◌<◌, ◌≤◌, true, cond, ◌||◌, List, [], ◌∷◌, length, Option, Some, None, refl, sym, ap, ◌∙◌, subst, inl, inr, arith, set}
+use Rattle.std.proofs.Common.{◌≡◌, ℕ, ◌+◌, ◌<◌, ◌≤◌, true, cond, ◌||◌, List, length, Option, Some, None, refl, sym, ap, ◌∙◌, subst, inl, inr, arith, set}
 use Rattle.std.proofs.Math.ListN.{length-set}
-use Rattle.std.specs.List.{slice_get}
 use Rattle.std.proofs.lemmas.Bool.{cases_Bool, cond-true, cond-false}
 use Rattle.std.proofs.lemmas.Option.{none-some}
 use Rattle.gz_core.specs.Rows.{RowAt}
@@ -14,6 +13,7 @@ use Rattle.gz_round.specs.History.{Moment, Caller, Tale, sent_from}
 use Rattle.gz_round.specs.Sent.{of_step, vote_by, phase_by, passes_sent}
 use Rattle.gz_round.specs.Asking.{asks_of, sent_run, marked_as, phase_after, AskedBy, IsAskedAt, IsLeftBy}
 use Rattle.gz_round.specs.Following.{Asks, AreServed, CanAsk}
+use Rattle.gz_round.proofs.Lists.{place_of}
 use Rattle.gz_round.proofs.Sends.{Kind, reads, writes, asked_kind}
 use Rattle.gz_round.proofs.Serves.{Passed, passed_more}
 
@@ -30,11 +30,6 @@ left_trans a b d step h k = record {
   voted = λ e. k.voted e ∙ h.voted e;
   wrote = λ e. k.wrote e ∙ h.wrote e;
 }
-
-place_of : {A : Type 0} (xs : List A) (i : ℕ) → i < length xs → (x : A) × (slice_get xs i ≡ Some x)
-place_of [] i l = absurd (omega arith)
-place_of (y ∷ ys) zero l = (y, refl)
-place_of (y ∷ ys) (suc i) l = place_of ys i (omega arith)
 
 marks_left : (run : Run) (at number : ℕ) (mark : Mark) (out : Out) → length (cond out.awaited (set run.marks at (marked_as mark number out)) run.marks) ≡ length run.marks
 marks_left run at number mark out = elim (cases_Bool out.awaited) [

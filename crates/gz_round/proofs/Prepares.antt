@@ -1,8 +1,8 @@
--- A put prepares a ballot above every one that it knows, and that its session used.
-use Rattle.std.proofs.Common.{◌≡◌, ◌≢◌, ℕ, zero, suc, ◌+◌, ◌<◌, ◌≤◌, ◌^◌, max, Bool, true, false, cond, ◌&&◌, ◌==◌, not, List, [], ◌∷◌, Option, Some, None, is_some, refl, sym, ap, ◌∙◌, subst, inl, inr, ◌⊎◌, arith, leb}
+-- A call prepares a ballot above every one that it knows, and that its session used.
+use Rattle.std.proofs.Common.{◌≡◌, ◌≢◌, ℕ, zero, suc, ◌+◌, ◌<◌, ◌≤◌, ◌^◌, max, Bool, true, false, cond, ◌&&◌, ◌||◌, ◌==◌, not, List, [], ◌∷◌, Option, Some, None, refl, sym, ap, ◌∙◌, subst, inl, inr, ◌⊎◌, arith, leb}
 use Rattle.std.specs.List.{slice_get, list_any}
 use Rattle.std.specs.Prelude.{nat_lt}
-use Rattle.std.proofs.lemmas.Bool.{cases_Bool, cases_lt, cond-true, cond-false, false≢true, both_ways, or_cases, or_right, and_parts, ltb-true, eqb-true, false_from_ne_true, le-leb}
+use Rattle.std.proofs.lemmas.Bool.{cases_Bool, cases_lt, cond-true, cond-false, false≢true, both_ways, or_cases, or_right, or_parts, and_parts, ltb-true, eqb-true, false_from_ne_true, le-leb}
 use Rattle.std.proofs.lemmas.Bool.Decides.{nat_tests}
 use Rattle.std.proofs.lemmas.Option.{same_Some, none-some, slice_get_within}
 use Rattle.gz_core.specs.Names.{Name, BallotAt, same_ballot, same_name}
@@ -11,6 +11,9 @@ use Rattle.gz_core.specs.Rows.{RowAt}
 use Rattle.gz_core.specs.Slots.{Slot, Gone, DecidedAs, OpenAt, slots}
 use Rattle.gz_core.specs.Counts.{count_sites}
 use Rattle.gz_core.specs.Configurations.{IsConfig}
+use Rattle.gz_core.specs.Calls.{own_value}
+use Rattle.gz_core.specs.declared.values.Value.{Value}
+use Rattle.gz_core.specs.declared.requests.Out.{Out}
 use Rattle.gz_core.specs.declared.configuration.Config.{Config}
 use Rattle.gz_core.specs.declared.requests.RowStep.{RowStep}
 use Rattle.gz_core.specs.declared.requests.RowStep.TheVariants.{FastVote, Promise, ClassicVote, Decide, Trim}
@@ -23,10 +26,11 @@ use Rattle.gz_pick.specs.Looks.{row_top, highest_of}
 use Rattle.gz_round.specs.declared.run.Run.{Run}
 use Rattle.gz_round.specs.declared.run.Stage.{Stage}
 use Rattle.gz_round.specs.declared.run.Stage.TheVariants.{Look, Fast, Prepare, Accept}
-use Rattle.gz_round.specs.History.{Moment, Sent, Handed, GaveUp, Rested, GaveIn, Caller, Tale}
+use Rattle.gz_round.specs.History.{Asked, Moment, Sent, Handed, GaveUp, Rested, GaveIn, Caller, Tale, sent_from}
 use Rattle.gz_round.specs.Sites.{SiteNow, site_now, some_heard}
 use Rattle.gz_round.specs.Sent.{promise_by, of_step, of_sent, passes_sent, some_sent, has_promised, has_promised_at, top_round, round_after}
 use Rattle.gz_round.specs.Shown.{heard_at, IsGrounded}
+use Rattle.gz_round.specs.LookBack.{lowest_vote, IsLookedBack}
 use Rattle.gz_round.specs.Rounds.{MayPromise, IsUnused, Cast, cast_by, has_cast, passed_since, promises_known, above_known, round_known, slot_round, slot_promises, slot_promises_above, top_rounds, rounds_used}
 use Rattle.gz_round.specs.Sending.{NoPromise, NoRound, IsStuck, IsShort, NoEvidence, NoneAbove, AreRoundsUsedUp, AreAllowed, MayAsk, MayMake, rows_known}
 use Rattle.gz_round.specs.Counting.{known_count, IsGoing}
@@ -38,9 +42,10 @@ use Rattle.gz_round.proofs.Lists.{any_found}
 use Rattle.gz_round.proofs.Heard.{heard_passes}
 use Rattle.gz_round.proofs.Known.{listed_known, known_heard, known_current}
 use Rattle.gz_round.proofs.Columns.{top_highest, highest_reached}
-use Rattle.gz_round.proofs.Follows.{unvoted_clear, own_of, looks_unpromised, unpromised_from, pass_from}
+use Rattle.gz_round.proofs.Follows.{unvoted_clear, looks_unpromised, unpromised_from, pass_from}
 use Rattle.gz_round.proofs.Arms.{stands_stage}
-use Rattle.gz_round.proofs.Turns.{again_from, waits_from, idle_of, heard_from, quorum_known, none_passed, untaken_from}
+use Rattle.gz_round.proofs.LookBacks.{lowest_vote_same}
+use Rattle.gz_round.proofs.Turns.{over_sent, row_sent, earlier_sent, again_from, waits_from, idle_of, heard_from, quorum_known, none_passed, untaken_from}
 use Rattle.gz_round.proofs.GivingIn.{given_in_turned}
 
 -- a ballot that was promised has a round that was used
@@ -154,9 +159,21 @@ short_new c run ms v b config k l =
       | inr none ↦ (let q = config.quorums in omega (arith, config.some, q.majority))
     ]
 
+unpromised_before : (first : ℕ) (sent : List Out) (ms : List Moment) (b : BallotAt) → has_promised (sent_from first sent ms) b ≡ false → has_promised ms b ≡ false
+unpromised_before first sent ms b = over_sent (λ ns. has_promised ns b ≡ false → has_promised ms b ≡ false) (λ (a : Asked) (ns : List Moment) (k : has_promised ns b ≡ false → has_promised ms b ≡ false) (e : (passes_sent (λ p. same_ballot p.1 b) (of_step promise_by a.op) || has_promised ns b) ≡ false).
+    k (or_parts (passes_sent (λ p. same_ballot p.1 b) (of_step promise_by a.op)) (has_promised ns b) e).1) first sent ms (λ e. e)
+
+-- what a call looks back at as it prepares a ballot, whatever it sends at that event
+pub looked_back : (c : Config) (w : Caller) (past : List Tale) (run : Run) (ms : List Moment) (first : ℕ) (sent more : List Out) (v : ℕ) (b : BallotAt) (found : Option Value) → Prepares c w past run (sent_from first sent ms) v → IsBallotAbove run v b → found ≡ lowest_vote c.n v (sent_from first sent ms) → IsLookedBack c (sent_from first more ms) v b found
+looked_back c w past run ms first sent more v b found p n e =
+    let round = n.round in
+    let used = p.stands.round_is in
+    let unpromised : has_promised (sent_from first sent ms) b ≡ false = unpromised_above (sent_from first sent ms) b (omega arith) in
+    (ms, earlier_sent first more ms, unpromised_before first sent ms b unpromised, e ∙ lowest_vote_same c.n v ms (sent_from first sent ms) (row_sent first sent ms))
+
 -- what is kept while the new ballot is promised
-pub prepared_asks : (c : Config) (w : Caller) (past : List Tale) (run : Run) (ms : List Moment) (v : ℕ) (b : BallotAt) → Prepares c w past run ms v → IsBallotAbove run v b → Asks c w past (record run { stage = Prepare v b }) ms (Some (Promise v b))
-prepared_asks c w past run ms v b p n =
+pub prepared_asks : (c : Config) (w : Caller) (past : List Tale) (run : Run) (ms : List Moment) (v : ℕ) (b : BallotAt) (found : Option Value) → Prepares c w past run ms v → IsBallotAbove run v b → Asks c w past (record run { stage = Prepare v b found }) ms (Some (Promise v b))
+prepared_asks c w past run ms v b found p n =
     let round = n.round in
     let used = p.stands.round_is in
     let promise : MayPromise c w past ms v b = record {
@@ -169,21 +186,21 @@ prepared_asks c w past run ms v b p n =
       passed = λ (d : BallotAt) (k : d ≢ b) (e : has_promised_at ms v d ≡ true). p.passed d e;
     } in
     record {
-      stands = stands_stage c w past run ms (Prepare v b) p.stands;
+      stands = stands_stage c w past run ms (Prepare v b found) p.stands;
       may = promise;
       held = (record { works = record { promise = promise; pass = p.pass }; uncast = λ (y : Name). uncast_above c w past ms v b y p.stands.allowed (omega arith); used = inr (omega arith) }, none_above_new c run ms v b p.stands.knows (omega arith));
     }
 
 -- once the new ballot was promised at each site that takes it, the call waits, or gives in
-pub prepared_turned : (c : Config) (w : Caller) (past : List Tale) (run new : Run) (ms : List Moment) (v : ℕ) (b : BallotAt) (ns : List Moment) → IsConfig c → Prepares c w past run ms v → IsBallotAbove run v b → IsGoing c ns → NoEvidence c ns v →
-    Asks c w past new ns (Some (Promise v b)) → AreServed c w ns (Some (Promise v b)) → IsLeftBy (record run { stage = Prepare v b }) new (Some (Promise v b)) → HasTurned c w past new ns (prepared_of new)
-prepared_turned c w past run new ms v b ns config p n going none asks served left =
+pub prepared_turned : (c : Config) (w : Caller) (past : List Tale) (run new : Run) (ms : List Moment) (v : ℕ) (b : BallotAt) (found : Option Value) (ns : List Moment) → IsConfig c → Prepares c w past run ms v → IsBallotAbove run v b → IsGoing c ns → NoEvidence c ns v → (own_value w.name w.call ≡ None → IsLookedBack c ns v b found) →
+    Asks c w past new ns (Some (Promise v b)) → AreServed c w ns (Some (Promise v b)) → IsLeftBy (record run { stage = Prepare v b found }) new (Some (Promise v b)) → HasTurned c w past new ns (prepared_of new)
+prepared_turned c w past run new ms v b found ns config p n going none back asks served left =
     let round = n.round in
     let low : round_in v new.rows < b.round = let same = ap (round_in v) left.rows in omega arith in
     let k : Stands c w past new ns = asks.stands in
     elim (cases_Bool (is_waiting new)) [
       | inl e ↦ subst (HasTurned c w past new ns) (sym (cond-true (is_waiting new) None (Some (given_in_of new)) e))
-          ([], inl refl, record { stands = k; stage = subst (λ st. StageStands c w past st ns) (sym left.stage) (asks.held.0, none_passed c ns v b asks.held.1); again = again_from c w ns (Some (Promise v b)) served; going = going; waits = waits_from c new ns k.knows e })
+          ([], inl refl, record { stands = k; stage = subst (λ st. StageStands c w past st ns) (sym left.stage) (asks.held.0, none_passed c ns v b asks.held.1, back); again = again_from c w ns (Some (Promise v b)) served; going = going; waits = waits_from c new ns k.knows e })
       | inr e ↦ (
           let idle : (s : ℕ) → s < c.n → (site_now ns s).awaits ≡ None = λ (s : ℕ) (l : s < c.n). idle_of c new ns s (site_now ns s).awaits k.knows e l refl in
           let stuck : IsStuck c ns v b (Promise v b) = record { idle = idle; heard = heard_from c w ns (Some (Promise v b)) served idle; undecided = none; untaken = untaken_from c w ns (Promise v b) refl served idle; none_above = none_above_new c new ns v b k.knows low } in
@@ -229,38 +246,33 @@ unpromised_passed ms v u l h d e = absurd (both_ways (has_promised_at ms u d) (h
 
 ended_prepares : (c : Config) (w : Caller) (past : List Tale) (run : Run) (ms : List Moment) (stage : Stage) → run.stage ≡ stage → RunsOut c w past run ms → ended_in run stage ≡ None → Prepares c w past run ms (version_in stage (highest_of run.rows))
 ended_prepares c w past run ms Look at r e =
-    elim (cases_Bool (is_some run.own)) [
-      | inr none ↦ absurd (none-some _ (sym (sym (cond-false (is_some run.own) None _ none) ∙ e)))
-      | inl own ↦ (
-          let s : StageStands c w past Look ms = subst (λ st. StageStands c w past st ms) at r.stage in
-          let above : 1 ≤ highest_of run.rows = subst (λ st. 1 ≤ version_in st (highest_of run.rows)) at r.above in
-          let none : NoEvidence c ms (highest_of run.rows) = subst (λ st. NoEvidence c ms (version_in st (highest_of run.rows))) at r.none in
-          let enough : c.qc ≤ known_count c ms = quorum_known c ms r.heard r.going.enough in
-          let unpromised : IsUnpromised ms 0 = looks_unpromised ms 0 s.1 in
-          let pass : MayPass c w ms (highest_of run.rows) = record {
-            above = above;
-            current = known_current c run ms r.stands.knows (highest_of run.rows) enough (λ (site : ℕ) (row : RowAt) (k : slice_get run.rows site ≡ Some (Some row)). top_highest run.rows site row k);
-            clear = unvoted_clear c w.name ms (highest_of run.rows) s.0;
-            own = own_of c w past run ms r.stands own;
-            later = unpromised_from ms 0 (highest_of run.rows + 1) (omega arith) unpromised;
-          } in
-          let grounded : IsGrounded c ms (highest_of run.rows) = elim (highest_reached run.rows) [
-            | inl zero_is ↦ absurd (omega arith)
-            | inr k ↦ (
-                let inside : k.0 < c.n = let len = r.stands.knows.rows_len in omega (arith, slice_get_within run.rows k.0 (Some k.1) k.2) in
-                let top = k.3 in
-                inr (heard_one c (λ row. leb (highest_of run.rows) (row_top row)) ms k.0 k.1 inside (listed_known c run ms r.stands.knows k.0 k.1 inside k.2) (le-leb (highest_of run.rows) (row_top k.1) (omega arith))))
-          ] in
-          record { stands = r.stands; going = r.going; pass = pass; grounded = grounded; passed = unpromised_passed ms 0 (highest_of run.rows) (omega arith) unpromised; none = none })
-    ]
+    let s : StageStands c w past Look ms = subst (λ st. StageStands c w past st ms) at r.stage in
+    let above : 1 ≤ highest_of run.rows = subst (λ st. 1 ≤ version_in st (highest_of run.rows)) at r.above in
+    let none : NoEvidence c ms (highest_of run.rows) = subst (λ st. NoEvidence c ms (version_in st (highest_of run.rows))) at r.none in
+    let enough : c.qc ≤ known_count c ms = quorum_known c ms r.heard r.going.enough in
+    let unpromised : IsUnpromised ms 0 = looks_unpromised ms 0 s.1 in
+    let pass : MayPass c w ms (highest_of run.rows) = record {
+      above = above;
+      current = known_current c run ms r.stands.knows (highest_of run.rows) enough (λ (site : ℕ) (row : RowAt) (k : slice_get run.rows site ≡ Some (Some row)). top_highest run.rows site row k);
+      clear = unvoted_clear c w.name ms (highest_of run.rows) s.0;
+      later = unpromised_from ms 0 (highest_of run.rows + 1) (omega arith) unpromised;
+    } in
+    let grounded : IsGrounded c ms (highest_of run.rows) = elim (highest_reached run.rows) [
+      | inl zero_is ↦ absurd (omega arith)
+      | inr k ↦ (
+          let inside : k.0 < c.n = let len = r.stands.knows.rows_len in omega (arith, slice_get_within run.rows k.0 (Some k.1) k.2) in
+          let top = k.3 in
+          inr (heard_one c (λ row. leb (highest_of run.rows) (row_top row)) ms k.0 k.1 inside (listed_known c run ms r.stands.knows k.0 k.1 inside k.2) (le-leb (highest_of run.rows) (row_top k.1) (omega arith))))
+    ] in
+    record { stands = r.stands; going = r.going; pass = pass; grounded = grounded; passed = unpromised_passed ms 0 (highest_of run.rows) (omega arith) unpromised; none = none }
 ended_prepares c w past run ms (Fast v) at r e =
     let s : StageStands c w past (Fast v) ms = subst (λ st. StageStands c w past st ms) at r.stage in
     let none : NoEvidence c ms v = subst (λ st. NoEvidence c ms (version_in st (highest_of run.rows))) at r.none in
-    record { stands = r.stands; going = r.going; pass = pass_from c w ms v s.0 s.1 s.2; grounded = inl s.0.next; passed = unpromised_passed ms v v (omega arith) s.2; none = none }
-ended_prepares c w past run ms (Prepare v b) at r e = absurd (none-some _ (sym e))
+    record { stands = r.stands; going = r.going; pass = pass_from c w ms v s.0 s.2; grounded = inl s.0.next; passed = unpromised_passed ms v v (omega arith) s.2; none = none }
+ended_prepares c w past run ms (Prepare v b found) at r e = absurd (none-some _ (sym e))
 ended_prepares c w past run ms (Accept v b x) at r e = absurd (none-some _ (sym e))
 
--- a put prepares once its first phases ended
+-- a call prepares once its first phases ended
 pub out_prepares : (c : Config) (w : Caller) (past : List Tale) (run : Run) (ms : List Moment) → RunsOut c w past run ms → ended_of run ≡ None → Prepares c w past run ms (working_version run)
 out_prepares c w past run ms r e = ended_prepares c w past run ms run.stage refl r e
 
@@ -289,9 +301,9 @@ passed_by c w past run ms v b d h may passed why e =
 lost_prepares : (c : Config) (w : Caller) (past : List Tale) (run : Run) (ms : List Moment) (stage : Stage) → run.stage ≡ stage → Carries c w past run ms → is_overtaken_in run stage ≡ true → Prepares c w past run ms (version_in stage (highest_of run.rows))
 lost_prepares c w past run ms Look at p e = absurd (false≢true e)
 lost_prepares c w past run ms (Fast v) at p e = absurd (false≢true e)
-lost_prepares c w past run ms (Prepare v b) at p e =
+lost_prepares c w past run ms (Prepare v b found) at p e =
     let h = p.acts.ready.stands in
-    let s : StageStands c w past (Prepare v b) ms = subst (λ st. StageStands c w past st ms) at p.acts.ready.stage in
+    let s : StageStands c w past (Prepare v b found) ms = subst (λ st. StageStands c w past st ms) at p.acts.ready.stage in
     let none : NoEvidence c ms v = subst (λ st. IsUnmet c run st ms) at p.acts.unmet in
     let why : (run.round < b.round) ⊎ (list_any (above_known v b) run.rows ≡ true) = elim (or_cases (nat_lt run.round b.round) (list_any (above_known v b) run.rows) e) [ inl l ↦ inl (ltb-true run.round b.round l) | inr k ↦ inr k ] in
     record { stands = h; going = p.acts.going; pass = s.0.works.pass; grounded = s.0.works.promise.grounded; passed = λ (d : BallotAt) (k : has_promised_at ms v d ≡ true). passed_by c w past run ms v b d h s.0.works.promise s.1 why k; none = none }
@@ -301,6 +313,6 @@ lost_prepares c w past run ms (Accept v b x) at p e =
     let none : NoEvidence c ms v = subst (λ st. IsUnmet c run st ms) at p.acts.unmet in
     record { stands = h; going = p.acts.going; pass = s.1.pass; grounded = s.1.promise.grounded; passed = λ (d : BallotAt) (k : has_promised_at ms v d ≡ true). passed_by c w past run ms v b d h s.1.promise s.2 (inr e) k; none = none }
 
--- a put prepares again where its ballot leads no further
+-- a call prepares again where its ballot leads no further
 pub overtaken_prepares : (c : Config) (w : Caller) (past : List Tale) (run : Run) (ms : List Moment) → Carries c w past run ms → is_overtaken run ≡ true → Prepares c w past run ms (working_version run)
 overtaken_prepares c w past run ms p e = lost_prepares c w past run ms run.stage refl p e

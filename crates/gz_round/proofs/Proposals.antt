@@ -22,19 +22,22 @@ use Rattle.gz_core.proofs.Ballots.{same_means, same_from}
 use Rattle.gz_pick.specs.Evidences.{is_in}
 use Rattle.gz_pick.specs.Choices.{pick_of, choice_in, choice_at, carries, has_threshold, top_of, has_site, AreSites}
 use Rattle.gz_pick.specs.declared.heard.Heard.{Heard}
-use Rattle.gz_pick.specs.declared.heard.Pick.TheVariants.{Forced}
+use Rattle.gz_pick.specs.declared.heard.Pick.TheVariants.{Forced, Free}
 use Rattle.gz_round.specs.declared.run.Run.{Run}
 use Rattle.gz_round.specs.declared.run.Stage.TheVariants.{Prepare, Accept}
 use Rattle.gz_round.specs.History.{Moment, Caller, Tale}
 use Rattle.gz_round.specs.Sent.{has_promised_at}
-use Rattle.gz_round.specs.Rounds.{MayClassicVote, IsPromiseHeard, IsLeft, promises_known, slot_promises, has_cast, rounds_used, IsValueKnown}
+use Rattle.gz_core.specs.Calls.{own_value}
+use Rattle.gz_round.specs.LookBack.{or_next, IsLookedBack}
+use Rattle.gz_round.specs.Rounds.{MayClassicVote, MayPropose, IsPromiseHeard, IsLeft, promises_known, slot_promises, has_cast, rounds_used, IsValueKnown}
 use Rattle.gz_round.specs.Causes.{row_value, column_value, vote_value}
-use Rattle.gz_round.specs.Sending.{NoEvidence}
+use Rattle.gz_round.specs.Sending.{NoEvidence, MayGiveIn, NoValue}
 use Rattle.gz_round.specs.Standing.{Knows, Stands, StageStands, MayPass}
 use Rattle.gz_round.specs.Following.{IsUnmet}
 use Rattle.gz_round.specs.Choosing.{slot_vote, heard_vote, IsHeardIn, AreHeardIn, IsProposed}
-use Rattle.gz_round.specs.Acting.{Acts, Carries, IsFewIn}
+use Rattle.gz_round.specs.Acting.{Acts, Carries, IsFewIn, ChoiceMeans, choice_of}
 use Rattle.gz_round.proofs.Known.{listed_known, known_heard}
+use Rattle.gz_round.proofs.LookBacks.{back_heard}
 use Rattle.gz_round.proofs.Arms.{stands_stage}
 
 vote_yes : (b : BallotAt) (slot : Slot) (vote : Option (BallotAt × Name)) → slot_vote b slot ≡ Some vote → slot_promises slot b ≡ true
@@ -202,36 +205,65 @@ row_named row v b vote x e k =
       | inr g ↦ slot_named (column_in row.columns v) b vote x (sym (cond-false (nat_lt 0 row.floor && leb v row.floor) Gone (slot_of (column_in row.columns v)) g) ∙ e) k
     ]
 
--- what is proposed is left to the call
-proposed_left : (c : Config) (w : Caller) (past : List Tale) (run : Run) (ms : List Moment) (v : ℕ) (b : BallotAt) (heard : List Heard) (x : Value) → Stands c w past run ms → MayPass c w ms v → All (IsHeardIn run.rows v b) heard → IsProposed c run v heard x → IsLeft c w ms v heard x
-proposed_left c w past run ms v b heard x h pass all (inl k) = inr (k.0, inl (sym h.own_is ∙ k.1, pass.current, pass.clear))
-proposed_left c w past run ms v b heard x h pass all (inr k) =
+next_none : {A : Type 0} (a b : Option A) → a ≡ None → or_next a b ≡ b
+next_none a b e = ap (λ o. or_next o b) e
+
+next_some : {A : Type 0} (a b : Option A) (x y : A) → a ≡ Some y → Some x ≡ or_next a b → y ≡ x
+next_some a b x y e k = same_Some y x (sym (k ∙ ap (λ o. or_next o b) e))
+
+next_both : {A : Type 0} (a b : Option A) → or_next a b ≡ None → (a ≡ None) × (b ≡ None)
+next_both None b e = (refl, e)
+next_both (Some x) b e = absurd (none-some x (sym e))
+
+forced_free : (at : ℕ) → Forced at ≡ Free → ⊥
+forced_free at e = cc
+
+-- what a call proposes where no value is forced: its own, or what it looked back at
+free_may : (c : Config) (w : Caller) (past : List Tale) (run : Run) (ms : List Moment) (v : ℕ) (b : BallotAt) (found : Option Value) (x : Value) (own : Option Value) → own_value w.name w.call ≡ own → Stands c w past run ms → MayPass c w ms v → (own_value w.name w.call ≡ None → IsLookedBack c ms v b found) → Some x ≡ or_next run.own found →
+    MayPropose c w ms v x × IsValueKnown w ms v x × (own_value w.name w.call ≡ None → IsLookedBack c ms v b (Some x))
+free_may c w past run ms v b found x (Some y) is h pass back e =
+    let same : y ≡ x = next_some run.own found x y (h.own_is ∙ is) e in
+    let own : own_value w.name w.call ≡ Some x = is ∙ ap (λ z. Some z) same in
+    (inl (own, pass.current, pass.clear), inl own, λ reads. absurd (none-some x (sym reads ∙ own)))
+free_may c w past run ms v b found x None is h pass back e =
+    let same : found ≡ Some x = sym (e ∙ next_none run.own found (h.own_is ∙ is)) in
+    let looked : IsLookedBack c ms v b (Some x) = subst (IsLookedBack c ms v b) same (back is) in
+    let w' = back_heard c ms v b x looked in
+    (inr (w'.0, w'.1, w'.2, is, w'.3, w'.4), inr (w'.0, w'.1, w'.3, w'.5), λ reads. looked)
+
+-- what is proposed is left to the call, which knows it
+proposed_may : (c : Config) (w : Caller) (past : List Tale) (run : Run) (ms : List Moment) (v : ℕ) (b : BallotAt) (found : Option Value) (heard : List Heard) (x : Value) → Stands c w past run ms → MayPass c w ms v → (own_value w.name w.call ≡ None → IsLookedBack c ms v b found) → All (IsHeardIn run.rows v b) heard → IsProposed c run v found heard (Some x) →
+    IsLeft c w ms v heard x × IsValueKnown w ms v x × (own_value w.name w.call ≡ None → pick_of c.n c.qf heard ≡ Free → IsLookedBack c ms v b (Some x))
+proposed_may c w past run ms v b found heard x h pass back all (inl k) =
+    let may = free_may c w past run ms v b found x (own_value w.name w.call) refl h pass back k.1 in
+    (inr (k.0, may.0), may.1, λ reads free. may.2 reads)
+proposed_may c w past run ms v b found heard x h pass back all (inr k) =
     let one : Heard = k.1 in
-    let inside : k.0 < length heard = slice_get_within heard k.0 k.1 k.4 in
-    let was : IsHeardIn run.rows v b one = subst (IsHeardIn run.rows v b) (get_or_from_slice_get heard k.0 k.1 k.1 k.4) (all k.0 k.1 inside) in
+    let place : k.0 < length heard = slice_get_within heard k.0 k.1 k.4 in
+    let was : IsHeardIn run.rows v b one = subst (IsHeardIn run.rows v b) (get_or_from_slice_get heard k.0 k.1 k.1 k.4) (all k.0 k.1 place) in
     let same : was.0 ≡ k.2 = same_Some was.0 k.2 (same_Some (Some was.0) (Some k.2) (sym was.1 ∙ k.5)) in
     let open' : slots k.2 v ≡ OpenAt b one.vote = subst (λ (r : RowAt). slots r v ≡ OpenAt b one.vote) same (slot_open b (slots was.0 v) one.vote was.2).0 in
-    let named = row_named k.2 v b one.vote x open' k.6 in
-    inl (k.0, k.3, (one, named.0, k.4, named.1, named.2))
-
--- and the call knows it
-proposed_known : (c : Config) (w : Caller) (past : List Tale) (run : Run) (ms : List Moment) (v : ℕ) (heard : List Heard) (x : Value) → Stands c w past run ms → IsProposed c run v heard x → IsValueKnown w ms v x
-proposed_known c w past run ms v heard x h (inl k) = inl (sym h.own_is ∙ k.1)
-proposed_known c w past run ms v heard x h (inr k) =
-    let one : Heard = k.1 in
+    let value : row_value k.2 v ≡ Some x = k.7 ∙ sym k.8 in
+    let named = row_named k.2 v b one.vote x open' value in
     let inside : one.site < c.n = let len = h.knows.rows_len in omega (arith, slice_get_within run.rows one.site (Some k.2) k.5) in
-    inr (one.site, k.2, known_heard ms one.site k.2 (listed_known c run ms h.knows one.site k.2 inside k.5), k.6)
+    (inl (k.0, k.3, (one, named.0, k.4, named.1, named.2)), inr (one.site, k.2, known_heard ms one.site k.2 (listed_known c run ms h.knows one.site k.2 inside k.5), value), λ reads free. absurd (forced_free k.0 (sym k.3 ∙ free)))
+
+-- where nothing is proposed, the call writes nothing and looked back at nothing
+proposed_none : (c : Config) (w : Caller) (past : List Tale) (run : Run) (ms : List Moment) (v : ℕ) (b : BallotAt) (found : Option Value) (heard : List Heard) → Stands c w past run ms → IsProposed c run v found heard None → (own_value w.name w.call ≡ None) × (found ≡ None) × (pick_of c.n c.qf heard ≡ Free)
+proposed_none c w past run ms v b found heard h (inl k) = let both = next_both run.own found (sym k.1) in (sym h.own_is ∙ both.0, both.1, k.0)
+proposed_none c w past run ms v b found heard h (inr k) = absurd (none-some k.6 k.8)
 
 was_promised : (past : List Tale) (ms : List Moment) (v : ℕ) (b : BallotAt) (round : ℕ) → round ≡ rounds_used past ms → b.round ≤ round → (has_promised_at ms v b ≡ true) ⊎ (rounds_used past ms < b.round) → has_promised_at ms v b ≡ true
 was_promised past ms v b round e l (inl h) = h
 was_promised past ms v b round e l (inr h) = absurd (omega arith)
 
 -- a quorum promises the ballot, and the call may vote in it
-pub chosen_carries : (c : Config) (w : Caller) (past : List Tale) (run : Run) (ms : List Moment) (v : ℕ) (b : BallotAt) (heard : List Heard) (x : Value) → run.stage ≡ Prepare v b → Acts c w past run ms → b.round ≤ run.round → AreHeardIn c run.rows v b heard c.n → c.qc ≤ length heard → IsProposed c run v heard x →
+chosen_carries : (c : Config) (w : Caller) (past : List Tale) (run : Run) (ms : List Moment) (v : ℕ) (b : BallotAt) (found : Option Value) (heard : List Heard) (x : Value) → run.stage ≡ Prepare v b found → Acts c w past run ms → b.round ≤ run.round → AreHeardIn c run.rows v b heard c.n → c.qc ≤ length heard → IsProposed c run v found heard (Some x) →
     Carries c w past (record run { stage = Accept v b x }) ms
-chosen_carries c w past run ms v b heard x at a reached are enough proposed =
-    let s : StageStands c w past (Prepare v b) ms = subst (λ st. StageStands c w past st ms) at a.ready.stage in
+chosen_carries c w past run ms v b found heard x at a reached are enough proposed =
+    let s : StageStands c w past (Prepare v b found) ms = subst (λ st. StageStands c w past st ms) at a.ready.stage in
     let unmet : NoEvidence c ms v = subst (λ st. IsUnmet c run st ms) at a.unmet in
+    let may = proposed_may c w past run ms v b found heard x a.ready.stands s.0.works.pass s.2 are.rows_are proposed in
     let vote : MayClassicVote c w ms v b x = record {
       above = s.0.works.pass.above;
       promised = was_promised past ms v b run.round a.ready.stands.round_is reached s.0.used;
@@ -239,20 +271,42 @@ chosen_carries c w past run ms v b heard x at a reached are enough proposed =
       sites = are.sites;
       enough = enough;
       rows = promises_heard c run ms v b heard a.ready.stands.knows are.rows_are;
-      choice = proposed_left c w past run ms v b heard x a.ready.stands s.0.works.pass are.rows_are proposed;
-      known = proposed_known c w past run ms v heard x a.ready.stands proposed;
+      choice = may.0;
+      known = may.1;
       one = λ (y : Name) (k : has_cast ms v b y ≡ true). absurd (both_ways (has_cast ms v b y) (s.0.uncast y) k);
+      back = may.2;
     } in
     record {
       acts = record { ready = record { stands = stands_stage c w past run ms (Accept v b x) a.ready.stands; stage = (vote, s.0.works, s.1) }; going = a.going; unmet = unmet };
       few = tt;
     }
 
+-- a quorum promises the ballot, and the call has no value to vote for
+nothing_gives_in : (c : Config) (w : Caller) (past : List Tale) (run : Run) (ms : List Moment) (v : ℕ) (b : BallotAt) (found : Option Value) (heard : List Heard) → run.stage ≡ Prepare v b found → Acts c w past run ms → AreHeardIn c run.rows v b heard c.n → c.qc ≤ length heard → IsProposed c run v found heard None → MayGiveIn c w past ms
+nothing_gives_in c w past run ms v b found heard at a are enough proposed =
+    let s : StageStands c w past (Prepare v b found) ms = subst (λ st. StageStands c w past st ms) at a.ready.stage in
+    let none = proposed_none c w past run ms v b found heard a.ready.stands proposed in
+    NoValue v b (record {
+      reads = none.0;
+      promise = s.0.works.promise;
+      heard = heard;
+      sites = are.sites;
+      enough = enough;
+      rows = promises_heard c run ms v b heard a.ready.stands.knows are.rows_are;
+      free = none.2;
+      back = subst (IsLookedBack c ms v b) none.1 (s.2 none.0);
+      undecided = subst (λ st. IsUnmet c run st ms) at a.unmet;
+    })
+
+pub chosen_means : (c : Config) (w : Caller) (past : List Tale) (run : Run) (ms : List Moment) (v : ℕ) (b : BallotAt) (found : Option Value) (heard : List Heard) (o : Option Value) → run.stage ≡ Prepare v b found → Acts c w past run ms → b.round ≤ run.round → AreHeardIn c run.rows v b heard c.n → c.qc ≤ length heard → IsProposed c run v found heard o → ChoiceMeans c w past run ms (choice_of v b o)
+chosen_means c w past run ms v b found heard None at a reached are enough proposed = nothing_gives_in c w past run ms v b found heard at a are enough proposed
+chosen_means c w past run ms v b found heard (Some x) at a reached are enough proposed = chosen_carries c w past run ms v b found heard x at a reached are enough proposed
+
 -- all rows were looked at
 counted_all : (c : Config) (rows : List (Option RowAt)) (v : ℕ) (b : BallotAt) (heard : List Heard) → length rows ≡ c.n → AreHeardIn c rows v b heard c.n → length heard ≡ count_by (promises_known v b) rows
 counted_all c rows v b heard len are = are.counted ∙ ap (count_by (promises_known v b)) (ap (λ n. take n rows) (sym len) ∙ take-length rows)
 
 -- short of a quorum, or of a promise that the call sent
-pub few_promises : (c : Config) (run : Run) (v : ℕ) (b : BallotAt) (heard : List Heard) → run.stage ≡ Prepare v b → length run.rows ≡ c.n → AreHeardIn c run.rows v b heard c.n → (run.round < b.round) ⊎ (length heard < c.qc) → IsFewIn c run run.stage
-few_promises c run v b heard at len are (inl l) = subst (IsFewIn c run) (sym at) (inl l)
-few_promises c run v b heard at len are (inr l) = let counted = counted_all c run.rows v b heard len are in subst (IsFewIn c run) (sym at) (inr (omega arith))
+pub few_promises : (c : Config) (run : Run) (v : ℕ) (b : BallotAt) (found : Option Value) (heard : List Heard) → run.stage ≡ Prepare v b found → length run.rows ≡ c.n → AreHeardIn c run.rows v b heard c.n → (run.round < b.round) ⊎ (length heard < c.qc) → IsFewIn c run run.stage
+few_promises c run v b found heard at len are (inl l) = subst (IsFewIn c run) (sym at) (inl l)
+few_promises c run v b found heard at len are (inr l) = let counted = counted_all c run.rows v b heard len are in subst (IsFewIn c run) (sym at) (inr (omega arith))

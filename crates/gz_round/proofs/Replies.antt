@@ -1,5 +1,5 @@
 -- A reply, or a give-up: what is noted of it stands for it.
-use Rattle.std.proofs.Common.{◌≡◌, ◌≢◌, ℕ, ◌+◌, ◌<◌, max, Bool, true, false, List, ◌∷◌, length, Option, Some, None, option_map, refl, sym, ap, ◌∙◌, subst, inl, inr}
+use Rattle.std.proofs.Common.{◌≡◌, ◌≢◌, ℕ, ◌+◌, ◌<◌, max, Bool, true, false, cond, List, ◌∷◌, length, Option, Some, None, option_map, refl, sym, ap, ◌∙◌, subst, inl, inr}
 use Rattle.std.proofs.Math.ListN.{length-set}
 use Rattle.std.specs.List.{slice_get}
 use Rattle.std.proofs.lemmas.Bool.{cases_eq, cond-true, cond-false}
@@ -12,12 +12,12 @@ use Rattle.gz_round.specs.declared.hearing.Seen.{Seen}
 use Rattle.gz_round.specs.declared.run.Mark.{Mark}
 use Rattle.gz_round.specs.declared.run.Run.{Run}
 use Rattle.gz_round.specs.History.{Asked, Moment, Handed, GaveUp, Caller, Tale}
-use Rattle.gz_round.specs.Sites.{SiteNow, site_now, after_reply, known, written_by, seen_in, is_changed}
+use Rattle.gz_round.specs.Sites.{SiteNow, site_now, after_reply, known, row_seen, written_by, seen_in, is_changed}
 use Rattle.gz_round.specs.Sent.{met, voted, phase_of, top_round}
 use Rattle.gz_round.specs.Rounds.{top_rounds}
 use Rattle.gz_round.specs.Sending.{IsAllowed, IsAwaitedOf}
 use Rattle.gz_round.specs.Noting.{left_run, noted_by, written_at, written_of, IsReplyNoted}
-use Rattle.gz_round.specs.Standing.{Knows, Stands, StageStands, IsSound, mark_of, awaited_of}
+use Rattle.gz_round.specs.Standing.{Knows, Stands, StageStands, IsSound, mark_of, etag_seen, awaited_of}
 use Rattle.gz_round.specs.Following.{Ready}
 use Rattle.gz_round.proofs.Lists.{told_after_set, told_same}
 use Rattle.gz_round.proofs.Moments.{is_to_same, is_to_other, now_here, now_other}
@@ -29,7 +29,7 @@ met_by None true n = n + 1
 met_by None false n = n
 
 ended_rows : (c : Config) (run : Run) (ms : List Moment) (m : Moment) (at : ℕ) (seen : Option Seen) (changed : Bool) → Ends m at seen changed → (site_now ms at).out ≡ false → Knows c run ms → at < c.n →
-    (s : ℕ) → s < c.n → slice_get (noted_by run at (mark_of (site_now ms at)) seen changed).rows s ≡ Some (known (site_now (m ∷ ms) s))
+    (s : ℕ) → s < c.n → slice_get (noted_by run at (mark_of (site_now ms at)) (known (site_now ms at)) seen changed).rows s ≡ Some (known (site_now (m ∷ ms) s))
 ended_rows c run ms m at (Some seen) changed e kept k l =
     told_after_set c.n run.rows (λ s. known (site_now ms s)) (λ s. known (site_now (m ∷ ms) s)) at (Some seen.row) k.rows_len k.rows
     (sym (ap known (now_here m ms at e.here ∙ e.after_is (site_now ms at)) ∙ cond-false (site_now ms at).out None (Some seen.row) kept))
@@ -45,35 +45,45 @@ ended_rows c run ms m at None false e kept k l =
     (sym (ap known (now_here m ms at e.here ∙ e.after_is (site_now ms at))))
     (λ (s : ℕ) (n : s ≢ at). ap known (sym (now_other m ms s (e.others s n))))
 
+-- the mark of a site whose request ended, where it wasn't out
+mark_heard : (etag : Option ℕ) (row : RowAt) (out : Bool) → out ≡ false → (let m : Mark = record { etag = etag; changed = false; out = false; left = None; awaited = None } in m) ≡ record { etag = etag; changed = false; out = out; left = cond out (Some row) None; awaited = None }
+mark_heard etag row out kept = ap (λ (b : Bool). let m : Mark = record { etag = etag; changed = false; out = b; left = cond b (Some row) None; awaited = None } in m) (sym kept)
+
+mark_overtaken : (now : SiteNow) → now.out ≡ false → (let m : Mark = record { etag = etag_seen now.row; changed = true; out = now.out; left = None; awaited = None } in m) ≡ mark_of (after_reply None true now)
+mark_overtaken now kept = ap (λ (o : Option RowAt). let m : Mark = record { etag = etag_seen now.row; changed = true; out = now.out; left = o; awaited = None } in m) (sym (cond-false now.out (row_seen now.row) None kept))
+
+mark_left : (now : SiteNow) → now.out ≡ false → (let m : Mark = record { etag = etag_seen now.row; changed = now.changed; out = true; left = known now; awaited = None } in m) ≡ mark_of (after_reply None false now)
+mark_left now kept = ap (λ (o : Option RowAt). let m : Mark = record { etag = etag_seen now.row; changed = now.changed; out = true; left = o; awaited = None } in m) (cond-false now.out None (row_seen now.row) kept)
+
 ended_marks : (c : Config) (run : Run) (ms : List Moment) (m : Moment) (at : ℕ) (seen : Option Seen) (changed : Bool) → Ends m at seen changed → (site_now ms at).out ≡ false → Knows c run ms → at < c.n →
-    (s : ℕ) → s < c.n → slice_get (noted_by run at (mark_of (site_now ms at)) seen changed).marks s ≡ Some (mark_of (site_now (m ∷ ms) s))
+    (s : ℕ) → s < c.n → slice_get (noted_by run at (mark_of (site_now ms at)) (known (site_now ms at)) seen changed).marks s ≡ Some (mark_of (site_now (m ∷ ms) s))
 ended_marks c run ms m at (Some seen) changed e kept k l =
-    told_after_set c.n run.marks (λ s. mark_of (site_now ms s)) (λ s. mark_of (site_now (m ∷ ms) s)) at (record { etag = seen.etag; changed = false; out = false; awaited = None }) k.marks_len k.marks
-    (ap (λ (b : Bool). let r : Mark = record { etag = seen.etag; changed = false; out = b; awaited = None } in r) (sym kept) ∙ sym (ap mark_of (now_here m ms at e.here ∙ e.after_is (site_now ms at))))
+    told_after_set c.n run.marks (λ s. mark_of (site_now ms s)) (λ s. mark_of (site_now (m ∷ ms) s)) at (record { etag = seen.etag; changed = false; out = false; left = None; awaited = None }) k.marks_len k.marks
+    (mark_heard seen.etag seen.row (site_now ms at).out kept ∙ sym (ap mark_of (now_here m ms at e.here ∙ e.after_is (site_now ms at))))
     (λ (s : ℕ) (n : s ≢ at). ap mark_of (sym (now_other m ms s (e.others s n))))
 ended_marks c run ms m at None true e kept k l =
-    told_after_set c.n run.marks (λ s. mark_of (site_now ms s)) (λ s. mark_of (site_now (m ∷ ms) s)) at (mark_of (after_reply None true (site_now ms at))) k.marks_len k.marks
-    (sym (ap mark_of (now_here m ms at e.here ∙ e.after_is (site_now ms at))))
+    told_after_set c.n run.marks (λ s. mark_of (site_now ms s)) (λ s. mark_of (site_now (m ∷ ms) s)) at (record { etag = etag_seen (site_now ms at).row; changed = true; out = (site_now ms at).out; left = None; awaited = None }) k.marks_len k.marks
+    (mark_overtaken (site_now ms at) kept ∙ sym (ap mark_of (now_here m ms at e.here ∙ e.after_is (site_now ms at))))
     (λ (s : ℕ) (n : s ≢ at). ap mark_of (sym (now_other m ms s (e.others s n))))
 ended_marks c run ms m at None false e kept k l =
-    told_after_set c.n run.marks (λ s. mark_of (site_now ms s)) (λ s. mark_of (site_now (m ∷ ms) s)) at (mark_of (after_reply None false (site_now ms at))) k.marks_len k.marks
-    (sym (ap mark_of (now_here m ms at e.here ∙ e.after_is (site_now ms at))))
+    told_after_set c.n run.marks (λ s. mark_of (site_now ms s)) (λ s. mark_of (site_now (m ∷ ms) s)) at (record { etag = etag_seen (site_now ms at).row; changed = (site_now ms at).changed; out = true; left = known (site_now ms at); awaited = None }) k.marks_len k.marks
+    (mark_left (site_now ms at) kept ∙ sym (ap mark_of (now_here m ms at e.here ∙ e.after_is (site_now ms at))))
     (λ (s : ℕ) (n : s ≢ at). ap mark_of (sym (now_other m ms s (e.others s n))))
 
-ended_rows_len : (run : Run) (at : ℕ) (mark : Mark) (seen : Option Seen) (changed : Bool) → length (noted_by run at mark seen changed).rows ≡ length run.rows
-ended_rows_len run at mark (Some seen) changed = length-set run.rows at (Some seen.row)
-ended_rows_len run at mark None true = refl
-ended_rows_len run at mark None false = length-set run.rows at None
+ended_rows_len : (run : Run) (at : ℕ) (mark : Mark) (row : Option RowAt) (seen : Option Seen) (changed : Bool) → length (noted_by run at mark row seen changed).rows ≡ length run.rows
+ended_rows_len run at mark row (Some seen) changed = length-set run.rows at (Some seen.row)
+ended_rows_len run at mark row None true = refl
+ended_rows_len run at mark row None false = length-set run.rows at None
 
-ended_marks_len : (run : Run) (at : ℕ) (mark : Mark) (seen : Option Seen) (changed : Bool) → length (noted_by run at mark seen changed).marks ≡ length run.marks
-ended_marks_len run at mark (Some seen) changed = length-set run.marks at _
-ended_marks_len run at mark None true = length-set run.marks at _
-ended_marks_len run at mark None false = length-set run.marks at _
+ended_marks_len : (run : Run) (at : ℕ) (mark : Mark) (row : Option RowAt) (seen : Option Seen) (changed : Bool) → length (noted_by run at mark row seen changed).marks ≡ length run.marks
+ended_marks_len run at mark row (Some seen) changed = length-set run.marks at _
+ended_marks_len run at mark row None true = length-set run.marks at _
+ended_marks_len run at mark row None false = length-set run.marks at _
 
-ended_met : (run : Run) (at : ℕ) (mark : Mark) (seen : Option Seen) (changed : Bool) → (noted_by run at mark seen changed).met ≡ met_by seen changed run.met
-ended_met run at mark (Some seen) changed = refl
-ended_met run at mark None true = refl
-ended_met run at mark None false = refl
+ended_met : (run : Run) (at : ℕ) (mark : Mark) (row : Option RowAt) (seen : Option Seen) (changed : Bool) → (noted_by run at mark row seen changed).met ≡ met_by seen changed run.met
+ended_met run at mark row (Some seen) changed = refl
+ended_met run at mark row None true = refl
+ended_met run at mark row None false = refl
 
 -- all else is as it was
 pub record IsElse (old new : Run) : Type 0 where
@@ -85,10 +95,10 @@ pub record IsElse (old new : Run) : Type 0 where
   pub round : new.round ≡ old.round
   pub stage : new.stage ≡ old.stage
 
-pub ended_else : (run : Run) (at : ℕ) (mark : Mark) (seen : Option Seen) (changed : Bool) → IsElse run (noted_by run at mark seen changed)
-ended_else run at mark (Some seen) changed = record { name = refl; key = refl; own = refl; voted = refl; wrote = refl; round = refl; stage = refl }
-ended_else run at mark None true = record { name = refl; key = refl; own = refl; voted = refl; wrote = refl; round = refl; stage = refl }
-ended_else run at mark None false = record { name = refl; key = refl; own = refl; voted = refl; wrote = refl; round = refl; stage = refl }
+pub ended_else : (run : Run) (at : ℕ) (mark : Mark) (row : Option RowAt) (seen : Option Seen) (changed : Bool) → IsElse run (noted_by run at mark row seen changed)
+ended_else run at mark row (Some seen) changed = record { name = refl; key = refl; own = refl; voted = refl; wrote = refl; round = refl; stage = refl }
+ended_else run at mark row None true = record { name = refl; key = refl; own = refl; voted = refl; wrote = refl; round = refl; stage = refl }
+ended_else run at mark row None false = record { name = refl; key = refl; own = refl; voted = refl; wrote = refl; round = refl; stage = refl }
 
 sound_ended : (seen : Option Seen) (changed : Bool) (now : SiteNow) (s : ℕ) → IsSound (after_reply seen changed now) s
 sound_ended (Some seen) changed now s = record { inside = λ (a : Asked) (e : None ≡ Some a). absurd (none-some a e); answered = refl }
@@ -97,20 +107,20 @@ sound_ended None false now s = record { inside = λ (a : Asked) (e : None ≡ So
 
 -- what is noted stands for the moment
 pub stands_ended : (c : Config) (w : Caller) (past : List Tale) (run : Run) (ms : List Moment) (m : Moment) (at : ℕ) (seen : Option Seen) (changed : Bool) → Ends m at seen changed → at < c.n → (site_now ms at).out ≡ false →
-    voted w.name (m ∷ ms) ≡ voted w.name ms → phase_of (m ∷ ms) ≡ phase_of ms → top_round (m ∷ ms) ≡ top_round ms → met (m ∷ ms) ≡ met_by seen changed (met ms) → IsAllowed c w past ms m → Stands c w past run ms → Stands c w past (noted_by run at (mark_of (site_now ms at)) seen changed) (m ∷ ms)
+    voted w.name (m ∷ ms) ≡ voted w.name ms → phase_of (m ∷ ms) ≡ phase_of ms → top_round (m ∷ ms) ≡ top_round ms → met (m ∷ ms) ≡ met_by seen changed (met ms) → IsAllowed c w past ms m → Stands c w past run ms → Stands c w past (noted_by run at (mark_of (site_now ms at)) (known (site_now ms at)) seen changed) (m ∷ ms)
 stands_ended c w past run ms m at seen changed e l kept votes phase rounds met_then may h =
-    let rest = ended_else run at (mark_of (site_now ms at)) seen changed in
+    let rest = ended_else run at (mark_of (site_now ms at)) (known (site_now ms at)) seen changed in
     record {
       name_is = rest.name ∙ h.name_is;
       key_is = rest.key ∙ h.key_is;
       own_is = rest.own ∙ h.own_is;
       knows = record {
-        rows_len = ended_rows_len run at (mark_of (site_now ms at)) seen changed ∙ h.knows.rows_len;
-        marks_len = ended_marks_len run at (mark_of (site_now ms at)) seen changed ∙ h.knows.marks_len;
+        rows_len = ended_rows_len run at (mark_of (site_now ms at)) (known (site_now ms at)) seen changed ∙ h.knows.rows_len;
+        marks_len = ended_marks_len run at (mark_of (site_now ms at)) (known (site_now ms at)) seen changed ∙ h.knows.marks_len;
         rows = ended_rows c run ms m at seen changed e kept h.knows l;
         marks = ended_marks c run ms m at seen changed e kept h.knows l;
       };
-      met_is = ended_met run at (mark_of (site_now ms at)) seen changed ∙ (ap (met_by seen changed) h.met_is ∙ sym met_then);
+      met_is = ended_met run at (mark_of (site_now ms at)) (known (site_now ms at)) seen changed ∙ (ap (met_by seen changed) h.met_is ∙ sym met_then);
       voted_is = rest.voted ∙ (h.voted_is ∙ sym votes);
       wrote_is = rest.wrote ∙ (h.wrote_is ∙ sym phase);
       round_is = rest.round ∙ (h.round_is ∙ ap (λ (n : ℕ). max (top_rounds past) n) (sym rounds));
@@ -140,20 +150,20 @@ ready_handed c w past run new ms at a reply l awaits r noted =
     let mark : Mark = mark_of (site_now ms at) in
     let written : written_at (mark_of (site_now ms at)) ≡ written_by a.op = ap (λ (o : Option Asked). written_of (option_map awaited_of o)) awaits in
     let seen : Option Seen = seen_in (written_by a.op) reply in
-    let new_is : new ≡ noted_by run at (mark_of (site_now ms at)) (seen_in (written_by a.op) reply) (is_changed reply) = noted (mark_of (site_now ms at)) (r.stands.knows.marks at l) ∙ ap (λ o. noted_by run at (mark_of (site_now ms at)) (seen_in o reply) (is_changed reply)) written in
+    let new_is : new ≡ noted_by run at (mark_of (site_now ms at)) (known (site_now ms at)) (seen_in (written_by a.op) reply) (is_changed reply) = noted (mark_of (site_now ms at)) (known (site_now ms at)) (r.stands.knows.marks at l) (r.stands.knows.rows at l) ∙ ap (λ o. noted_by run at (mark_of (site_now ms at)) (known (site_now ms at)) (seen_in o reply) (is_changed reply)) written in
     let ends : Ends (Handed a reply) at (seen_in (written_by a.op) reply) (is_changed reply) = record { here = is_to_same a at sound.1; others = λ (s : ℕ) (n : s ≢ at). is_to_other a s (λ (q : s ≡ a.site). n (q ∙ sound.1)); after_is = λ now. refl } in
     let may : IsAwaitedOf ms a = subst (λ (z : ℕ). (site_now ms z).awaits ≡ Some a) (sym sound.1) awaits in
-    let stands : Stands c w past (noted_by run at (mark_of (site_now ms at)) (seen_in (written_by a.op) reply) (is_changed reply)) (Handed a reply ∷ ms) =
+    let stands : Stands c w past (noted_by run at (mark_of (site_now ms at)) (known (site_now ms at)) (seen_in (written_by a.op) reply) (is_changed reply)) (Handed a reply ∷ ms) =
     stands_ended c w past run ms (Handed a reply) at (seen_in (written_by a.op) reply) (is_changed reply) ends l sound.0 refl refl refl (met_handed a reply ms (seen_in (written_by a.op) reply) (is_changed reply) refl refl) may r.stands in
     let stage : StageStands c w past run.stage (Handed a reply ∷ ms) = stage_more c w past (Handed a reply) ms at (seen_in (written_by a.op) reply) (is_changed reply) run.stage ends refl (record { voted = refl; voted_at = λ u. refl; phase = refl; promise = refl; cast = refl }) r.stage in
-    subst (λ (n : Run). Ready c w past n (Handed a reply ∷ ms)) (sym new_is) (record { stands = stands; stage = subst (λ st. StageStands c w past st (Handed a reply ∷ ms)) (sym (ended_else run at (mark_of (site_now ms at)) (seen_in (written_by a.op) reply) (is_changed reply)).stage) stage })
+    subst (λ (n : Run). Ready c w past n (Handed a reply ∷ ms)) (sym new_is) (record { stands = stands; stage = subst (λ st. StageStands c w past st (Handed a reply ∷ ms)) (sym (ended_else run at (mark_of (site_now ms at)) (known (site_now ms at)) (seen_in (written_by a.op) reply) (is_changed reply)).stage) stage })
 
 -- a request that is given up
-pub ready_gave_up : (c : Config) (w : Caller) (past : List Tale) (run new : Run) (ms : List Moment) (at : ℕ) (a : Asked) → at < c.n → (site_now ms at).awaits ≡ Some a → Ready c w past run ms → new ≡ left_run run at (mark_of (site_now ms at)) → Ready c w past new (GaveUp a ∷ ms)
+pub ready_gave_up : (c : Config) (w : Caller) (past : List Tale) (run new : Run) (ms : List Moment) (at : ℕ) (a : Asked) → at < c.n → (site_now ms at).awaits ≡ Some a → Ready c w past run ms → new ≡ left_run run at (mark_of (site_now ms at)) (known (site_now ms at)) → Ready c w past new (GaveUp a ∷ ms)
 ready_gave_up c w past run new ms at a l awaits r new_is =
     let sound = (r.stands.sites at).inside a awaits in
     let ends : Ends (GaveUp a) at None false = record { here = is_to_same a at sound.1; others = λ (s : ℕ) (n : s ≢ at). is_to_other a s (λ (q : s ≡ a.site). n (q ∙ sound.1)); after_is = λ now. refl } in
     let may : IsAwaitedOf ms a = subst (λ (z : ℕ). (site_now ms z).awaits ≡ Some a) (sym sound.1) awaits in
-    let stands : Stands c w past (left_run run at (mark_of (site_now ms at))) (GaveUp a ∷ ms) = stands_ended c w past run ms (GaveUp a) at None false ends l sound.0 refl refl refl refl may r.stands in
+    let stands : Stands c w past (left_run run at (mark_of (site_now ms at)) (known (site_now ms at))) (GaveUp a ∷ ms) = stands_ended c w past run ms (GaveUp a) at None false ends l sound.0 refl refl refl refl may r.stands in
     let stage : StageStands c w past run.stage (GaveUp a ∷ ms) = stage_more c w past (GaveUp a) ms at None false run.stage ends refl (record { voted = refl; voted_at = λ u. refl; phase = refl; promise = refl; cast = refl }) r.stage in
     subst (λ (n : Run). Ready c w past n (GaveUp a ∷ ms)) (sym new_is) (record { stands = stands; stage = stage })

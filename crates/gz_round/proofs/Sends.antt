@@ -158,16 +158,18 @@ sound_here a s now kept same h =
       | inr e ↦ subst (λ n. IsSound n s) (sym (cond-false a.awaited _ now e)) h
     ]
 
-mark_sent : (number : ℕ) (out : Out) (now : SiteNow) → out.awaited ≡ true → marked_as (mark_of now) number out ≡ mark_of (after_sent (asked_of number out) now)
-mark_sent number out now e = ap mark_of (sym (cond-true out.awaited (record { row = now.row; changed = now.changed; out = now.out; awaits = Some (asked_of number out); unanswered = true }) now e))
+mark_sent : (number : ℕ) (out : Out) (now : SiteNow) → now.out ≡ false → out.awaited ≡ true → marked_as (mark_of now) number out ≡ mark_of (after_sent (asked_of number out) now)
+mark_sent number out now kept e =
+    ap (λ (o : Option RowAt). let m : Mark = record { etag = etag_seen now.row; changed = now.changed; out = now.out; left = o; awaited = Some (awaited_of (asked_of number out)) } in m) (sym (cond-false now.out (row_seen now.row) None kept))
+    ∙ ap mark_of (sym (cond-true out.awaited (record { row = now.row; changed = now.changed; out = now.out; awaits = Some (asked_of number out); unanswered = true }) now e))
 
-marks_sent : (c : Config) (run : Run) (ms : List Moment) (at number : ℕ) (out : Out) → Knows c run ms → at < c.n → out.site ≡ at →
+marks_sent : (c : Config) (run : Run) (ms : List Moment) (at number : ℕ) (out : Out) → Knows c run ms → at < c.n → out.site ≡ at → (site_now ms at).out ≡ false →
     (s : ℕ) → s < c.n → slice_get (cond out.awaited (set run.marks at (marked_as (mark_of (site_now ms at)) number out)) run.marks) s ≡ Some (mark_of (site_now (Sent (asked_of number out) ∷ ms) s))
-marks_sent c run ms at number out k l here =
+marks_sent c run ms at number out k l here kept =
     elim (cases_Bool out.awaited) [
       | inl e ↦ (
           let told = told_after_set c.n run.marks (λ s. mark_of (site_now ms s)) (λ s. mark_of (site_now (Sent (asked_of number out) ∷ ms) s)) at (marked_as (mark_of (site_now ms at)) number out) k.marks_len k.marks
-          (mark_sent number out (site_now ms at) e ∙ ap mark_of (sym (now_here (Sent (asked_of number out)) ms at (is_to_same (asked_of number out) at here))))
+          (mark_sent number out (site_now ms at) kept e ∙ ap mark_of (sym (now_here (Sent (asked_of number out)) ms at (is_to_same (asked_of number out) at here))))
           (λ (s : ℕ) (n : s ≢ at). ap mark_of (sym (now_other (Sent (asked_of number out)) ms s (is_to_other (asked_of number out) s (λ (q : s ≡ out.site). n (q ∙ here)))))) in
           λ (s : ℕ) (i : s < c.n). ap (λ xs. slice_get xs s) (cond-true out.awaited (set run.marks at (marked_as (mark_of (site_now ms at)) number out)) run.marks e) ∙ told s i)
       | inr e ↦ (
@@ -193,7 +195,7 @@ stands_sent c w past run ms at number out l here h may = record {
       | inr e ↦ ap length (cond-false out.awaited (set run.marks at (marked_as (mark_of (site_now ms at)) number out)) run.marks e) ∙ h.knows.marks_len
     ];
     rows = told_same c.n run.rows (λ s. known (site_now ms s)) (λ s. known (site_now (Sent (asked_of number out) ∷ ms) s)) h.knows.rows (known_after_sent (asked_of number out) ms);
-    marks = marks_sent c run ms at number out h.knows l here;
+    marks = marks_sent c run ms at number out h.knows l here (subst (λ (z : ℕ). (site_now ms z).out ≡ false) here may.kept);
   };
   met_is = h.met_is;
   voted_is = ap (λ (n : Name). passes_sent (λ u. true) (of_step (vote_by n) out.op) || run.voted) h.name_is ∙ ap (λ b. passes_sent (λ u. true) (of_step (vote_by w.name) out.op) || b) h.voted_is;

@@ -26,6 +26,7 @@ use Rattle.gz_round.specs.Standing.{StageStands, IsUnpromised, ArePassed, MayPas
 use Rattle.gz_round.specs.Following.{HeldBy, HeldOf}
 use Rattle.gz_round.proofs.Heard.{current_more, next_more, shown_more, heard_at_more}
 use Rattle.gz_round.proofs.Moments.{now_here, now_other}
+use Rattle.gz_round.proofs.LookBacks.{back_more}
 use Rattle.gz_round.proofs.Guards.{IsOf, clear_vote, only_classic, promise_sent, promise_still, promises_more}
 use Rattle.gz_round.proofs.Sends.{known_after_sent}
 
@@ -83,7 +84,7 @@ promise_more c w past m ms v b e h = record {
 }
 
 pass_more : (c : Config) (w : Caller) (m : Moment) (ms : List Moment) (v : ℕ) → IsQuiet w m ms → MayPass c w ms v → MayPass c w (m ∷ ms) v
-pass_more c w m ms v q h = record { above = h.above; current = current_more c m ms v h.current; clear = clear_more c w.name m ms v q.voted_at h.clear; own = h.own; later = unpromised_more m ms (v + 1) q.promise h.later }
+pass_more c w m ms v q h = record { above = h.above; current = current_more c m ms v h.current; clear = clear_more c w.name m ms v q.voted_at h.clear; later = unpromised_more m ms (v + 1) q.promise h.later }
 
 works_more : (c : Config) (w : Caller) (past : List Tale) (m : Moment) (ms : List Moment) (v : ℕ) (b : BallotAt) → IsQuiet w m ms → IsWorking c w past ms v b → IsWorking c w past (m ∷ ms) v b
 works_more c w past m ms v b q h = record { promise = promise_more c w past m ms v b q.promise h.promise; pass = pass_more c w m ms v q h.pass }
@@ -122,6 +123,7 @@ classic_more c w m ms v b x q h = record {
   choice = left_more c w m ms v h.heard x q h.choice;
   known = known_more w m ms v x h.known;
   one = λ (y : Name) (k : has_cast (m ∷ ms) v b y ≡ true). h.one y (sym (unsent cast_by _ m ms q.cast) ∙ k);
+  back = λ reads free. back_more c m ms v b (Some x) (h.back reads free);
 }
 
 known_seen : (seen : Seen) (row : RowAt) (out : Bool) → cond out None (Some seen.row) ≡ Some row → seen.row ≡ row
@@ -160,7 +162,7 @@ pub stage_more : (c : Config) (w : Caller) (past : List Tale) (m : Moment) (ms :
 stage_more c w past m ms at seen changed Look e heard q s = (q.voted ∙ s.0, q.phase ∙ s.1)
 stage_more c w past m ms at seen changed (Fast v) e heard q s =
     (record { above = s.0.above; current = current_more c m ms v s.0.current; next = next_more c m ms v s.0.next; clear = clear_more c w.name m ms v q.voted_at s.0.clear }, s.1, unpromised_more m ms v q.promise s.2)
-stage_more c w past m ms at seen changed (Prepare v b) e heard q s = (preparing_more c w past m ms v b q s.0, passed_known c m ms at seen changed v b e heard q.promise s.1)
+stage_more c w past m ms at seen changed (Prepare v b found) e heard q s = (preparing_more c w past m ms v b q s.0, passed_known c m ms at seen changed v b e heard q.promise s.1, λ reads. back_more c m ms v b found (s.2 reads))
 stage_more c w past m ms at seen changed (Accept v b x) e heard q s = (classic_more c w m ms v b x q s.0, works_more c w past m ms v b q s.1, passed_known c m ms at seen changed v b e heard q.promise s.2)
 
 none_of : {T : Type 0} (f : RowStep → Option T) (op : Op) (step : RowStep) → f step ≡ None → IsOf op (Some step) → of_step f op ≡ None
@@ -176,7 +178,7 @@ later_kept : (ms : List Moment) (a : Asked) (v : ℕ) (b : BallotAt) → (of_ste
 later_kept ms a v b sent h u d l = other_version (of_step promise_by a.op) v u b d (has_promised_at ms u d) sent (omega arith) (h u d l)
 
 pass_kept : (c : Config) (w : Caller) (ms : List Moment) (a : Asked) (v : ℕ) (b : BallotAt) → ((u : ℕ) → passes_sent (λ k. k == u) (of_step (vote_by w.name) a.op) ≡ true → v ≡ u) → (of_step promise_by a.op ≡ None) ⊎ (of_step promise_by a.op ≡ Some (v, b)) → MayPass c w ms v → MayPass c w (Sent a ∷ ms) v
-pass_kept c w ms a v b only sent h = record { above = h.above; current = h.current; clear = clear_vote c w.name ms a v only h.clear; own = h.own; later = later_kept ms a v b sent h.later }
+pass_kept c w ms a v b only sent h = record { above = h.above; current = h.current; clear = clear_vote c w.name ms a v only h.clear; later = later_kept ms a v b sent h.later }
 
 none_voted : (x : Name) (op : Op) (v u : ℕ) → of_step (vote_by x) op ≡ None → passes_sent (λ k. k == u) (of_step (vote_by x) op) ≡ true → v ≡ u
 none_voted x op v u e h = absurd (false≢true (sym (ap (passes_sent (λ k. k == u)) e) ∙ h))

@@ -31,7 +31,7 @@ use Rattle.gz_round.specs.declared.run.Mark.{Mark}
 use Rattle.gz_round.specs.declared.run.Run.{Run}
 use Rattle.gz_round.specs.declared.run.Stage.{Stage}
 use Rattle.gz_round.specs.declared.run.Stage.TheVariants.{Look, Fast, Prepare, Accept}
-use Rattle.gz_round.specs.History.{Asked, Moment, Sent, Caller, Tale, asked_of, sent_from}
+use Rattle.gz_round.specs.History.{Asked, Moment, Sent, Caller, Tale, IsEarlier, asked_of, sent_from}
 use Rattle.gz_round.specs.Sites.{site_now, known}
 use Rattle.gz_round.specs.Sent.{met}
 use Rattle.gz_round.specs.Shown.{heard_at, IsShown, IsCurrent}
@@ -45,7 +45,8 @@ use Rattle.gz_round.specs.Following.{Asks, MayMakeOf, AreServed, IsSettledBy, No
 use Rattle.gz_round.specs.Acting.{IsPlain, Steps, RunsOut, Finishes, IsFewIn, IsShortIn, IsAheadIn, is_overtaken_in, is_waiting, vote_for, notice_for, stage_step, step_in, working_version, version_in}
 use Rattle.gz_round.proofs.Lists.{count_same, any_found, any_told}
 use Rattle.gz_round.proofs.Known.{evident_same, last_known, known_last}
-use Rattle.gz_round.proofs.Sends.{known_after_sent, out_after_sent}
+use Rattle.gz_round.proofs.LookBacks.{earlier_refl, back_later}
+use Rattle.gz_round.proofs.Sends.{known_after_sent, out_after_sent, row_after_sent}
 
 -- what one request more leaves holds after all requests of an event
 pub over_sent : (P : List Moment → Type 0) → ((a : Asked) (ms : List Moment) → P ms → P (Sent a ∷ ms)) → (first : ℕ) (outs : List Out) (ms : List Moment) → P ms → P (sent_from first outs ms)
@@ -55,6 +56,10 @@ over_sent P step first (o ∷ os) ms h = over_sent P step (first + 1) os (Sent (
 -- a number that requests leave
 same_sent : (f : List Moment → ℕ) → ((a : Asked) (ms : List Moment) → f ms ≡ f (Sent a ∷ ms)) → (first : ℕ) (sent : List Out) (ms : List Moment) → f ms ≡ f (sent_from first sent ms)
 same_sent f step first sent ms = over_sent (λ ns. f ms ≡ f ns) (λ (a : Asked) (ns : List Moment) (e : f ms ≡ f ns). e ∙ step a ns) first sent ms refl
+
+-- the last row of a site
+pub row_sent : (first : ℕ) (sent : List Out) (ms : List Moment) (s : ℕ) → (site_now (sent_from first sent ms) s).row ≡ (site_now ms s).row
+row_sent first sent ms s = over_sent (λ ns. (site_now ns s).row ≡ (site_now ms s).row) (λ (a : Asked) (ns : List Moment) (e : (site_now ns s).row ≡ (site_now ms s).row). sym (row_after_sent a ns s) ∙ e) first sent ms refl
 
 pub met_sent : (first : ℕ) (sent : List Out) (ms : List Moment) → met ms ≡ met (sent_from first sent ms)
 met_sent first sent ms = same_sent met (λ a ns. refl) first sent ms
@@ -185,24 +190,28 @@ none_passed c ms v b none s row l e above = absurd (both_ways (promises_above ro
 pub stage_may : (c : Config) (w : Caller) (past : List Tale) (run : Run) (ms : List Moment) (stage : Stage) → Stands c w past run ms → StageStands c w past stage ms → MayMakeOf c w past ms (step_in stage run.own)
 stage_may c w past run ms Look h s = tt
 stage_may c w past run ms (Fast v) h s = subst (λ o. MayMakeOf c w past ms (vote_for v o)) (sym (h.own_is ∙ s.1.1)) (s.1.1, s.0)
-stage_may c w past run ms (Prepare v b) h s = s.0.works.promise
+stage_may c w past run ms (Prepare v b found) h s = s.0.works.promise
 stage_may c w past run ms (Accept v b x) h s = s.0
 
 -- the phase holds what is kept while the step is made
 pub stage_held : (c : Config) (w : Caller) (past : List Tale) (run : Run) (ms : List Moment) (stage : Stage) → Stands c w past run ms → StageStands c w past stage ms → IsAheadIn run.rows stage → HeldOf c w past ms (step_in stage run.own)
 stage_held c w past run ms Look h s ahead = tt
 stage_held c w past run ms (Fast v) h s ahead = subst (λ o. HeldOf c w past ms (vote_for v o)) (sym (h.own_is ∙ s.1.1)) s.2
-stage_held c w past run ms (Prepare v b) h s ahead = (s.0, none_above_listed c run ms v b h.knows ahead)
+stage_held c w past run ms (Prepare v b found) h s ahead = (s.0, none_above_listed c run ms v b h.knows ahead)
 stage_held c w past run ms (Accept v b x) h s ahead = (s.1, none_above_listed c run ms v b h.knows ahead)
 
 -- and once it was made at the sites the phase goes on to stand
-pub stage_kept : (c : Config) (w : Caller) (past : List Tale) (run new : Run) (ms ns : List Moment) (stage : Stage) → Stands c w past run ms → Stands c w past new ns → IsLeftBy run new (step_in stage run.own) → StageStands c w past stage ms → MayMakeOf c w past ns (step_in stage run.own) → HeldOf c w past ns (step_in stage run.own) → StageStands c w past stage ns
-stage_kept c w past run new ms ns Look h k left s may held = (sym k.voted_is ∙ (left.voted refl ∙ (h.voted_is ∙ s.0)), sym k.wrote_is ∙ (left.wrote refl ∙ (h.wrote_is ∙ s.1)))
-stage_kept c w past run new ms ns (Fast v) h k left s may held =
+pub stage_kept : (c : Config) (w : Caller) (past : List Tale) (run new : Run) (ms ns : List Moment) (stage : Stage) → Stands c w past run ms → Stands c w past new ns → IsLeftBy run new (step_in stage run.own) → IsEarlier ms ns → StageStands c w past stage ms → MayMakeOf c w past ns (step_in stage run.own) → HeldOf c w past ns (step_in stage run.own) → StageStands c w past stage ns
+stage_kept c w past run new ms ns Look h k left then s may held = (sym k.voted_is ∙ (left.voted refl ∙ (h.voted_is ∙ s.0)), sym k.wrote_is ∙ (left.wrote refl ∙ (h.wrote_is ∙ s.1)))
+stage_kept c w past run new ms ns (Fast v) h k left then s may held =
     let made : MayMake c w past ns (FastVote v s.1.0) = subst (λ o. MayMakeOf c w past ns (vote_for v o)) (h.own_is ∙ s.1.1) may in
     (made.1, s.1, subst (λ o. HeldOf c w past ns (vote_for v o)) (h.own_is ∙ s.1.1) held)
-stage_kept c w past run new ms ns (Prepare v b) h k left s may held = (held.0, none_passed c ns v b held.1)
-stage_kept c w past run new ms ns (Accept v b x) h k left s may held = (may, held.0, none_passed c ns v b held.1)
+stage_kept c w past run new ms ns (Prepare v b found) h k left then s may held = (held.0, none_passed c ns v b held.1, λ reads. back_later c ms ns v b found then (s.2 reads))
+stage_kept c w past run new ms ns (Accept v b x) h k left then s may held = (may, held.0, none_passed c ns v b held.1)
+
+-- what was there before the requests of an event
+pub earlier_sent : (first : ℕ) (sent : List Out) (ms : List Moment) → IsEarlier ms (sent_from first sent ms)
+earlier_sent first sent ms = over_sent (IsEarlier ms) (λ (a : Asked) (ns : List Moment) (h : IsEarlier ms ns). inr h) first sent ms (earlier_refl ms)
 
 -- each site that was served was asked again
 pub again_from : (c : Config) (w : Caller) (ms : List Moment) (step : Option RowStep) → AreServed c w ms step → AreAskedAgain c ms
@@ -256,7 +265,7 @@ unmet_out : (c : Config) (w : Caller) (past : List Tale) (run : Run) (ms : List 
 unmet_out c w past run ms Look first sent enough s (inl few) = let same = known_sent c first sent ms in absurd (omega arith)
 unmet_out c w past run ms Look first sent enough s (inr none) = (none.0, evidence_sent c (highest_of run.rows) first sent ms none.1)
 unmet_out c w past run ms (Fast v) first sent enough s none = (s.0.above, evidence_sent c v first sent ms none)
-unmet_out c w past run ms (Prepare v b) first sent enough s none = (s.0.works.pass.above, evidence_sent c v first sent ms none)
+unmet_out c w past run ms (Prepare v b found) first sent enough s none = (s.0.works.pass.above, evidence_sent c v first sent ms none)
 unmet_out c w past run ms (Accept v b x) first sent enough s none = (s.1.pass.above, evidence_sent c v first sent ms none)
 
 -- the step of a phase is no notice
@@ -264,7 +273,7 @@ stage_plain : (stage : Stage) (own : Option Value) (step : RowStep) → step_in 
 stage_plain Look own step e = absurd (none-some step e)
 stage_plain (Fast v) None step e = absurd (none-some step e)
 stage_plain (Fast v) (Some x) step e = sym (ap is_notice (same_Some (FastVote v x) step e))
-stage_plain (Prepare v b) own step e = sym (ap is_notice (same_Some (Promise v b) step e))
+stage_plain (Prepare v b found) own step e = sym (ap is_notice (same_Some (Promise v b) step e))
 stage_plain (Accept v b x) own step e = sym (ap is_notice (same_Some (ClassicVote v b x) step e))
 
 -- where nothing is awaited after a pass, no known row takes the step
@@ -278,14 +287,14 @@ untaken_from c w ms step plain served idle s row l e done =
 short_from : (c : Config) (run : Run) (stage : Stage) → IsFewIn c run stage → is_overtaken_in run stage ≡ false → IsShortIn c run.rows stage
 short_from c run Look few ahead = tt
 short_from c run (Fast v) few ahead = tt
-short_from c run (Prepare v b) (inl l) ahead = let far = ltb-false run.round b.round (or_parts (nat_lt run.round b.round) (list_any (above_known v b) run.rows) ahead).0 in absurd (omega arith)
-short_from c run (Prepare v b) (inr l) ahead = l
+short_from c run (Prepare v b found) (inl l) ahead = let far = ltb-false run.round b.round (or_parts (nat_lt run.round b.round) (list_any (above_known v b) run.rows) ahead).0 in absurd (omega arith)
+short_from c run (Prepare v b found) (inr l) ahead = l
 short_from c run (Accept v b x) few ahead = tt
 
 pub ahead_from : (run : Run) (stage : Stage) → is_overtaken_in run stage ≡ false → IsAheadIn run.rows stage
 ahead_from run Look e = tt
 ahead_from run (Fast v) e = tt
-ahead_from run (Prepare v b) e = (or_parts (nat_lt run.round b.round) (list_any (above_known v b) run.rows) e).1
+ahead_from run (Prepare v b found) e = (or_parts (nat_lt run.round b.round) (list_any (above_known v b) run.rows) e).1
 ahead_from run (Accept v b x) e = e
 
 -- after the step was made at each site that takes it
@@ -308,7 +317,7 @@ stepped_from c w past run new ms first sent step p is asked left =
     let h : Stands c w past run ms = a.ready.stands in
     let done = asked (steps_ask c w past run ms step p is) in
     let k : Stands c w past new (sent_from first sent ms) = done.0.stands in
-    let stage : StageStands c w past run.stage (sent_from first sent ms) = stage_kept c w past run new ms (sent_from first sent ms) run.stage h k (subst (IsLeftBy run new) is left) a.ready.stage (subst (MayMakeOf c w past (sent_from first sent ms)) is done.0.may) (subst (HeldOf c w past (sent_from first sent ms)) is done.0.held) in
+    let stage : StageStands c w past run.stage (sent_from first sent ms) = stage_kept c w past run new ms (sent_from first sent ms) run.stage h k (subst (IsLeftBy run new) is left) (earlier_sent first sent ms) a.ready.stage (subst (MayMakeOf c w past (sent_from first sent ms)) is done.0.may) (subst (HeldOf c w past (sent_from first sent ms)) is done.0.held) in
     record { stands = k; stage = subst (λ st. StageStands c w past st (sent_from first sent ms)) (sym left.stage) stage; going = going_sent c first sent ms a.going; served = done.1 }
 
 -- a request is awaited, and the call runs on

@@ -16,6 +16,8 @@ use Rattle.gz_pick.specs.Looks.{highest_of}
 use Rattle.gz_round.specs.declared.run.Run.{Run}
 use Rattle.gz_round.specs.declared.run.Stage.{Stage}
 use Rattle.gz_round.specs.declared.run.Stage.TheVariants.{Look, Fast, Prepare, Accept}
+use Rattle.gz_round.specs.declared.choosing.Choice.{Choice}
+use Rattle.gz_round.specs.declared.choosing.Choice.TheVariants.{Wait, Accept as AcceptNext, GiveIn}
 use Rattle.gz_core.specs.declared.requests.Out.{Out}
 use Rattle.gz_accept.specs.declared.answers.Step.TheVariants.{Done}
 use Rattle.gz_round.specs.History.{Moment, Caller, Tale, sent_from}
@@ -23,7 +25,7 @@ use Rattle.gz_round.specs.Sites.{site_now}
 use Rattle.gz_round.specs.Sent.{has_promised_at}
 use Rattle.gz_round.specs.Shown.{IsShown, IsGrounded}
 use Rattle.gz_round.specs.Rounds.{passed_since, promises_known, above_known, round_known}
-use Rattle.gz_round.specs.Sending.{NoEvidence, rows_known, answer_of}
+use Rattle.gz_round.specs.Sending.{NoEvidence, MayGiveIn, rows_known, answer_of}
 use Rattle.gz_round.specs.Counting.{IsGoing}
 use Rattle.gz_round.specs.Causes.{row_value}
 use Rattle.gz_round.specs.Standing.{Stands, StageStands, MayPass}
@@ -50,7 +52,7 @@ notice_for v (Some x) = Some (Decide v x)
 abbrev pub step_in : Stage → Option Value → Option RowStep
 step_in Look own = None
 step_in (Fast v) own = vote_for v own
-step_in (Prepare v b) own = Some (Promise v b)
+step_in (Prepare v b found) own = Some (Promise v b)
 step_in (Accept v b x) own = Some (ClassicVote v b x)
 
 -- the step of the phase: none in `Look`, in `Fast` a vote for the call's value, then a promise and a classic vote
@@ -60,7 +62,7 @@ stage_step run = step_in run.stage run.own
 abbrev pub version_in : Stage → ℕ → ℕ
 version_in Look highest = highest
 version_in (Fast v) highest = v
-version_in (Prepare v b) highest = v
+version_in (Prepare v b found) highest = v
 version_in (Accept v b x) highest = v
 
 -- the version that the phase works at
@@ -80,7 +82,7 @@ CanAct c run = (w : Caller) × (past : List Tale) × (ms : List Moment) × Acts 
 abbrev pub IsFewIn : Config → Run → Stage → Type 0
 IsFewIn c run Look = Unit {0}
 IsFewIn c run (Fast v) = Unit {0}
-IsFewIn c run (Prepare v b) = (run.round < b.round) ⊎ (count_by (promises_known v b) run.rows < c.qc)
+IsFewIn c run (Prepare v b found) = (run.round < b.round) ⊎ (count_by (promises_known v b) run.rows < c.qc)
 IsFewIn c run (Accept v b x) = Unit {0}
 
 -- nor is there a quorum of promises
@@ -91,11 +93,22 @@ pub record Carries (c : Config) (w : Caller) (past : List Tale) (run : Run) (ms 
 abbrev pub CanCarry : Config → Run → Type 0
 CanCarry c run = (w : Caller) × (past : List Tale) × (ms : List Moment) × Carries c w past run ms
 
+-- a vote for a value follows, if there is one
+abbrev pub choice_of : ℕ → BallotAt → Option Value → Choice
+choice_of v b None = GiveIn
+choice_of v b (Some x) = AcceptNext (Accept v b x)
+
+-- what the promises of the call's ballot come to
+abbrev pub ChoiceMeans : Config → Caller → List Tale → Run → List Moment → Choice → Type 0
+ChoiceMeans c w past run ms Wait = IsFewIn c run run.stage
+ChoiceMeans c w past run ms (AcceptNext stage) = Carries c w past (record run { stage = stage }) ms
+ChoiceMeans c w past run ms GiveIn = MayGiveIn c w past ms
+
 -- the ballot of the phase leads no further: a known row promises one above, or the call never promised it
 abbrev pub is_overtaken_in : Run → Stage → Bool
 is_overtaken_in run Look = false
 is_overtaken_in run (Fast v) = false
-is_overtaken_in run (Prepare v b) = nat_lt run.round b.round || list_any (above_known v b) run.rows
+is_overtaken_in run (Prepare v b found) = nat_lt run.round b.round || list_any (above_known v b) run.rows
 is_overtaken_in run (Accept v b x) = list_any (above_known v b) run.rows
 
 abbrev pub is_overtaken : Run → Bool
@@ -105,14 +118,14 @@ is_overtaken run = is_overtaken_in run run.stage
 abbrev pub IsShortIn : Config → List (Option RowAt) → Stage → Type 0
 IsShortIn c rows Look = Unit {0}
 IsShortIn c rows (Fast v) = Unit {0}
-IsShortIn c rows (Prepare v b) = count_by (promises_known v b) rows < c.qc
+IsShortIn c rows (Prepare v b found) = count_by (promises_known v b) rows < c.qc
 IsShortIn c rows (Accept v b x) = Unit {0}
 
 -- no known row promises a ballot above the one of the phase
 abbrev pub IsAheadIn : List (Option RowAt) → Stage → Type 0
 IsAheadIn rows Look = Unit {0}
 IsAheadIn rows (Fast v) = Unit {0}
-IsAheadIn rows (Prepare v b) = list_any (above_known v b) rows ≡ false
+IsAheadIn rows (Prepare v b found) = list_any (above_known v b) rows ≡ false
 IsAheadIn rows (Accept v b x) = list_any (above_known v b) rows ≡ false
 
 -- the step of the phase is made
@@ -139,7 +152,7 @@ pub record RunsOut (c : Config) (w : Caller) (past : List Tale) (run : Run) (ms 
 abbrev pub CanRunOut : Config → Run → ℕ → List Out → Type 0
 CanRunOut c run first outs = (w : Caller) × (past : List Tale) × (ms : List Moment) × RunsOut c w past run (sent_from first outs ms)
 
--- a put prepares a ballot at a version
+-- a call prepares a ballot at a version
 pub record Prepares (c : Config) (w : Caller) (past : List Tale) (run : Run) (ms : List Moment) (v : ℕ) : Type 0 where
   pub stands : Stands c w past run ms
   pub going : IsGoing c ms
@@ -205,11 +218,11 @@ cut_off_of run = if run.voted then Unsure (UnsureNoQuorum run.wrote (count_by (�
 abbrev pub given_in_of : Run → Answer
 given_in_of run = if run.voted then Unsure (UnsureNoQuorum run.wrote 0) else NoQuorum run.wrote 0
 
--- the answer of a phase that ends without its goal; a put prepares after `Look` and `Fast`
+-- the answer of a phase that ends without its goal; a call prepares after `Look` and `Fast`
 abbrev pub ended_in : Run → Stage → Option Answer
-ended_in run Look = if is_some run.own then None else Some (given_in_of run)
+ended_in run Look = None
 ended_in run (Fast v) = None
-ended_in run (Prepare v b) = Some (given_in_of run)
+ended_in run (Prepare v b found) = Some (given_in_of run)
 ended_in run (Accept v b x) = Some (given_in_of run)
 
 abbrev pub ended_of : Run → Option Answer

@@ -56,7 +56,7 @@ abbrev pub asks_of : Run → ℕ → Mark → Option RowStep → Option RowAt �
 asks_of run at mark step row = if mark.out || is_some mark.awaited then None else row_out run at mark step row
 
 abbrev pub marked_as : Mark → ℕ → Out → Mark
-marked_as mark number out = record { etag = mark.etag; changed = mark.changed; out = mark.out; awaited = Some (record { number = number; written = written_by out.op }) }
+marked_as mark number out = record { etag = mark.etag; changed = mark.changed; out = mark.out; left = None; awaited = Some (record { number = number; written = written_by out.op }) }
 
 abbrev pub phase_after : Option Phase → Phase → Phase
 phase_after None phase = phase

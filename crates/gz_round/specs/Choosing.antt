@@ -10,8 +10,10 @@ use Rattle.gz_pick.specs.Evidences.{is_in}
 use Rattle.gz_pick.specs.Choices.{pick_of, AreSites}
 use Rattle.gz_pick.specs.declared.heard.Heard.{Heard}
 use Rattle.gz_pick.specs.declared.heard.Pick.TheVariants.{Forced, Free}
+use Rattle.gz_round.specs.declared.run.Mark.{Mark}
 use Rattle.gz_round.specs.declared.run.Run.{Run}
 use Rattle.gz_round.specs.Rounds.{promises_known}
+use Rattle.gz_round.specs.LookBack.{or_next, row_cast}
 use Rattle.gz_round.specs.Causes.{row_value}
 
 -- the vote of a slot that promises a ballot without a vote of it, none where it is not such a slot
@@ -36,8 +38,17 @@ pub record AreHeardIn (c : Config) (rows : List (Option RowAt)) (v : ℕ) (b : B
   pub rows_are : All (IsHeardIn rows v b) heard
   pub counted : length heard ≡ count_by (promises_known v b) (take at rows)
 
--- the value is the one that the votes force, and the call's own where they force none
-abbrev pub IsProposed : Config → Run → ℕ → List Heard → Value → Type 0
-IsProposed c run v heard x =
-    ((pick_of c.n c.qf heard ≡ Free) × (run.own ≡ Some x))
-    ⊎ ((at : ℕ) × (h : Heard) × (row : RowAt) × (pick_of c.n c.qf heard ≡ Forced at) × (slice_get heard at ≡ Some h) × (slice_get run.rows h.site ≡ Some (Some row)) × (row_value row v ≡ Some x))
+-- the value is the one that the votes force; where they force none, it is the call's own, or what it looked back at
+abbrev pub IsProposed : Config → Run → ℕ → Option Value → List Heard → Option Value → Type 0
+IsProposed c run v found heard o =
+    ((pick_of c.n c.qf heard ≡ Free) × (o ≡ or_next run.own found))
+    ⊎ ((at : ℕ) × (h : Heard) × (row : RowAt) × (pick_of c.n c.qf heard ≡ Forced at) × (slice_get heard at ≡ Some h) × (slice_get run.rows h.site ≡ Some (Some row)) × (x : Value) × (row_value row v ≡ Some x) × (o ≡ Some x))
+
+-- the last row of a site: the one that is known, or the one that was left when it went out
+abbrev pub last_of : Option RowAt → Option RowAt → Option RowAt
+last_of None left = left
+last_of (Some row) left = Some row
+
+-- a function that tells of each site the value that its last row has a vote for
+abbrev pub AreLastVotes : Run → ℕ → (ℕ → Option Value) → Type 0
+AreLastVotes run v f = (s : ℕ) (row : Option RowAt) (mark : Mark) → slice_get run.rows s ≡ Some row → slice_get run.marks s ≡ Some mark → f s ≡ row_cast v (last_of row mark.left)

@@ -56,28 +56,21 @@ pub record IsFirst (c : Config) (w : Caller) (ms : List Moment) : Type 0 where
   pub unpromised : IsUnpromised ms 0
   pub none : NoEvidence c ms 1
 
--- nothing above the version has begun, and the call hasn't voted
-pub record IsLatest (c : Config) (w : Caller) (ms : List Moment) (v : ℕ) : Type 0 where
-  pub above : 1 ≤ v
-  pub current : IsCurrent c ms v
-  pub unvoted : voted w.name ms ≡ false
-  pub unpromised : IsUnpromised ms 0
-
 -- the phase works at the version
 abbrev pub IsStageAt : Stage → ℕ → Type 0
 IsStageAt Look v = ⊥
 IsStageAt (Fast u) v = u ≡ v
-IsStageAt (Prepare u b) v = u ≡ v
+IsStageAt (Prepare u b found) v = u ≡ v
 IsStageAt (Accept u b x) v = u ≡ v
 
 -- the phase's goal isn't reached
 abbrev pub IsUnmet : Config → Run → Stage → List Moment → Type 0
 IsUnmet c run Look ms = (known_count c ms < c.qc) ⊎ ((1 ≤ highest_of run.rows) × NoEvidence c ms (highest_of run.rows))
 IsUnmet c run (Fast v) ms = NoEvidence c ms v
-IsUnmet c run (Prepare v b) ms = NoEvidence c ms v
+IsUnmet c run (Prepare v b found) ms = NoEvidence c ms v
 IsUnmet c run (Accept v b x) ms = NoEvidence c ms v
 
--- the latest version's value is known, from the row of a site
+-- a call that writes nothing knows the value of a version, from the row of a site, and nothing above it has begun
 pub record IsFound (c : Config) (w : Caller) (run : Run) (ms : List Moment) (v : ℕ) (s : ℕ) : Type 0 where
   pub reads : own_value w.name w.call ≡ None
   pub current : IsCurrent c ms v

@@ -25,6 +25,11 @@ pub data Moment : Type 0 where
   Rested : Moment
   GaveIn : Moment
 
+-- what had happened to a call before, or up to now
+abbrev pub IsEarlier : List Moment → List Moment → Type 0
+IsEarlier start [] = start ≡ []
+IsEarlier start (m ∷ ms) = (start ≡ m ∷ ms) ⊎ IsEarlier start ms
+
 -- whose call it is
 pub record Caller : Type 0 where
   pub name : Name

@@ -2,6 +2,7 @@ pub mod History
 pub mod Sites
 pub mod Sent
 pub mod Shown
+pub mod LookBack
 pub mod Rounds
 pub mod Sending
 pub mod Counting

@@ -12,28 +12,28 @@ use Rattle.gz_round.specs.Sites.{seen_in, is_changed}
 abbrev pub heard_run : Run → ℕ → Seen → Run
 heard_run run at seen = record run {
   rows = slice_set run.rows at (Some seen.row);
-  marks = slice_set run.marks at (record { etag = seen.etag; changed = false; out = false; awaited = None });
+  marks = slice_set run.marks at (record { etag = seen.etag; changed = false; out = false; left = None; awaited = None });
 }
 
 -- the site's last row was overtaken
 abbrev pub overtaken_run : Run → ℕ → Mark → Run
 overtaken_run run at mark = record run {
-  marks = slice_set run.marks at (record { etag = mark.etag; changed = true; out = mark.out; awaited = None });
+  marks = slice_set run.marks at (record { etag = mark.etag; changed = true; out = mark.out; left = None; awaited = None });
   met = run.met + 1;
 }
 
--- the site is out
-abbrev pub left_run : Run → ℕ → Mark → Run
-left_run run at mark = record run {
+-- the site is out, and its last row is kept apart
+abbrev pub left_run : Run → ℕ → Mark → Option RowAt → Run
+left_run run at mark row = record run {
   rows = slice_set run.rows at None;
-  marks = slice_set run.marks at (record { etag = mark.etag; changed = mark.changed; out = true; awaited = None });
+  marks = slice_set run.marks at (record { etag = mark.etag; changed = mark.changed; out = true; left = row; awaited = None });
 }
 
 -- what a site's request came to: a row, an overtaken write, or nothing
-abbrev pub noted_by : Run → ℕ → Mark → Option Seen → Bool → Run
-noted_by run at mark (Some seen) changed = heard_run run at seen
-noted_by run at mark None true = overtaken_run run at mark
-noted_by run at mark None false = left_run run at mark
+abbrev pub noted_by : Run → ℕ → Mark → Option RowAt → Option Seen → Bool → Run
+noted_by run at mark row (Some seen) changed = heard_run run at seen
+noted_by run at mark row None true = overtaken_run run at mark
+noted_by run at mark row None false = left_run run at mark row
 
 abbrev pub written_of : Option Awaited → Option RowAt
 written_of None = None
@@ -45,4 +45,4 @@ written_at mark = written_of mark.awaited
 
 -- a reply was noted
 abbrev pub IsReplyNoted : Run → ℕ → Reply → Run → Type 0
-IsReplyNoted old at reply new = (mark : Mark) → slice_get old.marks at ≡ Some mark → new ≡ noted_by old at mark (seen_in (written_at mark) reply) (is_changed reply)
+IsReplyNoted old at reply new = (mark : Mark) (row : Option RowAt) → slice_get old.marks at ≡ Some mark → slice_get old.rows at ≡ Some row → new ≡ noted_by old at mark row (seen_in (written_at mark) reply) (is_changed reply)

@@ -19,6 +19,7 @@ use Rattle.gz_round.specs.History.{Moment, Caller, Tale}
 use Rattle.gz_round.specs.Sites.{passes, heard_in, WasHeard}
 use Rattle.gz_round.specs.Sent.{of_sent, some_sent, promise_by, has_promised, has_promised_at, last_promise, top_round}
 use Rattle.gz_round.specs.Shown.{IsCurrent, IsGrounded, IsClear, IsValueHeard}
+use Rattle.gz_round.specs.LookBack.{IsLookedBack}
 
 -- no call of a list promised this ballot
 abbrev pub IsUnused : List Tale → BallotAt → Type 0
@@ -131,7 +132,8 @@ abbrev pub IsValueKnown : Caller → List Moment → ℕ → Value → Type 0
 IsValueKnown w ms v x = (own_value w.name w.call ≡ Some x) ⊎ IsValueHeard ms v x
 
 -- a vote in a classic ballot that the call promised: rows of a classic quorum promise it, their votes leave the
--- value to the call, which knows it, and all its votes of the ballot are for one value
+-- value to the call, which knows it, and all its votes of the ballot are for one value; where they leave it to a call
+-- that writes nothing, it is the one that the call looked back at before it promised the ballot
 pub record MayClassicVote (c : Config) (w : Caller) (ms : List Moment) (v : ℕ) (b : BallotAt) (x : Value) : Type 0 where
   pub above : 1 ≤ v
   pub promised : has_promised_at ms v b ≡ true
@@ -142,3 +144,4 @@ pub record MayClassicVote (c : Config) (w : Caller) (ms : List Moment) (v : ℕ)
   pub choice : IsLeft c w ms v heard x
   pub known : IsValueKnown w ms v x
   pub one : (y : Name) → has_cast ms v b y ≡ true → y ≡ name_of x
+  pub back : own_value w.name w.call ≡ None → pick_of c.n c.qf heard ≡ Free → IsLookedBack c ms v b (Some x)

@@ -1,5 +1,6 @@
 -- Which requests a call may send, by what it has sent and heard so far.
-use Rattle.std.specs.Prelude.{ℕ, true, false, ◌≡◌, ◌≢◌, ◌≤◌, ◌<◌, ◌+◌, ◌^◌, ◌⊎◌, List, [], ◌∷◌, Option, Some, None}
+use Rattle.std.specs.Prelude.{ℕ, true, false, ◌≡◌, ◌≢◌, ◌≤◌, ◌<◌, ◌+◌, ◌^◌, ◌⊎◌, List, [], ◌∷◌, length, Option, Some, None}
+use Rattle.std.specs.List.{All}
 use Rattle.gz_core.specs.Names.{Name, BallotAt}
 use Rattle.gz_core.specs.Values.{name_of}
 use Rattle.gz_core.specs.Calls.{key_of, own_value}
@@ -15,7 +16,11 @@ use Rattle.gz_accept.specs.declared.answers.Step.TheVariants.{Done}
 use Rattle.gz_accept.specs.Steps.{fast_answer, fast_voted, promise_answer, promised, classic_answer, classic_voted, decide_answer, decided, trim_answer, trimmed_to}
 use Rattle.gz_core.specs.Counts.{count_sites}
 use Rattle.gz_pick.specs.Evidences.{IsEvident}
-use Rattle.gz_round.specs.Rounds.{MayPromise, MayClassicVote, rounds_used, round_known, promises_known, promises_above, IsValueKnown}
+use Rattle.gz_pick.specs.Choices.{pick_of, AreSites}
+use Rattle.gz_pick.specs.declared.heard.Heard.{Heard}
+use Rattle.gz_pick.specs.declared.heard.Pick.TheVariants.{Free}
+use Rattle.gz_round.specs.LookBack.{IsLookedBack}
+use Rattle.gz_round.specs.Rounds.{MayPromise, MayClassicVote, IsPromiseHeard, rounds_used, round_known, promises_known, promises_above, IsValueKnown}
 use Rattle.gz_round.specs.History.{Asked, Moment, Sent, Handed, GaveUp, Rested, GaveIn, Caller, Tale}
 use Rattle.gz_round.specs.Sites.{SiteNow, site_now, known}
 use Rattle.gz_round.specs.Shown.{IsShown, IsCurrent, IsNext, IsClear}
@@ -112,19 +117,27 @@ IsShort c ms v b = count_sites c.n (λ s. promises_known v b (rows_known ms s)) 
 abbrev pub AreRoundsUsedUp : Config → List Tale → List Moment → ℕ → Type 0
 AreRoundsUsedUp c past ms v = (2 ^ 31 ≤ rounds_used past ms + 1) ⊎ ((s : ℕ) × (s < c.n) × (2 ^ 31 ≤ round_known v (rows_known ms s) + 1))
 
--- nothing is awaited, and every site was heard or is out
-pub record IsIdle (c : Config) (ms : List Moment) : Type 0 where
-  pub idle : (s : ℕ) → s < c.n → (site_now ms s).awaits ≡ None
-  pub heard : (s : ℕ) → s < c.n → (site_now ms s).out ≡ false → (row : RowAt) × (rows_known ms s ≡ Some row)
+-- a call that writes nothing has no value to vote for: the promises of a classic quorum leave it to the call, which
+-- looked back at no vote
+pub record IsWithoutValue (c : Config) (w : Caller) (past : List Tale) (ms : List Moment) (v : ℕ) (b : BallotAt) : Type 0 where
+  pub reads : own_value w.name w.call ≡ None
+  pub promise : MayPromise c w past ms v b
+  pub heard : List Heard
+  pub sites : AreSites c.n heard
+  pub enough : c.qc ≤ length heard
+  pub rows : All (IsPromiseHeard ms v b) heard
+  pub free : pick_of c.n c.qf heard ≡ Free
+  pub back : IsLookedBack c ms v b None
+  pub undecided : NoEvidence c ms v
 
 -- a call gives in where its promise or its classic vote leads no further, short of a quorum of promises or of a
--- value that is chosen; or where no round is left. Rows that stay as written exclude these three. A call that writes
--- nothing gives in, too, where every site was heard or is out, nothing is awaited, and no value is known to be chosen.
+-- value that is chosen; where no round is left; or where it has no value to vote for. Rows that stay as written exclude
+-- all four.
 pub data MayGiveIn (c : Config) (w : Caller) (past : List Tale) (ms : List Moment) : Type 0 where
   NoPromise : (v : ℕ) (b : BallotAt) → MayPromise c w past ms v b → IsStuck c ms v b (Promise v b) → IsShort c ms v b → MayGiveIn c w past ms
   NoVote : (v : ℕ) (b : BallotAt) (x : Value) → MayClassicVote c w ms v b x → IsStuck c ms v b (ClassicVote v b x) → MayGiveIn c w past ms
   NoRound : (v : ℕ) → NoEvidence c ms v → AreRoundsUsedUp c past ms v → MayGiveIn c w past ms
-  NoRepair : (v : ℕ) → own_value w.name w.call ≡ None → IsIdle c ms → NoEvidence c ms v → MayGiveIn c w past ms
+  NoValue : (v : ℕ) (b : BallotAt) → IsWithoutValue c w past ms v b → MayGiveIn c w past ms
 
 -- a reply or a give-up is of a request that is awaited
 abbrev pub IsAwaitedOf : List Moment → Asked → Type 0

@@ -1,5 +1,5 @@
 -- What a running call keeps stands for what has happened to it.
-use Rattle.std.specs.Prelude.{ℕ, true, false, ◌≡◌, ◌≤◌, ◌<◌, ◌+◌, ◌⊎◌, List, length, slice_get, Option, Some, None, is_some, option_map}
+use Rattle.std.specs.Prelude.{ℕ, true, false, if◌then◌else◌, ◌≡◌, ◌≤◌, ◌<◌, ◌+◌, ◌⊎◌, List, length, slice_get, Option, Some, None, is_some, option_map}
 use Rattle.gz_core.specs.Names.{Name, BallotAt}
 use Rattle.gz_core.specs.Rows.{RowAt}
 use Rattle.gz_core.specs.Calls.{key_of, own_value}
@@ -13,9 +13,10 @@ use Rattle.gz_round.specs.declared.run.Stage.{Stage}
 use Rattle.gz_round.specs.declared.run.Stage.TheVariants.{Look, Fast, Prepare, Accept}
 use Rattle.gz_round.specs.History.{Asked, Moment, Caller, Tale}
 use Rattle.gz_round.specs.declared.hearing.Seen.{Seen}
-use Rattle.gz_round.specs.Sites.{SiteNow, site_now, known, written_by}
+use Rattle.gz_round.specs.Sites.{SiteNow, site_now, known, row_seen, written_by}
 use Rattle.gz_round.specs.Sent.{met, voted, phase_of, has_promised_at}
 use Rattle.gz_round.specs.Shown.{IsCurrent, IsClear}
+use Rattle.gz_round.specs.LookBack.{IsLookedBack}
 use Rattle.gz_round.specs.Rounds.{MayPromise, MayClassicVote, rounds_used, has_cast, promises_above, passed_since}
 use Rattle.gz_round.specs.Sending.{AreAllowed, MayFastVote, MayRead, rows_known}
 use Rattle.gz_round.specs.Counting.{IsGoing}
@@ -27,9 +28,13 @@ etag_seen (Some seen) = seen.etag
 abbrev pub awaited_of : Asked → Awaited
 awaited_of a = record { number = a.number; written = written_by a.op }
 
+-- the last row of a site that is out
+abbrev pub left_of : SiteNow → Option RowAt
+left_of now = if now.out then row_seen now.row else None
+
 -- what is kept of a site beside its row
 abbrev pub mark_of : SiteNow → Mark
-mark_of now = record { etag = etag_seen now.row; changed = now.changed; out = now.out; awaited = option_map awaited_of now.awaits }
+mark_of now = record { etag = etag_seen now.row; changed = now.changed; out = now.out; left = left_of now; awaited = option_map awaited_of now.awaits }
 
 -- the lists say of each site what the moments say
 pub record Knows (c : Config) (run : Run) (ms : List Moment) : Type 0 where
@@ -68,15 +73,14 @@ IsUnpromised ms v = (u : ℕ) (d : BallotAt) → v ≤ u → has_promised_at ms 
 abbrev pub ArePassed : Config → List Moment → ℕ → BallotAt → Type 0
 ArePassed c ms v b = (s : ℕ) (row : RowAt) → s < c.n → rows_known ms s ≡ Some row → promises_above row v b ≡ true → passed_since v b ms ≡ true
 
--- the call may vote at a version, or pass on to the next one once another value is shown there
+-- the call may work at a version; once a value is shown there that isn't its own, one that writes may pass on to the next
 pub record MayPass (c : Config) (w : Caller) (ms : List Moment) (v : ℕ) : Type 0 where
   pub above : 1 ≤ v
   pub current : IsCurrent c ms v
   pub clear : IsClear c w.name ms v
-  pub own : (x : Value) × (own_value w.name w.call ≡ Some x)
   pub later : IsUnpromised ms (v + 1)
 
--- a put works at a version by a classic ballot
+-- it works there by a classic ballot
 pub record IsWorking (c : Config) (w : Caller) (past : List Tale) (ms : List Moment) (v : ℕ) (b : BallotAt) : Type 0 where
   pub promise : MayPromise c w past ms v b
   pub pass : MayPass c w ms v
@@ -87,11 +91,11 @@ pub record IsPreparing (c : Config) (w : Caller) (past : List Tale) (ms : List M
   pub uncast : (y : Name) → has_cast ms v b y ≡ false
   pub used : (has_promised_at ms v b ≡ true) ⊎ (rounds_used past ms < b.round)
 
--- the phase has what its step wants
+-- the phase has what its step wants, and what a call that writes nothing looked back at
 abbrev pub StageStands : Config → Caller → List Tale → Stage → List Moment → Type 0
 StageStands c w past Look ms = (voted w.name ms ≡ false) × (phase_of ms ≡ NotBegun)
 StageStands c w past (Fast v) ms = MayFastVote c w ms v × ((x : Value) × (own_value w.name w.call ≡ Some x)) × IsUnpromised ms v
-StageStands c w past (Prepare v b) ms = IsPreparing c w past ms v b × ArePassed c ms v b
+StageStands c w past (Prepare v b found) ms = IsPreparing c w past ms v b × ArePassed c ms v b × (own_value w.name w.call ≡ None → IsLookedBack c ms v b found)
 StageStands c w past (Accept v b x) ms = MayClassicVote c w ms v b x × IsWorking c w past ms v b × ArePassed c ms v b
 
 -- each site that may be read is being read, or is out

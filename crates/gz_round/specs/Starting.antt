@@ -12,4 +12,4 @@ IsWithin (Get key) = Unit {0}
 
 -- a site of which nothing is known
 abbrev pub fresh_mark : Mark
-fresh_mark = record { etag = None; changed = false; out = false; awaited = None }
+fresh_mark = record { etag = None; changed = false; out = false; left = None; awaited = None }

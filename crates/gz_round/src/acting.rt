@@ -7,9 +7,10 @@ ghost use Rattle.gz_round.specs.Standing.{Stands, Runs, IsKept};
 ghost use Rattle.gz_round.specs.Counting.{IsGoing};
 ghost use Rattle.std.specs.Option.{option_copied};
 ghost use Rattle.gz_round.specs.Causes.{HasCause, row_value, column_value, vote_value};
-ghost use Rattle.gz_round.specs.Acting.{IsPlain, Acts, CanAct, CanFollow, Carries, CanCarry, is_overtaken, contended_of, cut_off_of, CanFinish, Finishes, HasValue, IsAnswerFor, IsAnswerOf, stage_step, vote_for, notice_for, working_version};
+ghost use Rattle.gz_round.specs.Acting.{IsPlain, Acts, CanAct, CanFollow, Carries, CanCarry, is_overtaken, contended_of, cut_off_of, given_in_of, CanFinish, Finishes, HasValue, IsAnswerFor, IsAnswerOf, stage_step, vote_for, notice_for, working_version};
 ghost use Rattle.gz_round.specs.Following.{Ready, IsReady, Turned, HasTurned};
 
+use crate::choosing::Choice;
 use crate::following::Next;
 use crate::run::{Run, Stage};
 use gz_core::{
@@ -121,7 +122,7 @@ impl Run {
         }
     }
 
-    /// The phase goes on; once a quorum promises the call's ballot, the next one votes in it.
+    /// The phase goes on; once a quorum promises the call's ballot, the next one votes in it, or every site goes out.
     fn go_on(&mut self, alloc: Global, config: &Config, first: u32) -> Result<Turn, AllocError>
         requires config { IsConfig config.now }
         requires first { first < 2 ^ 31 }
@@ -130,11 +131,23 @@ impl Run {
             → HasTurned config.now w past self.new (sent_from first turn.send ms) turn.answer) }
     {
         match self.choose(alloc, config)? {
-            Some(stage) => {
+            Choice::Wait => self.carry_on(alloc, config, first),
+            Choice::Accept { stage } => {
                 self.stage = stage;
                 self.carry_on(alloc, config, first)
             },
-            None => self.carry_on(alloc, config, first),
+            Choice::GiveIn => Ok(self.give_in(alloc)),
+        }
+    }
+
+    /// Every site goes out, and nothing is sent.
+    fn give_in(&self, alloc: Global) -> Turn
+        ensures send { result.send ≡ [] }
+        ensures answer { result.answer ≡ Some (given_in_of self.now) }
+    {
+        Turn {
+            send: Items::new(alloc),
+            answer: Some(self.given_in()),
         }
     }
 
@@ -160,7 +173,11 @@ impl Run {
         match &self.stage {
             Stage::Look => Ok(None),
             Stage::Fast { version } => self.vote(*version),
-            Stage::Prepare { version, ballot } => Ok(Some(RowStep::Promise {
+            Stage::Prepare {
+                version,
+                ballot,
+                ..
+            } => Ok(Some(RowStep::Promise {
                 version: *version,
                 ballot: *ballot,
             })),
@@ -332,7 +349,8 @@ fn value_in(column: &Column) -> Option<&Value>
     }
 }
 
-fn value_of(vote: &Option<Vote>) -> Option<&Value>
+/// The value of a vote, if there is one.
+pub fn value_of(vote: &Option<Vote>) -> Option<&Value>
     ensures { option_copied result ≡ vote_value vote.now }
 {
     match vote {

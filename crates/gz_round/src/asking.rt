@@ -109,6 +109,7 @@ impl Run {
                     etag,
                     changed,
                     out: is_out,
+                    left: None,
                     awaited: Some(Awaited { number, written }),
                 },
             );

@@ -1,5 +1,5 @@
-//! The value that a put proposes in a classic ballot, once a quorum promises it. (Lamport 2006, "Fast Paxos", section
-//! 2.2.)
+//! The value that a call proposes in a classic ballot, once a quorum promises it. (Lamport 2006, "Fast Paxos",
+//! section 2.2.)
 ghost use Rattle.std.specs.Prelude.{◌≡◌, ◌≤◌, ◌<◌, ◌+◌, ◌^◌, ◌||◌, List, Option, length, slice_get, Some, IfOk, OnOk, IsSome, MatchOption};
 ghost use Rattle.std.specs.List.{All};
 ghost use Rattle.gz_core.specs.Rows.{RowAt};
@@ -11,7 +11,8 @@ ghost use Rattle.gz_pick.specs.Choices.{AreSites};
 ghost use Rattle.gz_pick.specs.Evidences.{is_in};
 ghost use Rattle.gz_round.specs.History.{Moment, Caller, Tale};
 ghost use Rattle.gz_round.specs.Causes.{row_value};
-ghost use Rattle.gz_round.specs.Acting.{Acts, CanAct, Carries, IsFewIn};
+ghost use Rattle.gz_round.specs.Acting.{Acts, CanAct, ChoiceMeans, choice_of};
+ghost use Rattle.gz_round.specs.LookBack.{or_next};
 ghost use Rattle.gz_round.specs.Choosing.{slot_vote, heard_vote, IsHeardIn, AreHeardIn, IsProposed};
 
 use crate::acting::value_at;
@@ -22,80 +23,112 @@ use gz_pick::heard::{Heard, Pick};
 use gz_pick::pick;
 use std::alloc::{AllocError, Global};
 
+/// What the promises of the call's ballot come to.
+#[derive(Debug, Drop)]
+pub enum Choice {
+    /// The phase goes on: they are too few.
+    Wait,
+    /// This phase follows, which votes in the ballot.
+    Accept { stage: Stage },
+    /// They leave the value to the call, and it has none to propose.
+    GiveIn,
+}
+
+/// A vote for a value follows, if there is one.
+fn choice_of(version: Version, ballot: Ballot, value: Option<Value>) -> Choice
+    ensures { result ≡ choice_of version ballot value }
+{
+    match value {
+        None => Choice::GiveIn,
+        Some(value) => Choice::Accept {
+            stage: Stage::Accept {
+                version,
+                ballot,
+                value,
+            },
+        },
+    }
+}
+
 impl Run {
-    /// The phase that follows once a classic quorum of known rows promises the call's ballot: a vote for the value
-    /// that their votes force, and for the call's own one where they force none.
-    pub fn choose(&self, alloc: Global, config: &Config) -> Result<Option<Stage>, AllocError>
+    /// What follows once a classic quorum of known rows promises the call's ballot: a vote for the value that their
+    /// votes force. Where they force none, it is the call's own value, or the one that it looked back at.
+    pub fn choose(&self, alloc: Global, config: &Config) -> Result<Choice, AllocError>
         requires config { IsConfig config.now }
         requires acts { CanAct config.now self.now }
-        ensures { IfOk result (λ next. (w : Caller) (past : List Tale) (ms : List Moment) → Acts config.now w past self.now ms
-            → MatchOption next (IsFewIn config.now self.now self.now.stage) (λ stage. Carries config.now w past (record self.now { stage = stage }) ms)) }
+        ensures { IfOk result (λ choice. (w : Caller) (past : List Tale) (ms : List Moment) → Acts config.now w past self.now ms
+            → ChoiceMeans config.now w past self.now ms choice) }
     {
         match &self.stage {
-            Stage::Prepare { version, ballot } => {
-                self.choose_in(alloc, config, *version, *ballot)
-            },
-            _ => Ok(None),
+            Stage::Prepare {
+                version,
+                ballot,
+                found,
+            } => self.choose_in(alloc, config, *version, *ballot, found),
+            _ => Ok(Choice::Wait),
         }
     }
 
-    /// The phase that follows the preparation of a ballot.
+    /// What follows the preparation of a ballot.
     fn choose_in(
         &self,
         alloc: Global,
         config: &Config,
         version: Version,
         ballot: Ballot,
-    ) -> Result<Option<Stage>, AllocError>
+        found: &Option<Value>,
+    ) -> Result<Choice, AllocError>
         requires config { IsConfig config.now }
         requires acts { CanAct config.now self.now }
-        requires stage { self.now.stage ≡ Stage.Prepare version ballot }
-        ensures { IfOk result (λ next. (w : Caller) (past : List Tale) (ms : List Moment) → Acts config.now w past self.now ms
-            → MatchOption next (IsFewIn config.now self.now self.now.stage) (λ stage. Carries config.now w past (record self.now { stage = stage }) ms)) }
+        requires stage { self.now.stage ≡ Stage.Prepare version ballot found.now }
+        ensures { IfOk result (λ choice. (w : Caller) (past : List Tale) (ms : List Moment) → Acts config.now w past self.now ms
+            → ChoiceMeans config.now w past self.now ms choice) }
     {
         if self.round < ballot.round {
-            return Ok(None);
+            return Ok(Choice::Wait);
         }
         let heard = self.promises(alloc, config, version, ballot)?;
         if heard.len() < config.qc as usize {
-            return Ok(None);
+            return Ok(Choice::Wait);
         }
-        let value = self.proposal(config, version, &heard)?;
-        Ok(Some(Stage::Accept {
-            version,
-            ballot,
-            value,
-        }))
+        let value = self.proposal(config, version, found, &heard)?;
+        Ok(choice_of(version, ballot, value))
     }
 
-    /// The value to propose, by the votes of the rows that promise the ballot.
+    /// The value to propose, by the votes of the rows that promise the ballot: none where they force none and the
+    /// call has none.
     fn proposal(
         &self,
         config: &Config,
         version: Version,
+        found: &Option<Value>,
         heard: &Items<Heard>,
-    ) -> Result<Value, AllocError>
+    ) -> Result<Option<Value>, AllocError>
         requires config { IsConfig config.now }
         requires sites { AreSites config.now.n heard.now }
         requires quorum { config.now.qc ≤ length heard.now }
         requires heard { (ballot : BallotAt) × All (IsHeardIn self.now.rows version ballot) heard.now }
-        requires own { IsSome self.now.own }
-        ensures { IfOk result (λ value. IsProposed config.now self.now version heard.now value) }
+        ensures { IfOk result (λ value. IsProposed config.now self.now version found.now heard.now value) }
     {
         match pick(config, heard.as_slice()) {
-            Pick::Free => self.own_copy(),
-            Pick::Forced { at } => self.value_of(version, heard.at(at).site),
+            Pick::Free => self.free_value(found),
+            Pick::Forced { at } => {
+                let value = self.value_of(version, heard.at(at).site)?;
+                Ok(Some(value))
+            },
         }
     }
 
-    /// A copy of the value that the call writes.
-    fn own_copy(&self) -> Result<Value, AllocError>
-        requires { IsSome self.now.own }
-        ensures { IfOk result (λ value. self.now.own ≡ Some value) }
+    /// A copy of the value that the call proposes where none is forced.
+    fn free_value(&self, found: &Option<Value>) -> Result<Option<Value>, AllocError>
+        ensures { IfOk result (λ value. value ≡ or_next self.now.own found.now) }
     {
         match &self.own {
-            None => unreachable!(),
-            Some(value) => value.clone(),
+            None => found.clone(),
+            Some(value) => {
+                let value = value.clone()?;
+                Ok(Some(value))
+            },
         }
     }
 

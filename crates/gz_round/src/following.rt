@@ -1,10 +1,10 @@
 //! When a phase reaches its goal, and what follows then.
-ghost use Rattle.std.specs.Prelude.{◌≡◌, ◌≤◌, ◌<◌, ◌+◌, ◌^◌, ◌⊎◌, ◌↔◌, List, length, IsTrue, Some, slice_get, MatchOption};
+ghost use Rattle.std.specs.Prelude.{◌≡◌, ◌≤◌, ◌<◌, ◌+◌, ◌^◌, ◌⊎◌, ◌↔◌, List, length, IsTrue, IsSome, Some, slice_get, MatchOption};
 ghost use Rattle.gz_core.specs.Rows.{RowAt};
 ghost use Rattle.gz_pick.specs.Looks.{row_name};
 ghost use Rattle.gz_core.specs.Configurations.{IsConfig};
 ghost use Rattle.gz_round.specs.History.{Moment, Caller, Tale};
-ghost use Rattle.gz_round.specs.Following.{IsReady, Ready, NextMeans, MayPass, IsFirst, IsLatest, IsStageAt};
+ghost use Rattle.gz_round.specs.Following.{IsReady, Ready, NextMeans, MayPass, IsFirst, IsStageAt};
 ghost use Rattle.gz_core.specs.declared.configuration.Config.{Config};
 ghost use Rattle.gz_round.specs.Evidence.{NoneEvident, EvidentAt};
 ghost use Rattle.gz_round.specs.Standing.{Stands, IsKept};
@@ -76,12 +76,12 @@ impl Run {
         }
     }
 
-    /// The latest version is known: a put goes on from there, and a get has learnt its value.
+    /// The value of a version is known: a call that writes goes on from there, and one that reads has learnt it.
     fn found(&self, config: &Config, version: Version, site: SiteId) -> Next
         requires config { IsConfig config.now }
         requires kept { IsKept config.now self.now }
         requires evident { EvidentAt config.now self.now.rows version site }
-        ensures { (w : Caller) (past : List Tale) (ms : List Moment) → Stands config.now w past self.now ms → IsLatest config.now w ms version
+        ensures { (w : Caller) (past : List Tale) (ms : List Moment) → Stands config.now w past self.now ms → MayPass config.now w ms version
             → NextMeans config.now w self.now ms result }
     {
         if self.own.is_some() {
@@ -100,7 +100,7 @@ impl Run {
     {
         match evident(config, self.rows.as_slice(), version) {
             None => Next::Wait,
-            Some(site) => self.pass(config, version, site),
+            Some(site) => self.found(config, version, site),
         }
     }
 
@@ -109,6 +109,7 @@ impl Run {
         requires config { IsConfig config.now }
         requires kept { IsKept config.now self.now }
         requires evident { EvidentAt config.now self.now.rows version site }
+        requires own { IsSome self.now.own }
         ensures { (w : Caller) (past : List Tale) (ms : List Moment) → Stands config.now w past self.now ms → MayPass config.now w ms version
             → NextMeans config.now w self.now ms result }
     {

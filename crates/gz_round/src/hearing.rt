@@ -1,5 +1,6 @@
 //! What a reply tells of a site.
-ghost use Rattle.std.specs.Prelude.{◌≡◌, ◌<◌, ◌+◌, ◌^◌, length, slice_get, Some, IfOk};
+ghost use Rattle.std.specs.Prelude.{◌≡◌, ◌<◌, ◌+◌, ◌^◌, length, slice_get, Option, Some, IfOk};
+ghost use Rattle.gz_core.specs.Rows.{RowAt};
 ghost use Rattle.std.specs.List.{list_all};
 ghost use Rattle.gz_round.specs.Sites.{column_stands, entry_stands, can_stand, seen_in, seen_under, seen_written};
 ghost use Rattle.gz_round.specs.declared.run.Mark.{Mark};
@@ -108,6 +109,7 @@ impl Run {
                 etag,
                 changed: false,
                 out: false,
+                left: None,
                 awaited: None,
             },
         );
@@ -127,27 +129,30 @@ impl Run {
                 etag,
                 changed: true,
                 out,
+                left: None,
                 awaited: None,
             },
         );
         self.met += 1;
     }
 
-    /// Puts a site out for the rest of the call.
+    /// Puts a site out for the rest of the call, and keeps its last row apart.
     pub fn leave(&mut self, at: usize)
         requires rows { at < length self.old.rows }
         requires marks { at < length self.old.marks }
-        ensures { (mark : Mark) → slice_get self.old.marks at ≡ Some mark → self.new ≡ left_run self.old at mark }
+        ensures { (mark : Mark) (row : Option RowAt) → slice_get self.old.marks at ≡ Some mark → slice_get self.old.rows at ≡ Some row
+            → self.new ≡ left_run self.old at mark row }
     {
         let etag = self.marks.at(at).etag;
         let changed = self.marks.at(at).changed;
-        self.rows.set(at, None);
+        let left = self.rows.replace(at, None);
         self.marks.set(
             at,
             Mark {
                 etag,
                 changed,
                 out: true,
+                left,
                 awaited: None,
             },
         );

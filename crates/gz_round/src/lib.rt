@@ -4,10 +4,11 @@
 mod acting;
 pub mod asking;
 pub mod awaiting;
-mod choosing;
+pub mod choosing;
 pub mod counts;
 pub mod following;
 pub mod hearing;
+mod looking_back;
 pub mod making;
 mod noting;
 mod passing;

@@ -1,5 +1,6 @@
 //! What came at an event, noted.
-ghost use Rattle.std.specs.Prelude.{◌≡◌, ◌≤◌, ◌<◌, ◌+◌, ◌^◌, List, length, slice_get, ◌∷◌, Some, None, IfOk, OnOk};
+ghost use Rattle.std.specs.Prelude.{◌≡◌, ◌≤◌, ◌<◌, ◌+◌, ◌^◌, List, length, slice_get, ◌∷◌, Option, Some, None, IfOk, OnOk};
+ghost use Rattle.gz_core.specs.Rows.{RowAt};
 ghost use Rattle.gz_core.specs.declared.configuration.Config.{Config};
 ghost use Rattle.gz_round.specs.History.{Asked, Moment, Handed, GaveUp, Caller, Tale};
 ghost use Rattle.gz_round.specs.Sites.{is_changed, site_now, seen_in};
@@ -53,7 +54,8 @@ impl Run {
         requires rows { at < length self.old.rows }
         requires marks { at < length self.old.marks }
         requires met { self.old.met + 1 < 2 ^ 32 }
-        ensures { (mark : Mark) → slice_get self.old.marks at ≡ Some mark → self.new ≡ noted_by self.old at mark seen changed }
+        ensures { (mark : Mark) (row : Option RowAt) → slice_get self.old.marks at ≡ Some mark → slice_get self.old.rows at ≡ Some row
+            → self.new ≡ noted_by self.old at mark row seen changed }
     {
         match seen {
             Some(seen) => self.hear(at, seen),
@@ -65,7 +67,8 @@ impl Run {
         requires rows { at < length self.old.rows }
         requires marks { at < length self.old.marks }
         requires met { self.old.met + 1 < 2 ^ 32 }
-        ensures { (mark : Mark) → slice_get self.old.marks at ≡ Some mark → self.new ≡ noted_by self.old at mark None changed }
+        ensures { (mark : Mark) (row : Option RowAt) → slice_get self.old.marks at ≡ Some mark → slice_get self.old.rows at ≡ Some row
+            → self.new ≡ noted_by self.old at mark row None changed }
     {
         if changed {
             self.overtake(at);

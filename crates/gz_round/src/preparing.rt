@@ -1,5 +1,5 @@
-//! How a put goes on by a classic ballot, where a phase ended without its goal. (Lamport 2006, "Fast Paxos", section 2.2.)
-ghost use Rattle.std.specs.Prelude.{◌≡◌, ◌≤◌, ◌<◌, ◌+◌, ◌^◌, if◌then◌else◌, List, [], length, Some, None, is_some, IfOk};
+//! How a call goes on by a classic ballot, where a phase ended without its goal. (Lamport 2006, "Fast Paxos", section 2.2.)
+ghost use Rattle.std.specs.Prelude.{◌≡◌, ◌≤◌, ◌<◌, ◌+◌, ◌^◌, List, [], length, Some, None, IfOk};
 ghost use Rattle.gz_core.specs.Configurations.{IsConfig};
 ghost use Rattle.gz_round.specs.History.{Moment, Caller, Tale, sent_from};
 ghost use Rattle.gz_round.specs.Following.{HasTurned};
@@ -32,8 +32,8 @@ impl Run {
         self.run_out(config, first, send)
     }
 
-    /// A phase that ended without its goal: a put prepares a classic ballot after `Look` and `Fast`; a get gives in;
-    /// where a classic ballot leads no further, every site goes out.
+    /// A phase that ended without its goal: a classic ballot is prepared after `Look` and `Fast`; where one leads no
+    /// further, every site goes out.
     fn run_out(&mut self, config: &Config, first: u32, send: Items<Out>) -> Result<Turn, AllocError>
         requires config { IsConfig config.now }
         requires first { first < 2 ^ 31 }
@@ -54,31 +54,20 @@ impl Run {
         }
     }
 
-    /// The answer of a call whose phase ended without its goal, none where a put prepares.
+    /// The answer of a call whose phase ended without its goal, none where it prepares a ballot.
     fn ended(&self) -> Option<Answer>
         ensures { result ≡ ended_of self.now }
     {
         match &self.stage {
-            Stage::Look => self.unrepaired(),
+            Stage::Look => None,
             Stage::Fast { .. } => None,
             Stage::Prepare { .. } => Some(self.given_in()),
             Stage::Accept { .. } => Some(self.given_in()),
         }
     }
 
-    /// The answer of a get that can't tell; a put goes on.
-    fn unrepaired(&self) -> Option<Answer>
-        ensures { result ≡ (if is_some self.now.own then None else Some (given_in_of self.now)) }
-    {
-        if self.own.is_some() {
-            None
-        } else {
-            Some(self.given_in())
-        }
-    }
-
     /// The answer of a call of which every site goes out.
-    fn given_in(&self) -> Answer
+    pub fn given_in(&self) -> Answer
         ensures { result ≡ given_in_of self.now }
     {
         let phase = self.wrote;
@@ -132,7 +121,12 @@ impl Run {
         ensures { IfOk result (λ turn. (w : Caller) (past : List Tale) (ms : List Moment) → Prepares config.now w past self.old (sent_from first send ms) version
             → HasTurned config.now w past self.new (sent_from first turn.send ms) turn.answer) }
     {
-        self.stage = Stage::Prepare { version, ballot };
+        let found = self.look_back(config, version)?;
+        self.stage = Stage::Prepare {
+            version,
+            ballot,
+            found,
+        };
         let step = Some(RowStep::Promise { version, ballot });
         let mut send = send;
         self.ask_all(config, &step, first, &mut send)?;

@@ -43,9 +43,11 @@ impl Run {
         match &self.stage {
             Stage::Look => false,
             Stage::Fast { .. } => false,
-            Stage::Prepare { version, ballot } => {
-                self.round < ballot.round || any_above(self.rows.as_slice(), *version, *ballot)
-            },
+            Stage::Prepare {
+                version,
+                ballot,
+                ..
+            } => self.round < ballot.round || any_above(self.rows.as_slice(), *version, *ballot),
             Stage::Accept {
                 version,
                 ballot,

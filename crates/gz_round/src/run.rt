@@ -12,17 +12,20 @@ pub struct Awaited {
 }
 
 /// What a call keeps of a site beside its row: the tag of the last row that was heard (none: there was no row),
-/// whether that row was overtaken since, whether the site is out for the call, and the request that is awaited.
+/// whether that row was overtaken since, whether the site is out for the call, its last row where it is, and the
+/// request that is awaited.
 #[derive(Clone, Debug, Drop)]
 pub struct Mark {
     pub etag: Option<Etag>,
     pub changed: bool,
     pub out: bool,
+    pub left: Option<Row>,
     pub awaited: Option<Awaited>,
 }
 
 /// The phase of a call. `Look` reads every site; `Fast` votes in the fast ballot of a version; `Prepare` asks for
-/// promises of a classic ballot, and `Accept` votes in it for a value that the promises allow.
+/// promises of a classic ballot, after it `found` a value to propose in the votes that were heard if the call has
+/// none of its own, and `Accept` votes in it for a value that the promises allow.
 #[derive(Debug, Drop)]
 pub enum Stage {
     Look,
@@ -32,6 +35,7 @@ pub enum Stage {
     Prepare {
         version: Version,
         ballot: Ballot,
+        found: Option<Value>,
     },
     Accept {
         version: Version,
@@ -49,10 +53,18 @@ impl Clone for Stage {
         match self {
             Stage::Look => Ok(Stage::Look),
             Stage::Fast { version } => Ok(Stage::Fast { version: *version }),
-            Stage::Prepare { version, ballot } => Ok(Stage::Prepare {
-                version: *version,
-                ballot: *ballot,
-            }),
+            Stage::Prepare {
+                version,
+                ballot,
+                found,
+            } => {
+                let found = found.clone()?;
+                Ok(Stage::Prepare {
+                    version: *version,
+                    ballot: *ballot,
+                    found,
+                })
+            },
             Stage::Accept {
                 version,
                 ballot,
@@ -69,7 +81,7 @@ impl Clone for Stage {
     }
 }
 
-/// A running call: its name, the object's key, the value that it writes if it is a put, the last row of each
+/// A running call: its name, the object's key, the value that it writes if it writes one, the last row of each
 /// site that isn't out, what else it keeps of each site, how often it was overtaken, whether it voted for its
 /// value, the part that sent its last row write, the greatest round that its session promised, and its phase.
 #[derive(Clone, Debug, Drop)]

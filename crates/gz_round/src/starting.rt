@@ -79,6 +79,7 @@ fn fresh_marks(alloc: Global, n: usize) -> Result<Items<Mark>, AllocError>
             etag: None,
             changed: false,
             out: false,
+            left: None,
             awaited: None,
         })?;
     }

@@ -6,11 +6,11 @@ use Rattle.gz_round.specs.Sending.{MayFastVote}
 use Rattle.gz_round.specs.Standing.{IsUnpromised}
 use Rattle.gz_round.specs.Evidence.{NoneEvident}
 use Rattle.gz_round.proofs.Known.{known_low, none_evident}
-use Rattle.gz_round.proofs.Follows.{evident_highest, chosen_means, other_means, pass_from}
+use Rattle.gz_round.proofs.Follows.{evident_highest, chosen_means, other_means, own_of, pass_from}
 use Rattle.gz_round.proofs.run.Run.+pass.Goals as goal
 
 pub returns-then-is_own : goal.returns-then-is_own
-returns-then-is_own t c = λ w past ms h m. chosen_means c.args.config.now w past c.args.self.now ms c.args.version c.args.site h m c.requires.evident ((c.is_own.ensures c.requires.evident.row c.requires.evident.known).0 c.if-is_own.true)
+returns-then-is_own t c = λ w past ms h m. chosen_means c.args.config.now w past c.args.self.now ms c.args.version c.args.site h c.requires.own m c.requires.evident ((c.is_own.ensures c.requires.evident.row c.requires.evident.known).0 c.if-is_own.true)
 
 pub next-next-requires : goal.next-next-requires
 next-next-requires t c =
@@ -26,9 +26,9 @@ pass-requires t c =
 pub returns-in-None : goal.returns-in-None
 returns-in-None t c = λ w past ms h m.
     let other = other_means c.args.config.now w past c.args.self.now ms c.args.version c.args.site h m c.requires.evident (λ k. both_ways _ c.if-is_own.false ((c.is_own.ensures c.requires.evident.row c.requires.evident.known).1 k)) in
-    (subst (MayFastVote c.args.config.now w ms) (sym c.next-next.ensures) other, none_evident c.args.config.now c.args.self.now ms h.knows c.next-next.result (subst (λ rows. NoneEvident c.args.config.now rows c.next-next.result) c.as_slice.ensures c.in-None.ensures), m.own, subst (IsUnpromised ms) (sym c.next-next.ensures) m.later)
+    (subst (MayFastVote c.args.config.now w ms) (sym c.next-next.ensures) other, none_evident c.args.config.now c.args.self.now ms h.knows c.next-next.result (subst (λ rows. NoneEvident c.args.config.now rows c.next-next.result) c.as_slice.ensures c.in-None.ensures), own_of c.args.config.now w past c.args.self.now ms h c.requires.own, subst (IsUnpromised ms) (sym c.next-next.ensures) m.later)
 
 pub returns-in-Some : goal.returns-in-Some
 returns-in-Some t c = λ w past ms h m.
     let other = other_means c.args.config.now w past c.args.self.now ms c.args.version c.args.site h m c.requires.evident (λ k. both_ways _ c.if-is_own.false ((c.is_own.ensures c.requires.evident.row c.requires.evident.known).1 k)) in
-    c.pass.ensures w past ms h (subst (MayPass c.args.config.now w ms) (sym c.next-next.ensures) (pass_from c.args.config.now w ms (c.args.version + 1) other m.own m.later))
+    c.pass.ensures w past ms h (subst (MayPass c.args.config.now w ms) (sym c.next-next.ensures) (pass_from c.args.config.now w ms (c.args.version + 1) other m.later))

@@ -1,7 +1,7 @@
 use Rattle.std.proofs.Common.{◌≡◌, ◌∙◌, sym, ap, subst, inl, inr, arith}
 use Rattle.gz_pick.specs.Looks.{highest_of}
 use Rattle.gz_round.specs.Evidence.{NoneEvident}
-use Rattle.gz_round.specs.Following.{IsUnmet, IsLatest}
+use Rattle.gz_round.specs.Following.{IsUnmet, MayPass}
 use Rattle.gz_round.specs.Standing.{StageStands}
 use Rattle.gz_round.proofs.Known.{none_evident, known_counted}
 use Rattle.gz_round.proofs.Follows.{first_from, latest_from, highest_positive}
@@ -27,4 +27,4 @@ pub returns-in-Some : goal.returns-in-Some
 returns-in-Some c = λ w past ms r.
     let counted = known_counted c.args.config.now c.args.self.now ms r.stands.knows in
     let version : c.highest-version.result ≡ highest_of c.args.self.now.rows = c.highest-version.ensures ∙ ap highest_of c.as_slice.ensures in
-    c.found.ensures w past ms r.stands (subst (IsLatest c.args.config.now w ms) (sym version) (latest_from c.args.config.now w past c.args.self.now ms r.stands (subst (λ st. StageStands c.args.config.now w past st ms) c.requires.stage r.stage).0 (subst (λ st. StageStands c.args.config.now w past st ms) c.requires.stage r.stage).1 (cc) (omega arith)))
+    c.found.ensures w past ms r.stands (subst (MayPass c.args.config.now w ms) (sym version) (latest_from c.args.config.now w past c.args.self.now ms r.stands (subst (λ st. StageStands c.args.config.now w past st ms) c.requires.stage r.stage).0 (subst (λ st. StageStands c.args.config.now w past st ms) c.requires.stage r.stage).1 (cc) (omega arith)))

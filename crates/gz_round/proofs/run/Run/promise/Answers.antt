@@ -1,18 +1,21 @@
-use Rattle.std.proofs.Common.{sym, subst}
+use Rattle.std.proofs.Common.{◌≡◌, None, sym, subst}
+use Rattle.gz_core.specs.Calls.{own_value}
+use Rattle.gz_round.specs.LookBack.{IsLookedBack}
 use Rattle.gz_round.specs.History.{sent_from}
 use Rattle.gz_round.specs.Following.{HasTurned}
 use Rattle.gz_round.specs.Acting.{CanPrepare}
 use Rattle.gz_round.proofs.Turns.{going_sent, going_back, evidence_sent, evidence_back}
-use Rattle.gz_round.proofs.Prepares.{prepared_asks, prepared_turned}
+use Rattle.gz_round.proofs.Prepares.{prepared_asks, prepared_turned, looked_back}
 use Rattle.gz_round.proofs.run.Run.promise.Goals as goal
 
 pub ask_all-requires-clause-asks : goal.ask_all-requires-clause-asks
 ask_all-requires-clause-asks c =
     let k : CanPrepare c.args.config.now c.args.self.now c.args.first c.args.send c.args.version = c.requires.prepares in
-    (k.0, k.1, k.2, prepared_asks c.args.config.now k.0 k.1 c.args.self.now (sent_from c.args.first c.args.send k.2) c.args.version c.args.ballot k.3 c.requires.ballot)
+    (k.0, k.1, k.2, prepared_asks c.args.config.now k.0 k.1 c.args.self.now (sent_from c.args.first c.args.send k.2) c.args.version c.args.ballot c.in_ok-found.found k.3 c.requires.ballot)
 
 pub returns : goal.returns
 returns c = λ w past ms p.
-    let done = c.in_ok-ask_all.ensures.asked w past ms (prepared_asks c.args.config.now w past c.args.self.now (sent_from c.args.first c.args.send ms) c.args.version c.args.ballot p c.requires.ballot) in
+    let done = c.in_ok-ask_all.ensures.asked w past ms (prepared_asks c.args.config.now w past c.args.self.now (sent_from c.args.first c.args.send ms) c.args.version c.args.ballot c.in_ok-found.found p c.requires.ballot) in
+    let back : own_value w.name w.call ≡ None → IsLookedBack c.args.config.now (sent_from c.args.first c.ask_all.new.send ms) c.args.version c.args.ballot c.in_ok-found.found = λ reads. looked_back c.args.config.now w past c.args.self.now ms c.args.first c.args.send c.ask_all.new.send c.args.version c.args.ballot c.in_ok-found.found p c.requires.ballot (c.in_ok-found.ensures w past (sent_from c.args.first c.args.send ms) p.stands reads) in
     subst (HasTurned c.args.config.now w past c.ask_all.new.self (sent_from c.args.first c.ask_all.new.send ms)) (sym c.prepared-answer.ensures)
-    (prepared_turned c.args.config.now w past c.args.self.now c.ask_all.new.self (sent_from c.args.first c.args.send ms) c.args.version c.args.ballot (sent_from c.args.first c.ask_all.new.send ms) c.requires.config p c.requires.ballot (going_sent c.args.config.now c.args.first c.ask_all.new.send ms (going_back c.args.config.now c.args.first c.args.send ms p.going)) (evidence_sent c.args.config.now c.args.version c.args.first c.ask_all.new.send ms (evidence_back c.args.config.now c.args.version c.args.first c.args.send ms p.none)) done.0 done.1 c.in_ok-ask_all.ensures.left)
+    (prepared_turned c.args.config.now w past c.args.self.now c.ask_all.new.self (sent_from c.args.first c.args.send ms) c.args.version c.args.ballot c.in_ok-found.found (sent_from c.args.first c.ask_all.new.send ms) c.requires.config p c.requires.ballot (going_sent c.args.config.now c.args.first c.ask_all.new.send ms (going_back c.args.config.now c.args.first c.args.send ms p.going)) (evidence_sent c.args.config.now c.args.version c.args.first c.ask_all.new.send ms (evidence_back c.args.config.now c.args.version c.args.first c.args.send ms p.none)) back done.0 done.1 c.in_ok-ask_all.ensures.left)
