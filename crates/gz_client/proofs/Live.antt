@@ -1,8 +1,13 @@
 -- Which requests the client awaits.
-use Rattle.std.proofs.Common.{◌≡◌, ℕ, ◌<◌, ◌^◌, true, List, [], ◌∷◌, Option, Some, None, is_some, option_map, refl, sym, ap, ◌∙◌, subst, arith}
+use Rattle.std.proofs.Common.{◌≡◌, ◌==◌, ℕ, ◌<◌, ◌^◌, true, List, [], ◌∷◌, Option, Some, None, is_some, option_map, refl, sym, ap, ◌∙◌, subst, arith}
+use Rattle.std.specs.Prelude.{nat_lt}
 use Rattle.std.specs.List.{count_by}
+use Rattle.std.proofs.lemmas.Bool.{eqb-true, false≢true}
+use Rattle.std.proofs.lemmas.Bool.Decides.{nat_tests}
+use Rattle.std.proofs.lemmas.Option.{none-some}
+use Rattle.gz_core.specs.declared.calls.Answer.{Answer}
 use Rattle.gz_core.specs.declared.configuration.Config.{Config}
-use Rattle.gz_core.proofs.Counting.{count_most}
+use Rattle.gz_core.proofs.Counting.{count_found, count_most}
 use Rattle.gz_round.specs.declared.run.Run.{Run}
 use Rattle.gz_round.specs.History.{Asked, Moment, Tale}
 use Rattle.gz_round.specs.Sites.{site_now}
@@ -11,7 +16,7 @@ use Rattle.gz_round.specs.Numbering.{AreNumbered, IsLiveAt, live_where, awaits_n
 use Rattle.gz_round.specs.Awaiting.{is_live}
 use Rattle.gz_round.proofs.Lists.{count_same, count_told}
 use Rattle.gz_client.specs.declared.client.Client.{Client}
-use Rattle.gz_client.specs.Tales.{Holds, HoldsRun, AreOver, live, live_in, IsLiveAtIn, IsLiveAtWhile}
+use Rattle.gz_client.specs.Tales.{Holds, HoldsRun, AreOver, IsAwaited, live, live_in, IsLive, IsLiveAtIn, IsLiveAtWhile}
 use Rattle.gz_client.proofs.Holding.{run_held}
 
 -- nothing is awaited once all calls were answered
@@ -47,3 +52,32 @@ live_at_held client run i result next [] e told h = absurd (subst (λ r. HoldsRu
 live_at_held client run i result next (t ∷ ts) e told h =
     let k = run_held client next t ts run e h in
     subst (IsLiveAtWhile client.config t i result) (sym k.waits) (told client.config t.moments next k.runs.stands.knows k.runs.stands.sites k.numbered)
+
+-- a request whose number is this one
+awaited_under : (o : Option Asked) (n : ℕ) → awaits_number (λ m. m == n) o ≡ true → (a : Asked) × (o ≡ Some a) × (a.number ≡ n)
+awaited_under None n h = absurd (false≢true h)
+awaited_under (Some a) n h = (a, refl, eqb-true a.number n h)
+
+awaited_while : (c : Config) (next : ℕ) (run : Option Run) (t : Tale) (ts : List Tale) (n : ℕ) (answer : Option Answer) → t.answer ≡ answer → HoldsRun c next run (t ∷ ts) → 0 < live_in c (λ m. m == n) t answer → (a : Asked) × IsAwaited c t a n
+awaited_while c next run t ts n (Some answer) e h l = absurd (omega arith)
+awaited_while c next None t ts n None e h l = absurd (none-some h.0.0 (sym e ∙ h.0.1))
+awaited_while c next (Some run) t ts n None e h l =
+    let found = count_found c.n (λ s. awaits_number (λ m. m == n) (site_now t.moments s).awaits) l in
+    let a = awaited_under (site_now t.moments found.0).awaits n found.2 in
+    let at : a.0.site ≡ found.0 = ((h.1.stands.sites found.0).inside a.0 a.1).1 in (
+      a.0,
+      record {
+        running = e;
+        inside = subst (λ s. s < c.n) (sym at) found.1;
+        awaits = subst (λ s. (site_now t.moments s).awaits ≡ Some a.0) (sym at) a.1;
+        number_is = a.2;
+      },
+    )
+
+some_above : (k : ℕ) → nat_lt 0 k ≡ true → 0 < k
+some_above k h = grind (arith, nat_tests)
+
+-- a number under which some request is awaited is live
+pub live_when : (client : Client) (next : ℕ) (ts : List Tale) (n : ℕ) → Holds client next ts → nat_lt 0 (live client.config (λ m. m == n) ts) ≡ true → IsLive client.config ts n
+live_when client next [] n h l = absurd (omega (arith, some_above 0 l))
+live_when client next (t ∷ ts) n h l = awaited_while client.config next client.run t ts n t.answer refl h.run_is (some_above (live client.config (λ m. m == n) (t ∷ ts)) l)

@@ -34,9 +34,9 @@ IsHistory calls = AreInOrder calls (length calls)
 abbrev pub AllPrecede : List CallRec → ℕ → ℕ → Type 0
 AllPrecede calls j end = (i : ℕ) → i < end → PrecedesAt calls i j
 
--- two calls that name puts name one
-abbrev pub NameOnePut : CallRec → CallRec → Type 0
-NameOnePut a b = (x y : Name) → names a.name a.answer ≡ Some x → names b.name b.answer ≡ Some y → x ≡ y
+-- two calls that name writes name one
+abbrev pub NameOneWrite : CallRec → CallRec → Type 0
+NameOneWrite a b = (x y : Name) → names a.name a.answer ≡ Some x → names b.name b.answer ≡ Some y → x ≡ y
 
 -- two calls that show versions show one
 abbrev pub ShowOneVersion : CallRec → CallRec → Type 0

@@ -5,7 +5,7 @@
 use Rattle.std.specs.Prelude.{ℕ, ◌≡◌, ◌<◌, ◌≤◌, List, Option, Some, None, Contains}
 use Rattle.gz_core.specs.Names.{Name}
 use Rattle.gz_core.specs.Calls.{key_of}
-use Rattle.gz_history.specs.Answers.{shows, stands, names, read_from, bytes_read, bytes_written, IsWrite, IsPut, MayTakeEffect}
+use Rattle.gz_history.specs.Answers.{shows, stands, names, read_from, bytes_read, bytes_written, IsWrite, Writes, MayTakeEffect}
 use Rattle.gz_history.specs.declared.record.CallRec.{CallRec}
 
 -- a tick stands before another
@@ -22,11 +22,11 @@ IsBeforeEnd tick (Some end) = tick < end
 abbrev pub EachTwo : (CallRec → CallRec → Type 0) → List CallRec → Type 0
 EachTwo R calls = (a b : CallRec) → Contains calls a → Contains calls b → key_of a.call ≡ key_of b.call → R a b
 
--- agreement: two answers that name one version name one put
+-- agreement: two answers that name one version name one call
 abbrev pub Agree : CallRec → CallRec → Type 0
 Agree a b = (v : ℕ) (x y : Name) → shows a.answer ≡ Some v → shows b.answer ≡ Some v → names a.name a.answer ≡ Some x → names b.name b.answer ≡ Some y → x ≡ y
 
--- effect at most once: two answers that name one put name one version
+-- effect at most once: two answers that name one call name one version
 abbrev pub TakeEffectOnce : CallRec → CallRec → Type 0
 TakeEffectOnce a b = (x : Name) (v w : ℕ) → names a.name a.answer ≡ Some x → names b.name b.answer ≡ Some x → shows a.answer ≡ Some v → shows b.answer ≡ Some w → v ≡ w
 
@@ -34,11 +34,12 @@ TakeEffectOnce a b = (x : Name) (v w : ℕ) → names a.name a.answer ≡ Some x
 abbrev pub KeepOrder : CallRec → CallRec → Type 0
 KeepOrder a b = (v w : ℕ) → IsBefore a.end b.begin → shows a.answer ≡ Some v → stands b.call b.answer ≡ Some w → (v ≤ w) × (IsWrite b.call → v < w)
 
--- the call that a read names: a put of the object, which began before the read ended and may have taken effect
+-- the call that a read names: it writes what was read, a put for bytes and a delete where the object is gone, to the same object;
+-- it began before the read ended, and may have taken effect
 pub record IsSource (a : CallRec) (x : Name) (b : CallRec) : Type 0 where
   pub name : b.name ≡ x
   pub key : key_of b.call ≡ key_of a.call
-  pub write : IsPut b.call
+  pub write : Writes a.answer b.call
   pub began : IsBeforeEnd b.begin a.end
   pub effect : MayTakeEffect b.answer
 

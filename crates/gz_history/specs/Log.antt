@@ -3,13 +3,13 @@ use Rattle.std.specs.Prelude.{ℕ, List, [], ◌∷◌, ◌++◌, length, flat_m
 use Rattle.hex.specs.Hex.{encode_lower}
 use Rattle.gz_core.specs.Names.{Name}
 use Rattle.gz_core.specs.declared.calls.Call.{Call}
-use Rattle.gz_core.specs.declared.calls.Call.TheVariants.{Put, Get}
+use Rattle.gz_core.specs.declared.calls.Call.TheVariants.{Put, Delete, Get}
 use Rattle.gz_core.specs.declared.calls.Phase.{Phase}
 use Rattle.gz_core.specs.declared.calls.Phase.TheVariants.{Look, Fast, Prepare, Accept, Trim}
 use Rattle.gz_core.specs.declared.calls.UnsureWhy.{UnsureWhy}
 use Rattle.gz_core.specs.declared.calls.UnsureWhy.TheVariants.{NoQuorum as UnsureNoQuorum, Contended as UnsureContended}
 use Rattle.gz_core.specs.declared.calls.Answer.{Answer}
-use Rattle.gz_core.specs.declared.calls.Answer.TheVariants.{Ok as Placed, Bytes, Absent, NoQuorum, Contended, Unsure, Unsettled}
+use Rattle.gz_core.specs.declared.calls.Answer.TheVariants.{Ok as Placed, Bytes, Gone, Absent, NoQuorum, Contended, Unsure}
 use Rattle.gz_core.specs.Calls.{key_of}
 use Rattle.gz_history.specs.declared.record.CallRec.{CallRec}
 
@@ -25,11 +25,13 @@ bytes_text (b ∷ bs) = encode_lower (b ∷ bs)
 -- the kind of a call
 abbrev pub kind_text : Call → List ℕ
 kind_text (Put key bytes) = codes "put"
+kind_text (Delete key) = codes "delete"
 kind_text (Get key) = codes "get"
 
 -- what a call was given beside its key
 abbrev pub argument_text : Call → List ℕ
 argument_text (Put key bytes) = bytes_text bytes
+argument_text (Delete key) = codes "-"
 argument_text (Get key) = codes "-"
 
 -- a tick, a dash where there is none
@@ -45,7 +47,7 @@ phase_text Prepare = codes "prepare"
 phase_text Accept = codes "accept"
 phase_text Trim = codes "trim"
 
--- why a put ended without knowing
+-- why a write ended without knowing
 abbrev pub unsure_text : UnsureWhy → List ℕ
 unsure_text (UnsureNoQuorum phase heard) = codes "unsure noquorum " ++ phase_text phase ++ codes " " ++ decimal heard
 unsure_text (UnsureContended met) = codes "unsure contended " ++ decimal met
@@ -54,16 +56,20 @@ unsure_text (UnsureContended met) = codes "unsure contended " ++ decimal met
 abbrev pub found_text : ℕ → Name → List ℕ → List ℕ
 found_text version name bytes = codes "bytes " ++ decimal version ++ codes " " ++ name_text name ++ codes " " ++ bytes_text bytes
 
+-- the version and the name of the tombstone that was read
+abbrev pub gone_text : ℕ → Name → List ℕ
+gone_text version name = codes "gone " ++ decimal version ++ codes " " ++ name_text name
+
 -- an answer, `open` where there is none
 abbrev pub answer_text : Option Answer → List ℕ
 answer_text None = codes "open"
 answer_text (Some (Placed version)) = codes "ok " ++ decimal version
 answer_text (Some (Bytes version name bytes)) = found_text version name bytes
+answer_text (Some (Gone version name)) = gone_text version name
 answer_text (Some Absent) = codes "absent"
 answer_text (Some (NoQuorum phase heard)) = codes "noquorum " ++ phase_text phase ++ codes " " ++ decimal heard
 answer_text (Some (Contended met)) = codes "contended " ++ decimal met
 answer_text (Some (Unsure why)) = unsure_text why
-answer_text (Some (Unsettled version)) = codes "unsettled " ++ decimal version
 
 -- what was asked: the name, the kind, the key and the argument of a call
 abbrev pub asked_text : Name → Call → List ℕ

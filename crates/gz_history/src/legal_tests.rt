@@ -1,20 +1,34 @@
 //! Histories that are legal, and that break one rule.
 use super::*;
-use gz_core::{Answer, Call, Items, Key, PutName, Session, Version};
+use gz_core::{Answer, Call, Items, Key, Phase, PutName, Session, Version};
 use std::alloc::Global;
 use std::test::Fail;
 
-/// What a call was told.
+/// What a call does: a put with its byte.
+#[derive(Clone, Copy)]
+enum Asked {
+    Put(u8),
+    Delete,
+    Get,
+}
+
+/// What a call was told: versions, the session that is named, the byte that was read.
 #[derive(Clone, Copy)]
 enum Told {
     Open,
     Placed(u64),
     Read(u64, u32, u8),
+    Gone(u64, u32),
     Absent,
+    NoQuorum,
+    Contended,
 }
 
-/// A call of the session's first and only one: of a put the byte, its ticks, and what it was told.
-type Brief = (u32, Option<u8>, u32, u32, Told);
+/// The first and only call of a session: its session, its key, what it does, its ticks, and what it was told.
+type Brief = (u32, u8, Asked, u32, u32, Told);
+
+/// The clause that is broken, with the sessions of its two calls; 0 where none is.
+type Judged = (u8, u32, u32);
 
 fn name_of(session: u32) -> Result<PutName, Fail> {
     if session == 0 {
@@ -37,6 +51,15 @@ fn answer_of(alloc: Global, told: Told) -> Result<Option<Answer>, Fail> {
     Ok(match told {
         Told::Open => None,
         Told::Absent => Some(Answer::Absent),
+        Told::NoQuorum => Some(Answer::NoQuorum {
+            phase: Phase::Look,
+            heard: 1,
+        }),
+        Told::Contended => Some(Answer::Contended { met: 1 }),
+        Told::Gone(version, session) => Some(Answer::Gone {
+            version: version_of(version)?,
+            name: name_of(session)?,
+        }),
         Told::Placed(version) => Some(Answer::Ok {
             version: version_of(version)?,
         }),
@@ -48,24 +71,25 @@ fn answer_of(alloc: Global, told: Told) -> Result<Option<Answer>, Fail> {
     })
 }
 
-fn call_of(alloc: Global, key: Key, byte: Option<u8>) -> Result<Call, Fail> {
-    Ok(match byte {
-        Some(byte) => Call::Put {
+fn call_of(alloc: Global, key: Key, asked: Asked) -> Result<Call, Fail> {
+    Ok(match asked {
+        Asked::Put(byte) => Call::Put {
             key,
             bytes: Items::from_slice(alloc, &[byte])?,
         },
-        None => Call::Get { key },
+        Asked::Delete => Call::Delete { key },
+        Asked::Get => Call::Get { key },
     })
 }
 
 fn record_of(alloc: Global, brief: Brief) -> Result<CallRec, Fail> {
-    let (session, byte, begin, end, told) = brief;
-    let Some(key) = Key::new(Vec::from_slice(alloc, b"a")?) else {
+    let (session, key, asked, begin, end, told) = brief;
+    let Some(key) = Key::new(Vec::from_slice(alloc, &[key])?) else {
         return Err(Fail::from("no key"));
     };
     Ok(CallRec {
         name: name_of(session)?,
-        call: call_of(alloc, key, byte)?,
+        call: call_of(alloc, key, asked)?,
         begin,
         end: if let Told::Open = told {
             None
@@ -76,8 +100,7 @@ fn record_of(alloc: Global, brief: Brief) -> Result<CallRec, Fail> {
     })
 }
 
-/// The clause that is broken, with the sessions of its two calls; 0 where none is.
-fn judged(alloc: Global, briefs: &[Brief]) -> Result<(u8, u32, u32), Fail> {
+fn judged(alloc: Global, briefs: &[Brief]) -> Result<Judged, Fail> {
     let mut calls = Vec::new(alloc);
     for brief in briefs {
         calls.push(record_of(alloc, *brief)?)?;
@@ -95,41 +118,82 @@ fn judged(alloc: Global, briefs: &[Brief]) -> Result<(u8, u32, u32), Fail> {
     })
 }
 
-use Told::{Absent, Open, Placed, Read};
+use Asked::{Delete, Get, Put};
+use Told::{Absent, Contended, Gone, NoQuorum, Open, Placed, Read};
 
-const PUT: Brief = (1, Some(1), 2, 14, Placed(1));
+const LEGAL: Judged = (0, 0, 0);
 
-const LATER: Brief = (2, Some(2), 15, 27, Placed(2));
+const PUT: Brief = (1, b'a', Put(1), 2, 14, Placed(1));
+
+const DELETE: Brief = (2, b'a', Delete, 15, 27, Placed(2));
 
 #[test]
-fn histories_that_break_one_rule(rt: HostRuntime) -> Result<(), Fail> {
-    let cases: [(&[Brief], (u8, u32, u32)); 11] = [
-        (&[], (0, 0, 0)),
-        (&[PUT, LATER, (3, None, 28, 34, Read(2, 2, 2))], (0, 0, 0)),
-        // a put that has not ended may have been read
-        (
-            &[(1, Some(1), 2, 0, Open), (2, None, 3, 9, Read(1, 1, 1))],
-            (0, 0, 0),
-        ),
-        (&[PUT, (2, Some(2), 3, 15, Placed(1))], (1, 1, 2)),
-        (&[PUT, (2, None, 3, 9, Read(2, 1, 1))], (2, 1, 2)),
-        (&[PUT, (2, None, 15, 21, Absent)], (3, 1, 2)),
-        // a put stands above what was read before it began
+fn histories_that_are_legal(rt: HostRuntime) -> Result<(), Fail> {
+    let cases: [&[Brief]; 7] = [
+        &[],
+        &[PUT, DELETE, (3, b'a', Get, 28, 34, Gone(2, 2))],
+        // a put and a delete that have not ended may have been read
+        &[
+            (1, b'a', Put(1), 2, 0, Open),
+            (2, b'a', Get, 3, 9, Read(1, 1, 1)),
+        ],
+        &[
+            (1, b'a', Delete, 2, 0, Open),
+            (2, b'a', Get, 3, 9, Gone(1, 1)),
+        ],
+        // reads while a delete runs, of the version below it and of its own
+        &[
+            PUT,
+            DELETE,
+            (3, b'a', Get, 16, 26, Read(1, 1, 1)),
+            (4, b'a', Get, 17, 25, Gone(2, 2)),
+        ],
+        // what does not happen to the object: a write without effect, and another object's calls
+        &[
+            PUT,
+            (2, b'a', Delete, 15, 20, NoQuorum),
+            (3, b'a', Put(3), 21, 27, Contended),
+            (4, b'a', Get, 28, 34, Read(1, 1, 1)),
+        ],
+        &[PUT, (2, b'b', Delete, 15, 27, Placed(1))],
+    ];
+    for briefs in cases {
+        assert_eq!(rt; judged(rt.alloc(), briefs)?, LEGAL);
+    }
+    Ok(())
+}
+
+#[test]
+fn histories_that_break_agreement_or_effect_at_most_once(rt: HostRuntime) -> Result<(), Fail> {
+    let cases: [(&[Brief], Judged); 6] = [
+        // two writes at one version, by their own answers or by what is read
+        (&[PUT, (2, b'a', Put(2), 3, 15, Placed(1))], (1, 1, 2)),
+        (&[PUT, (2, b'a', Delete, 3, 15, Placed(1))], (1, 1, 2)),
         (
             &[
-                (1, None, 2, 8, Read(1, 2, 2)),
-                (2, Some(2), 9, 20, Placed(1)),
+                PUT,
+                (2, b'a', Delete, 3, 0, Open),
+                (3, b'a', Get, 4, 10, Gone(1, 2)),
             ],
-            (3, 1, 2),
+            (1, 1, 3),
         ),
-        (&[(1, None, 2, 8, Read(1, 9, 1))], (4, 1, 9)),
-        (&[(1, None, 2, 8, Read(1, 1, 1))], (4, 1, 1)),
-        // a put that began after the read had ended
+        // one write at two versions
+        (&[PUT, (2, b'a', Get, 3, 9, Read(2, 1, 1))], (2, 1, 2)),
         (
-            &[(1, None, 2, 8, Read(2, 2, 2)), (2, Some(2), 9, 0, Open)],
-            (4, 1, 2),
+            &[
+                (1, b'a', Delete, 2, 14, Placed(1)),
+                (2, b'a', Get, 3, 9, Gone(2, 1)),
+            ],
+            (2, 1, 2),
         ),
-        (&[PUT, (2, None, 15, 21, Read(1, 1, 3))], (5, 2, 1)),
+        (
+            &[
+                (1, b'a', Delete, 2, 0, Open),
+                (2, b'a', Get, 3, 20, Gone(1, 1)),
+                (3, b'a', Get, 4, 19, Gone(2, 1)),
+            ],
+            (2, 2, 3),
+        ),
     ];
     for (briefs, told) in cases {
         assert_eq!(rt; judged(rt.alloc(), briefs)?, told);
@@ -138,31 +202,205 @@ fn histories_that_break_one_rule(rt: HostRuntime) -> Result<(), Fail> {
 }
 
 #[test]
-fn the_first_rule_and_the_first_calls_are_told(rt: HostRuntime) -> Result<(), Fail> {
-    let cases: [(&[Brief], (u8, u32, u32)); 3] = [
-        // the lower rule, though others are broken by earlier calls
+fn histories_that_break_the_order(rt: HostRuntime) -> Result<(), Fail> {
+    let cases: [(&[Brief], Judged); 7] = [
+        (&[PUT, (2, b'a', Get, 15, 21, Absent)], (3, 1, 2)),
+        // a read of what a delete took away
+        (
+            &[PUT, DELETE, (3, b'a', Get, 28, 34, Read(1, 1, 1))],
+            (3, 2, 3),
+        ),
         (
             &[
-                (1, None, 2, 40, Read(3, 9, 9)),
-                (2, Some(2), 3, 15, Placed(2)),
-                (3, Some(3), 4, 16, Placed(2)),
+                (1, b'a', Delete, 2, 14, Placed(1)),
+                (2, b'a', Get, 15, 19, Absent),
             ],
-            (1, 2, 3),
+            (3, 1, 2),
         ),
-        // the first call, then the first one with it
+        // a write below one that had ended
         (
-            &[PUT, (2, None, 15, 19, Absent), (3, None, 20, 24, Absent)],
+            &[
+                (1, b'a', Put(1), 2, 14, Placed(2)),
+                (2, b'a', Delete, 15, 27, Placed(1)),
+            ],
+            (3, 1, 2),
+        ),
+        // a write at what was read before it began
+        (
+            &[
+                (1, b'a', Get, 2, 6, Absent),
+                (2, b'a', Put(2), 7, 19, Placed(0)),
+            ],
             (3, 1, 2),
         ),
         (
             &[
-                (1, None, 2, 6, Absent),
-                (2, Some(2), 7, 19, Placed(1)),
-                (3, None, 20, 26, Read(1, 2, 2)),
-                (4, None, 27, 31, Absent),
-                (5, None, 32, 36, Absent),
+                (1, b'a', Get, 2, 6, Absent),
+                (2, b'a', Delete, 7, 19, Placed(0)),
+            ],
+            (3, 1, 2),
+        ),
+        (
+            &[
+                (1, b'a', Get, 2, 8, Gone(1, 2)),
+                (2, b'a', Delete, 9, 20, Placed(1)),
+            ],
+            (3, 1, 2),
+        ),
+    ];
+    for (briefs, told) in cases {
+        assert_eq!(rt; judged(rt.alloc(), briefs)?, told);
+    }
+    Ok(())
+}
+
+#[test]
+fn histories_that_break_the_sources_or_the_values(rt: HostRuntime) -> Result<(), Fail> {
+    let cases: [(&[Brief], Judged); 11] = [
+        // no such call, the read itself, a call of another object
+        (&[(1, b'a', Get, 2, 8, Read(1, 9, 1))], (4, 1, 9)),
+        (&[(1, b'a', Get, 2, 8, Gone(1, 9))], (4, 1, 9)),
+        (&[(1, b'a', Get, 2, 8, Read(1, 1, 1))], (4, 1, 1)),
+        (&[PUT, (2, b'b', Get, 15, 21, Read(1, 1, 1))], (4, 2, 1)),
+        // bytes of a delete, and a put by which the object is gone
+        (
+            &[PUT, DELETE, (3, b'a', Get, 28, 34, Read(2, 2, 1))],
+            (4, 3, 2),
+        ),
+        (&[PUT, (2, b'a', Get, 15, 21, Gone(1, 1))], (4, 2, 1)),
+        // a write that began after the read had ended
+        (
+            &[
+                (1, b'a', Get, 2, 8, Read(2, 2, 2)),
+                (2, b'a', Put(2), 9, 0, Open),
+            ],
+            (4, 1, 2),
+        ),
+        (
+            &[
+                (1, b'a', Get, 2, 8, Gone(2, 2)),
+                (2, b'a', Delete, 9, 0, Open),
+            ],
+            (4, 1, 2),
+        ),
+        // a write that took no effect
+        (
+            &[
+                (1, b'a', Put(1), 2, 8, NoQuorum),
+                (2, b'a', Get, 9, 15, Read(1, 1, 1)),
+            ],
+            (4, 2, 1),
+        ),
+        (
+            &[
+                (1, b'a', Delete, 2, 8, Contended),
+                (2, b'a', Get, 9, 15, Gone(1, 1)),
+            ],
+            (4, 2, 1),
+        ),
+        (&[PUT, (2, b'a', Get, 15, 21, Read(1, 1, 3))], (5, 2, 1)),
+    ];
+    for (briefs, told) in cases {
+        assert_eq!(rt; judged(rt.alloc(), briefs)?, told);
+    }
+    Ok(())
+}
+
+#[test]
+fn the_first_rule_is_told(rt: HostRuntime) -> Result<(), Fail> {
+    let cases: [(&[Brief], Judged); 4] = [
+        // agreement, though an earlier call has a write at two versions
+        (
+            &[
+                (1, b'a', Put(1), 2, 40, Placed(1)),
+                (2, b'a', Get, 3, 39, Read(2, 1, 1)),
+                (3, b'a', Put(3), 4, 38, Placed(3)),
+                (4, b'a', Delete, 5, 37, Placed(3)),
+            ],
+            (1, 3, 4),
+        ),
+        // effect at most once, though earlier calls break the order
+        (
+            &[
+                PUT,
+                (2, b'a', Get, 15, 19, Absent),
+                (3, b'a', Delete, 20, 40, Placed(2)),
+                (4, b'a', Get, 21, 39, Gone(3, 3)),
+            ],
+            (2, 3, 4),
+        ),
+        // the order, though an earlier call reads from nowhere
+        (
+            &[
+                (1, b'a', Get, 2, 6, Gone(1, 9)),
+                (2, b'a', Delete, 7, 19, Placed(2)),
+                (3, b'a', Get, 20, 24, Absent),
+            ],
+            (3, 1, 3),
+        ),
+        // the sources, though an earlier call returns other bytes
+        (
+            &[
+                PUT,
+                (2, b'a', Get, 15, 21, Read(1, 1, 3)),
+                (3, b'a', Get, 22, 28, Gone(2, 9)),
+            ],
+            (4, 3, 9),
+        ),
+    ];
+    for (briefs, told) in cases {
+        assert_eq!(rt; judged(rt.alloc(), briefs)?, told);
+    }
+    Ok(())
+}
+
+#[test]
+fn the_first_calls_are_told(rt: HostRuntime) -> Result<(), Fail> {
+    let cases: [(&[Brief], Judged); 5] = [
+        // the first call, then the first one with it
+        (
+            &[
+                PUT,
+                (2, b'a', Get, 15, 19, Absent),
+                (3, b'a', Get, 20, 24, Absent),
+            ],
+            (3, 1, 2),
+        ),
+        (
+            &[
+                (1, b'a', Get, 2, 6, Absent),
+                (2, b'a', Delete, 7, 19, Placed(1)),
+                (3, b'a', Get, 20, 26, Gone(1, 2)),
+                (4, b'a', Get, 27, 31, Absent),
+                (5, b'a', Get, 32, 36, Absent),
             ],
             (3, 2, 4),
+        ),
+        (
+            &[
+                PUT,
+                (2, b'a', Put(2), 3, 15, Placed(2)),
+                (3, b'a', Put(3), 4, 16, Placed(2)),
+                (4, b'a', Delete, 5, 17, Placed(1)),
+            ],
+            (1, 1, 4),
+        ),
+        // the first read
+        (
+            &[
+                PUT,
+                (2, b'a', Get, 15, 21, Gone(1, 1)),
+                (3, b'a', Get, 22, 28, Read(2, 9, 1)),
+            ],
+            (4, 2, 1),
+        ),
+        (
+            &[
+                PUT,
+                (2, b'a', Get, 15, 21, Read(1, 1, 3)),
+                (3, b'a', Get, 22, 28, Read(1, 1, 4)),
+            ],
+            (5, 2, 1),
         ),
     ];
     for (briefs, told) in cases {

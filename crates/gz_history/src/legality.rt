@@ -1,9 +1,9 @@
 //! Whether a history is legal, and where it first isn't.
 ghost use Rattle.std.specs.Prelude.{◌≡◌, ◌<◌, true, false, IfOk, IfErr, MatchOption, length, Contains};
 ghost use Rattle.gz_history.specs.declared.record.CallRec.{CallRec as CallOf};
-ghost use Rattle.gz_history.specs.Answers.{shows, names, read_from, bytes_written, IsWrite, MayTakeEffect};
+ghost use Rattle.gz_history.specs.Answers.{shows, names, read_from, bytes_written, IsWrite, IsPut, IsDelete, Writes, MayTakeEffect};
 ghost use Rattle.gz_history.specs.Legal.{IsLegal, Agree, TakeEffectOnce, KeepOrder, IsBefore, IsBeforeEnd, IsSource, ReadsAWrite, ReturnWritten};
-ghost use Rattle.gz_history.specs.Broken.{IsHistory, Precedes, EndsLater, AllPrecede, IsFirstBroken, relation_of, clause_of, NameOnePut, ShowOneVersion, OfOneObject, Broke, KeptWith, KeptBefore, BreaksWith, BreaksFirst, IsMissing, HaveSources, LacksSource, ReturnedUpTo, ReturnedBefore, ReturnsOther, ReturnsOtherFirst};
+ghost use Rattle.gz_history.specs.Broken.{IsHistory, Precedes, EndsLater, AllPrecede, IsFirstBroken, relation_of, clause_of, NameOneWrite, ShowOneVersion, OfOneObject, Broke, KeptWith, KeptBefore, BreaksWith, BreaksFirst, IsMissing, HaveSources, LacksSource, ReturnedUpTo, ReturnedBefore, ReturnsOther, ReturnsOtherFirst};
 
 use crate::record::CallRec;
 use gz_core::{Answer, Call, Items, PutName, Version};
@@ -150,21 +150,21 @@ fn each_later(rule: Rule, calls: &[CallRec], i: usize) -> Result<(), Broken>
     Ok(())
 }
 
-/// Whether two calls whose answers name one version name one put.
+/// Whether two calls whose answers name one version name one write.
 fn agree(a: &CallRec, b: &CallRec) -> bool
     ensures kept { result ≡ true → Agree a.now b.now }
     ensures broken { result ≡ false → Agree a.now b.now → ⊥ }
 {
     match (shown(a), shown(b)) {
-        (Some(v), Some(w)) => v != w || name_one_put(a, b),
+        (Some(v), Some(w)) => v != w || name_one_write(a, b),
         _ => true,
     }
 }
 
-/// Whether two calls that name puts name the same one.
-fn name_one_put(a: &CallRec, b: &CallRec) -> bool
-    ensures kept { result ≡ true → NameOnePut a.now b.now }
-    ensures broken { result ≡ false → NameOnePut a.now b.now → ⊥ }
+/// Whether two calls that name writes name the same one.
+fn name_one_write(a: &CallRec, b: &CallRec) -> bool
+    ensures kept { result ≡ true → NameOneWrite a.now b.now }
+    ensures broken { result ≡ false → NameOneWrite a.now b.now → ⊥ }
 {
     match (named(a), named(b)) {
         (Some(x), Some(y)) => x == y,
@@ -172,7 +172,7 @@ fn name_one_put(a: &CallRec, b: &CallRec) -> bool
     }
 }
 
-/// Whether two calls whose answers name one put name one version.
+/// Whether two calls whose answers name one write name one version.
 fn take_effect_once(a: &CallRec, b: &CallRec) -> bool
     ensures kept { result ≡ true → TakeEffectOnce a.now b.now }
     ensures broken { result ≡ false → TakeEffectOnce a.now b.now → ⊥ }
@@ -205,13 +205,14 @@ fn keep_order(a: &CallRec, b: &CallRec) -> bool
     }
 }
 
-/// The put that the call's answer names.
+/// The write that the call's answer names.
 fn named(a: &CallRec) -> Option<PutName>
     ensures { result ≡ names a.now.name a.now.answer }
 {
     match &a.answer {
         Some(Answer::Ok { .. }) => Some(a.name),
         Some(Answer::Bytes { name, .. }) => Some(*name),
+        Some(Answer::Gone { name, .. }) => Some(*name),
         _ => None,
     }
 }
@@ -223,6 +224,7 @@ fn shown(a: &CallRec) -> Option<Version>
     match &a.answer {
         Some(Answer::Ok { version }) => Some(*version),
         Some(Answer::Bytes { version, .. }) => Some(*version),
+        Some(Answer::Gone { version, .. }) => Some(*version),
         Some(Answer::Absent) => Some(Version::none()),
         _ => None,
     }
@@ -244,7 +246,7 @@ fn is_write(call: &Call) -> bool
     ensures no { result ≡ false → IsWrite call.now → ⊥ }
 {
     match call {
-        Call::Put { .. } => true,
+        Call::Put { .. } | Call::Delete { .. } => true,
         Call::Get { .. } => false,
     }
 }
@@ -266,7 +268,7 @@ fn each_source(calls: &[CallRec]) -> Result<(), Broken>
     Ok(())
 }
 
-/// The put that a read names, if it is not in the history where it could be read from.
+/// The write that a read names, if it is not in the history where it could be read from.
 fn missing_source(calls: &[CallRec], a: &CallRec) -> Option<PutName>
     ensures { MatchOption result (ReadsAWrite calls.now a.now) (λ x. IsMissing calls.now a.now x) }
 {
@@ -278,17 +280,18 @@ fn missing_source(calls: &[CallRec], a: &CallRec) -> Option<PutName>
     }
 }
 
-/// The put that a read names.
+/// The write that a read names.
 fn read(a: &CallRec) -> Option<PutName>
     ensures { result ≡ read_from a.now.answer }
 {
     match &a.answer {
         Some(Answer::Bytes { name, .. }) => Some(*name),
+        Some(Answer::Gone { name, .. }) => Some(*name),
         _ => None,
     }
 }
 
-/// Whether the put that a read names is in the history, where it could be read from.
+/// Whether the write that a read names is in the history, where it could be read from.
 fn has_source(calls: &[CallRec], a: &CallRec, x: PutName) -> bool
     ensures yes { result ≡ true → (b : CallOf) × (Contains calls.now b × IsSource a.now x b) }
     ensures no { result ≡ false → (b : CallOf) → Contains calls.now b → IsSource a.now x b → ⊥ }
@@ -301,16 +304,48 @@ fn has_source(calls: &[CallRec], a: &CallRec, x: PutName) -> bool
     false
 }
 
-/// Whether this is the put that a read names, where it could be read from.
+/// Whether this is the write that a read names, where it could be read from.
 fn is_source(a: &CallRec, x: PutName, b: &CallRec) -> bool
     ensures yes { result ≡ true → IsSource a.now x b.now }
     ensures no { result ≡ false → IsSource a.now x b.now → ⊥ }
 {
     b.name == x
         && b.call.key() == a.call.key()
-        && is_write(&b.call)
+        && is_of_kind(&a.answer, &b.call)
         && is_before_end(b.begin, a.end)
         && may_take_effect(&b.answer)
+}
+
+/// Whether the call writes what the answer reads: a put bytes, a delete the tombstone by which an object is gone.
+fn is_of_kind(answer: &Option<Answer>, call: &Call) -> bool
+    ensures yes { result ≡ true → Writes answer.now call.now }
+    ensures no { result ≡ false → Writes answer.now call.now → ⊥ }
+{
+    match answer {
+        Some(Answer::Bytes { .. }) => is_put(call),
+        Some(Answer::Gone { .. }) => is_delete(call),
+        _ => false,
+    }
+}
+
+fn is_put(call: &Call) -> bool
+    ensures yes { result ≡ true → IsPut call.now }
+    ensures no { result ≡ false → IsPut call.now → ⊥ }
+{
+    match call {
+        Call::Put { .. } => true,
+        Call::Delete { .. } | Call::Get { .. } => false,
+    }
+}
+
+fn is_delete(call: &Call) -> bool
+    ensures yes { result ≡ true → IsDelete call.now }
+    ensures no { result ≡ false → IsDelete call.now → ⊥ }
+{
+    match call {
+        Call::Delete { .. } => true,
+        Call::Put { .. } | Call::Get { .. } => false,
+    }
 }
 
 /// Tries whether each read returns the bytes of the put that it names.
@@ -370,7 +405,7 @@ fn writes(call: &Call, bytes: &Items<u8>) -> bool
 {
     match call {
         Call::Put { bytes: written, .. } => written == bytes,
-        Call::Get { .. } => false,
+        Call::Delete { .. } | Call::Get { .. } => false,
     }
 }
 

@@ -1,6 +1,6 @@
 //! The text of a log.
 ghost use Rattle.std.specs.Prelude.{◌≡◌, ◌++◌, IfOk, codes, decimal};
-ghost use Rattle.gz_history.specs.Log.{name_text, asked_text, found_text, kind_text, argument_text, tick_text, phase_text, unsure_text, answer_text, line_text, end_text, log_of};
+ghost use Rattle.gz_history.specs.Log.{name_text, asked_text, found_text, gone_text, kind_text, argument_text, tick_text, phase_text, unsure_text, answer_text, line_text, end_text, log_of};
 
 use crate::record::CallRec;
 use crate::text::Text;
@@ -88,6 +88,7 @@ fn kind(call: &Call) -> &'static [u8]
 {
     match call {
         Call::Put { .. } => b"put",
+        Call::Delete { .. } => b"delete",
         Call::Get { .. } => b"get",
     }
 }
@@ -98,7 +99,7 @@ fn argument(alloc: Global, call: &Call) -> Result<Text, AllocError>
     let mut text = Text::new(alloc);
     match call {
         Call::Put { bytes, .. } => text.bytes(alloc, bytes.as_slice())?,
-        Call::Get { .. } => text.put(b"-")?,
+        Call::Delete { .. } | Call::Get { .. } => text.put(b"-")?,
     }
     Ok(text)
 }
@@ -127,11 +128,11 @@ fn answer(alloc: Global, answer: &Option<Answer>) -> Result<Text, AllocError>
                 bytes,
             },
         ) => found(alloc, version.number(), *name, bytes.as_slice()),
+        Some(Answer::Gone { version, name }) => gone(alloc, version.number(), *name),
         Some(Answer::Absent) => word(alloc, b"absent"),
         Some(Answer::NoQuorum { phase, heard }) => in_phase(alloc, b"noquorum ", *phase, *heard),
         Some(Answer::Contended { met }) => counted(alloc, b"contended ", *met as u64),
         Some(Answer::Unsure { why }) => unsure(alloc, *why),
-        Some(Answer::Unsettled { version }) => counted(alloc, b"unsettled ", version.number()),
     }
 }
 
@@ -161,6 +162,16 @@ fn found(alloc: Global, version: u64, name: PutName, bytes: &[u8]) -> Result<Tex
     text.put(name.as_slice())?;
     text.put(b" ")?;
     text.bytes(alloc, bytes)?;
+    Ok(text)
+}
+
+fn gone(alloc: Global, version: u64, name: PutName) -> Result<Text, AllocError>
+    ensures { IfOk result (λ text. text ≡ gone_text version name) }
+{
+    let name = named(alloc, name)?;
+    let mut text = counted(alloc, b"gone ", version)?;
+    text.put(b" ")?;
+    text.put(name.as_slice())?;
     Ok(text)
 }
 

@@ -62,6 +62,24 @@ fn the_log_of_a_put_and_a_get(rt: HostRuntime) -> Result<(), Fail> {
 }
 
 #[test]
+fn the_log_of_a_delete(rt: HostRuntime) -> Result<(), Fail> {
+    let alloc = rt.alloc();
+    let delete = CallRec {
+        name: FIRST,
+        call: Call::Delete { key: key(alloc)? },
+        begin: 2,
+        end: Some(14),
+        answer: Some(Answer::Ok {
+            version: Version(1),
+        }),
+    };
+    let log = log_text(alloc, &[delete], 14, 0)?;
+    let text = b"1.1 delete a - 2 14 ok 1\nend 1 14 0\n";
+    assert_eq!(rt; log.as_slice(), text.as_slice());
+    Ok(())
+}
+
+#[test]
 fn the_log_of_each_other_answer(rt: HostRuntime) -> Result<(), Fail> {
     let alloc = rt.alloc();
     let version = Version(1);
@@ -107,9 +125,12 @@ fn the_log_of_each_other_answer(rt: HostRuntime) -> Result<(), Fail> {
         ),
         (
             None,
-            Some(18),
-            Some(Answer::Unsettled { version }),
-            b"1.1 get a - 2 18 unsettled 1\nend 1 6 3\n",
+            Some(8),
+            Some(Answer::Gone {
+                version,
+                name: SECOND,
+            }),
+            b"1.1 get a - 2 8 gone 1 1.2\nend 1 6 3\n",
         ),
         (
             Some(&[1]),

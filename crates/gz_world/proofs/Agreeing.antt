@@ -8,10 +8,12 @@ use Rattle.gz_core.specs.Calls.{key_of, own_value}
 use Rattle.gz_core.specs.Rows.{RowAt}
 use Rattle.gz_core.specs.Slots.{Act, act_of}
 use Rattle.gz_core.specs.declared.calls.Answer.{Answer}
-use Rattle.gz_core.specs.declared.calls.Answer.TheVariants.{Ok, Bytes, Absent, NoQuorum, Contended, Unsure, Unsettled}
+use Rattle.gz_core.specs.declared.calls.Answer.TheVariants.{Ok, Bytes, Gone, Absent, NoQuorum, Contended, Unsure}
 use Rattle.gz_core.specs.declared.calls.Call.{Call}
-use Rattle.gz_core.specs.declared.calls.Call.TheVariants.{Put, Get}
+use Rattle.gz_core.specs.declared.calls.Call.TheVariants.{Put, Delete, Get}
 use Rattle.gz_core.specs.declared.configuration.Config.{Config}
+use Rattle.gz_core.specs.declared.values.Value.{Value}
+use Rattle.gz_core.specs.declared.values.Value.TheVariants.{Tomb, Put as PutOf}
 use Rattle.gz_core.specs.declared.requests.RowStep.{RowStep}
 use Rattle.gz_core.specs.declared.requests.RowStep.TheVariants.{FastVote, Promise, ClassicVote, Decide, Trim}
 use Rattle.gz_core.specs.declared.requests.Op.{Op}
@@ -19,7 +21,7 @@ use Rattle.gz_core.specs.declared.requests.Op.TheVariants.{ReadRow, WriteRow}
 use Rattle.gz_pick.specs.Looks.{row_top}
 use Rattle.gz_round.specs.History.{Moment, Sent, Handed, GaveUp, Rested, GaveIn, Caller, Tale}
 use Rattle.gz_round.specs.Sites.{SiteNow, site_now}
-use Rattle.gz_round.specs.Causes.{is_blank}
+use Rattle.gz_round.specs.Causes.{is_blank, IsLearnt}
 use Rattle.gz_round.specs.Shown.{heard_at, IsShown as IsShownTo}
 use Rattle.gz_round.specs.Sending.{AreAllowed, MayAsk, MayMake}
 use Rattle.gz_client.specs.Tales.{IsAnswered, AreTold}
@@ -112,17 +114,26 @@ blank_low r h = zero_low (row_top r) (r.floor == 0) h
     ] refl h
 
 -- a call that reads is no write
-no_write : (name : Name) (call : Call) → own_value name call ≡ None → IsWrite call → ⊥
+pub no_write : (name : Name) (call : Call) → own_value name call ≡ None → IsWrite call → ⊥
 no_write name (Put key bytes) e h = cc
+no_write name (Delete key) e h = cc
 no_write name (Get key) e h = h
 
 stands_shows : (call : Call) (answer : Option Answer) → stands call answer ≡ shows answer
 stands_shows (Put key bytes) answer = refl
+stands_shows (Delete key) answer = refl
 stands_shows (Get key) answer = refl
 
 -- the place of a call's answer in the order, after what had been shown when it began
 abbrev IsPlacedAbove : Call → ℕ → ℕ → Type 0
 IsPlacedAbove call v w = (v ≤ w) × (IsWrite call → v < w)
+
+-- what a call learnt is at the version that it shows, or above
+learnt_above : (c : Config) (t : Tale) (early late : List Deed) (v w u : ℕ) (x : Value) → HasQuorums c → AreDeeds c unused (late ++ early) → MomentsStand (after_deeds unused (late ++ early)) t.moments → ((e : Seen) → IsIn e (heard_of t.moments) → IsIn e (late_rows unused late early))
+    → IsShownAt c early v → IsLearnt c t.caller t.moments u x → u ≡ w → IsPlacedAbove t.caller.call v w
+learnt_above c t early late v w u x q are stands heard shown learnt at =
+    let fresh = current_heard c (after_deeds unused (late ++ early)) t.moments w (λ r. nat_le (row_top r) w) stands (λ r k. le_means (row_top r) w k) (subst (λ k. c.qc ≤ heard_at c (λ r. nat_le (row_top r) k) t.moments) at learnt.current) in
+    (read_above c early late v w q are shown (current_more c (heard_of t.moments) (late_rows unused late early) w heard fresh), λ k. absurd (no_write t.caller.name t.caller.call learnt.reads k))
 
 answer_above : (c : Config) (t : Tale) (early late : List Deed) (v w : ℕ) (answer : Option Answer) → HasQuorums c → AreDeeds c unused (late ++ early) → ((q : Write) → IsIn q (sent_after unused early) → q.call ≡ t.caller.name → ⊥) → AreCurrentDeeds c unused t.caller.name late early
     → MomentsStand (after_deeds unused (late ++ early)) t.moments → ((e : Seen) → IsIn e (heard_of t.moments) → IsIn e (late_rows unused late early)) → ((x : Name) → IsShown c (seen_after unused (late ++ early)) w x → 1 ≤ w)
@@ -132,10 +143,8 @@ answer_above c t early late v w (Some (Ok u)) q are unsent current stands heard 
     let now = tale_shown c (late ++ early) t.moments w t.caller.name stands (subst (λ k. IsShownTo c t.moments k t.caller.name) (same_version u w e) h.1.2) in
     let above = own_above c t.caller.name early late v w q are unsent current (positive t.caller.name now) shown now in
     (omega (arith, above), λ _. above)
-answer_above c t early late v w (Some (Bytes u y bytes)) q are unsent current stands heard positive shown h e =
-    let at = same_version u w e in
-    let fresh = current_heard c (after_deeds unused (late ++ early)) t.moments w (λ r. nat_le (row_top r) w) stands (λ r k. le_means (row_top r) w k) (subst (λ k. c.qc ≤ heard_at c (λ r. nat_le (row_top r) k) t.moments) at h.1.current) in
-    (read_above c early late v w q are shown (current_more c (heard_of t.moments) (late_rows unused late early) w heard fresh), λ k. absurd (no_write t.caller.name t.caller.call h.1.reads k))
+answer_above c t early late v w (Some (Bytes u y bytes)) q are unsent current stands heard positive shown h e = learnt_above c t early late v w u (PutOf (record { name = y; bytes = bytes })) q are stands heard shown h.1 (same_version u w e)
+answer_above c t early late v w (Some (Gone u y)) q are unsent current stands heard positive shown h e = learnt_above c t early late v w u (Tomb y) q are stands heard shown h.1 (same_version u w e)
 answer_above c t early late v w (Some Absent) q are unsent current stands heard positive shown h e =
     let at = same_version 0 w e in
     let fresh = current_heard c (after_deeds unused (late ++ early)) t.moments 0 is_blank stands blank_low h.1.1 in
@@ -144,7 +153,6 @@ answer_above c t early late v w (Some Absent) q are unsent current stands heard 
 answer_above c t early late v w (Some (NoQuorum phase n)) q are unsent current stands heard positive shown h e = cc
 answer_above c t early late v w (Some (Contended met)) q are unsent current stands heard positive shown h e = cc
 answer_above c t early late v w (Some (Unsure why)) q are unsent current stands heard positive shown h e = cc
-answer_above c t early late v w (Some (Unsettled version)) q are unsent current stands heard positive shown h e = cc
 
 -- a call that began after another one had ended stands above it
 pub keeps_order : (key : List ℕ) (s : State) (ds : List Deed) (i j : ℕ) (a b : CallRec) → IsRun key s ds → AreListed s → AreCarried s → ArePlaced s → slice_get s.calls i ≡ Some a → slice_get s.calls j ≡ Some b → key_of a.call ≡ key → key_of b.call ≡ key

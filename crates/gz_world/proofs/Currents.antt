@@ -14,7 +14,7 @@ use Rattle.gz_core.specs.declared.rows.Column.{Column}
 use Rattle.gz_core.specs.declared.rows.Column.TheVariants.{Open, Decided}
 use Rattle.gz_core.specs.declared.configuration.Config.{Config}
 use Rattle.gz_core.specs.declared.calls.Call.{Call}
-use Rattle.gz_core.specs.declared.calls.Call.TheVariants.{Put as PutCall, Get as GetCall}
+use Rattle.gz_core.specs.declared.calls.Call.TheVariants.{Put as PutCall, Delete as DeleteCall, Get as GetCall}
 use Rattle.gz_core.specs.declared.values.Value.{Value}
 use Rattle.gz_core.specs.declared.requests.RowStep.{RowStep}
 use Rattle.gz_core.specs.declared.requests.RowStep.TheVariants.{FastVote, Promise, ClassicVote, Decide, Trim}
@@ -24,7 +24,7 @@ use Rattle.gz_round.specs.History.{Moment, Caller, Tale}
 use Rattle.gz_round.specs.Sites.{some_heard}
 use Rattle.gz_round.specs.Shown.{heard_at}
 use Rattle.gz_round.specs.Sending.{MayMake}
-use Rattle.gz_history.specs.Answers.{IsPut}
+use Rattle.gz_history.specs.Answers.{IsWrite}
 use Rattle.gz_ledger.specs.Acceptors.{Acceptor, HasValue, IsQuiet}
 use Rattle.gz_ledger.specs.Histories.{Seen, IsIn, IsVotedAt, IsCurrent, IsProposed, VotesFor, sites_of}
 use Rattle.gz_ledger.specs.Agreements.{HasQuorums}
@@ -128,10 +128,11 @@ pub voted_sent : (c : Config) (ds : List Deed) (v : ℕ) (x : Name) → HasQuoru
 voted_sent c ds v x q are h =
     (store_agreed c unused ds q are).proposed v h.ballot x h.entry.site (or_right _ _ (cast_from (seen_after unused ds) v h.ballot x h.entry h.found (h.promise, h.votes)))
 
--- a call that writes a value of its own is a put
-pub put_of : (name : Name) (call : Call) (x : Value) → own_value name call ≡ Some x → IsPut call
-put_of name (PutCall key bytes) x e = tt
-put_of name (GetCall key) x e = cc
+-- a call that has a value of its own is a write
+pub write_of : (name : Name) (call : Call) (x : Value) → own_value name call ≡ Some x → IsWrite call
+write_of name (PutCall key bytes) x e = tt
+write_of name (DeleteCall key) x e = tt
+write_of name (GetCall key) x e = cc
 
 -- a vote that was heard is of a call that sent it
 heard_sent : (c : Config) (ms : List Moment) (ds : List Deed) (u v : ℕ) (x y : Name) → HasQuorums c → AreDeeds c unused ds → MomentsStand (after_deeds unused ds) ms → u ≡ v → x ≡ y → IsVotedAt (heard_of ms) u x → IsProposed (sent_after unused ds) v y
@@ -142,10 +143,10 @@ heard_sent c ms ds u v x y q are stands at named h =
 own_heard : (c : Config) (st : Store) (ms : List Moment) (u v : ℕ) → MomentsStand st ms → u ≡ v → c.qc ≤ heard_at c (λ r. nat_le (row_top r) u) ms → IsCurrent c (heard_of ms) v
 own_heard c st ms u v stands at h = subst (λ k. IsCurrent c (heard_of ms) k) at (current_heard c st ms u (λ r. nat_le (row_top r) u) stands (λ r e. le_means (row_top r) u e) h)
 
--- of a vote for its own value that a call may send: it sent one before at the version, or it is a put whose heard rows are current there
+-- of a vote for its own value that a call may send: it sent one before at the version, or it is a write whose heard rows are current there
 pub own_current : (c : Config) (w : Caller) (past : List Tale) (ms : List Moment) (ds : List Deed) (step : RowStep) (v : ℕ) → HasQuorums c → AreDeeds c unused ds → MomentsStand (after_deeds unused ds) ms → MayMake c w past ms step → VotesFor (act_of step) v w.name
-    → IsProposed (sent_after unused ds) v w.name ⊎ (IsPut w.call × IsCurrent c (heard_of ms) v)
-own_current c w past ms ds (FastVote u x) v q are stands may votes = inr (put_of w.name w.call x may.0, own_heard c (after_deeds unused ds) ms u v stands votes.0 may.1.current)
+    → IsProposed (sent_after unused ds) v w.name ⊎ (IsWrite w.call × IsCurrent c (heard_of ms) v)
+own_current c w past ms ds (FastVote u x) v q are stands may votes = inr (write_of w.name w.call x may.0, own_heard c (after_deeds unused ds) ms u v stands votes.0 may.1.current)
 own_current c w past ms ds (Promise u b) v q are stands may votes = absurd votes
 own_current c w past ms ds (ClassicVote u b x) v q are stands may votes = elim may.choice [
   | inl k ↦ (let n = k.2 in
@@ -153,7 +154,7 @@ own_current c w past ms ds (ClassicVote u b x) v q are stands may votes = elim m
       inl (heard_sent c ms ds u v (name_of x) w.name q are stands votes.0 votes.1
       (record { entry = p.entry; found = p.found; promise = b; ballot = n.1.0; votes = p.row ∙ ap (OpenAt b) (n.3 ∙ ap (λ y. Some (n.1.0, y)) n.4) })))
   | inr k ↦ elim k.1 [
-    | inl o ↦ inr (put_of w.name w.call x o.0, own_heard c (after_deeds unused ds) ms u v stands votes.0 o.1)
+    | inl o ↦ inr (write_of w.name w.call x o.0, own_heard c (after_deeds unused ds) ms u v stands votes.0 o.1)
     | inr h ↦ inl (heard_sent c ms ds u v (name_of x) w.name q are stands votes.0 votes.1 (vote_heard (after_deeds unused ds) ms u h.0 h.1 h.2 (name_of x) stands h.4 h.5))
   ]
 ]

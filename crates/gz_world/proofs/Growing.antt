@@ -16,7 +16,7 @@ use Rattle.gz_accept.proofs.Rising.{rises_with}
 use Rattle.gz_round.specs.History.{Moment, Sent, Caller, Tale, asked_of, sent_from}
 use Rattle.gz_round.specs.Sites.{SiteNow, site_now}
 use Rattle.gz_round.specs.Sending.{AreAllowed, MayAsk, MayMake, IsMade}
-use Rattle.gz_history.specs.Answers.{IsPut}
+use Rattle.gz_history.specs.Answers.{IsWrite}
 use Rattle.gz_ledger.specs.Histories.{Seen, Write, IsIn, IsProposed, VotesFor}
 use Rattle.gz_ledger.specs.Agreements.{HasQuorums}
 use Rattle.gz_ledger.specs.Deeds.{Store, Deed, Begins, Asked as AskedOf, AreDeeds, after_deeds, writes_of, late_rows, sent_after, AreCurrentDeeds}
@@ -86,9 +86,9 @@ ask_on c w past ms ds step qa q are stands may own is = λ call early late split
   rows = λ e h. h;
 }
 
--- a vote for the call's own value follows one that it sent before, or the call is a put
+-- a vote for the call's own value follows one that it sent before, or the call is a write
 abbrev pub IsOwnVote : Caller → List Deed → Act → Type 0
-IsOwnVote w ds act = (v : ℕ) → VotesFor act v w.name → IsProposed (sent_after unused ds) v w.name ⊎ IsPut w.call
+IsOwnVote w ds act = (v : ℕ) → VotesFor act v w.name → IsProposed (sent_after unused ds) v w.name ⊎ IsWrite w.call
 
 -- a write is the one of a request that the call sends
 abbrev pub IsNewOf : Caller → List Deed → Op → Write → Type 0
@@ -213,16 +213,16 @@ on_then c name ms ds mid more f g = λ call early late split current own.
     let b = g call early a.later a.split a.current (λ same e h. a.rows e (own same e h)) in
     record { later = b.later; split = b.split; current = b.current; rows = λ e h. b.rows e (a.rows e h) }
 
--- a write of the call that voted for its own value before is of a put where that one was
-put_before : (c : Config) (w : Caller) (past : List Tale) (ms : List Moment) (site : ℕ) (op : Op) (ds mid : List Deed) (v : ℕ) (act : Act) → Asks c w past ms ds site op mid → IsProposed (sent_after unused mid) v w.name → IsProposed (sent_after unused ds) v w.name ⊎ IsPut w.call
-put_before c w past ms site op ds mid v act one p = elim (one.from p.write p.found) [
+-- a write of the call that voted for its own value before is of a write where that one was
+write_before : (c : Config) (w : Caller) (past : List Tale) (ms : List Moment) (site : ℕ) (op : Op) (ds mid : List Deed) (v : ℕ) (act : Act) → Asks c w past ms ds site op mid → IsProposed (sent_after unused mid) v w.name → IsProposed (sent_after unused ds) v w.name ⊎ IsWrite w.call
+write_before c w past ms site op ds mid v act one p = elim (one.from p.write p.found) [
   | inl h ↦ inl (record { write = p.write; found = h; own = p.own; votes = p.votes })
   | inr h ↦ h.1.1 v p.votes
 ]
 
 sent_new : (c : Config) (w : Caller) (past : List Tale) (ms : List Moment) (site : ℕ) (op : Op) (ds mid : List Deed) → Asks c w past ms ds site op mid → (q : Write) → IsIn q (writes_of (after_deeds unused mid).asked) ⊎ ((q.call ≡ w.name) × IsOwnVote w mid q.act) → IsIn q (writes_of (after_deeds unused ds).asked) ⊎ ((q.call ≡ w.name) × IsOwnVote w ds q.act)
 sent_new c w past ms site op ds mid one q (inl h) = elim (one.from q h) [ inl e ↦ inl e | inr e ↦ inr (e.0, e.1.1) ]
-sent_new c w past ms site op ds mid one q (inr h) = inr (h.0, λ v votes. elim (h.1 v votes) [ inl p ↦ put_before c w past ms site op ds mid v q.act one p | inr k ↦ inr k ])
+sent_new c w past ms site op ds mid one q (inr h) = inr (h.0, λ v votes. elim (h.1 v votes) [ inl p ↦ write_before c w past ms site op ds mid v q.act one p | inr k ↦ inr k ])
 
 pub sends : (c : Config) (w : Caller) (past : List Tale) (first : ℕ) (outs : List Out) (ms : List Moment) (ds : List Deed) → HasQuorums c → AreDeeds c unused ds → Keeps w.name past ms (after_deeds unused ds) → AreAllowed c w past (sent_from first outs ms) → (more : List Deed) × Sends c w past first outs ms ds more
 sends c w past first [] ms ds quorums are keeps allowed = (ds, record { are = are; only = only_itself (after_deeds unused ds); keeps = keeps; here = λ j o e. cc; from = λ q h. inl h; on = same_on c w.name ms ds })

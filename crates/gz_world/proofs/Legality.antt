@@ -6,18 +6,20 @@ use Rattle.std.specs.Prelude.{Option, Contains, ◌==◌, slice_get}
 use Rattle.gz_core.specs.Names.{Name}
 use Rattle.gz_core.specs.Calls.{key_of, own_value}
 use Rattle.gz_core.specs.Puts.{PutData}
-use Rattle.gz_core.specs.declared.values.Value.TheVariants.{Put as PutOf}
+use Rattle.gz_core.specs.Values.{name_of}
+use Rattle.gz_core.specs.declared.values.Value.{Value}
+use Rattle.gz_core.specs.declared.values.Value.TheVariants.{Tomb, Put as PutOf}
 use Rattle.gz_round.specs.Shown.{IsValueHeard}
 use Rattle.gz_core.specs.Slots.{Act}
 use Rattle.gz_core.specs.declared.calls.Answer.{Answer}
-use Rattle.gz_core.specs.declared.calls.Answer.TheVariants.{Ok, Bytes, Absent, NoQuorum, Contended, Unsure, Unsettled}
+use Rattle.gz_core.specs.declared.calls.Answer.TheVariants.{Ok, Bytes, Gone, Absent, NoQuorum, Contended, Unsure}
 use Rattle.gz_core.specs.declared.calls.Call.{Call}
-use Rattle.gz_core.specs.declared.calls.Call.TheVariants.{Put, Get}
+use Rattle.gz_core.specs.declared.calls.Call.TheVariants.{Put, Delete, Get}
 use Rattle.gz_core.specs.declared.configuration.Config.{Config}
 use Rattle.gz_round.specs.History.{Moment, Caller, Tale}
 use Rattle.gz_round.specs.Sent.{vote_by, of_sent, passes_sent, voted, voted_at}
 use Rattle.gz_client.specs.Tales.{IsAnswered, AreTold}
-use Rattle.gz_history.specs.Answers.{shows, names, read_from, bytes_read, bytes_written, IsPut, MayTakeEffect}
+use Rattle.gz_history.specs.Answers.{shows, names, read_from, bytes_read, bytes_written, IsWrite, IsPut, IsDelete, Writes, MayTakeEffect}
 use Rattle.gz_history.specs.Legal.{IsBefore, IsBeforeEnd, Agree, TakeEffectOnce, ReadsAWrite, ReturnWritten, IsLegal}
 use Rattle.gz_history.specs.declared.record.CallRec.{CallRec}
 use Rattle.gz_ledger.specs.Histories.{Seen, IsIn, IsShown, VotesFor}
@@ -25,7 +27,7 @@ use Rattle.gz_ledger.specs.Deeds.{Deed, Reads, Begins, Written, Failed, Elsewher
 use Rattle.gz_ledger.proofs.Shown.{shown_more}
 use Rattle.gz_ledger.proofs.Stores.{store_agreed, early_deeds}
 use Rattle.gz_world.specs.Heard.{unused}
-use Rattle.gz_world.specs.Carried.{AreCarried}
+use Rattle.gz_world.specs.Carried.{MomentsCarried, AreCarried}
 use Rattle.gz_world.specs.Listed.{IsTaleOf, IsAmong, AreListed}
 use Rattle.gz_world.specs.Placed.{ArePlaced}
 use Rattle.gz_world.specs.Reached.{IsReached, AllTell}
@@ -33,12 +35,12 @@ use Rattle.gz_world.specs.Recorded.{IsNamedIn, TalesRecorded, AreRecorded}
 use Rattle.gz_world.specs.Valued.{IsGiven, AreValued}
 use Rattle.gz_world.specs.Runs.{IsSender, IsSentBy, IsRun}
 use Rattle.gz_world.specs.States.{State}
-use Rattle.gz_world.proofs.Agreeing.{agreed, named_shown, shown_positive, keeps_order}
+use Rattle.gz_world.proofs.Agreeing.{agreed, named_shown, shown_positive, no_write, keeps_order}
 use Rattle.gz_world.proofs.Keeping.{sent_most}
 use Rattle.gz_world.proofs.Listing.{among_name}
 use Rattle.gz_world.proofs.Places.{get_below}
 use Rattle.gz_world.proofs.RunAnswers.{call_tale, call_told}
-use Rattle.gz_world.proofs.Sending.{sent_votes}
+use Rattle.gz_world.proofs.Sending.{sent_votes, own_named}
 use Rattle.gz_world.proofs.Carrying.{carried}
 use Rattle.gz_world.proofs.Listing.{listed}
 use Rattle.gz_world.proofs.Placing.{placed}
@@ -117,11 +119,11 @@ effect_of : (c : Config) (t : Tale) (answer : Option Answer) → IsAnswered c t 
 effect_of c t None h v = tt
 effect_of c t (Some (Ok version)) h v = tt
 effect_of c t (Some (Bytes version name bytes)) h v = tt
+effect_of c t (Some (Gone version name)) h v = tt
 effect_of c t (Some Absent) h v = tt
 effect_of c t (Some (NoQuorum phase heard)) h v = let bad : true ≡ false = sym v ∙ h.0 in cc
 effect_of c t (Some (Contended met)) h v = let bad : true ≡ false = sym v ∙ h.0 in cc
 effect_of c t (Some (Unsure why)) h v = tt
-effect_of c t (Some (Unsettled version)) h v = tt
 
 -- the rows that deeds showed before are among those that they showed later
 early_seen : (late early : List Deed) (e : Seen) → IsIn e (seen_after unused early) → IsIn e (seen_after unused (late ++ early))
@@ -132,31 +134,71 @@ early_seen (Written a t ∷ late) early e h = inr (early_seen late early e h)
 early_seen (Failed a t ∷ late) early e h = early_seen late early e h
 early_seen (Elsewhere s t ∷ late) early e h = early_seen late early e h
 
--- what the answer of a call that reads tells
+-- a call whose own value is a put's writes its bytes, and one whose own value is a tombstone deletes
+own_put : (name : Name) (call : Call) (p : PutData) → own_value name call ≡ Some (PutOf p) → IsPut call × (bytes_written call ≡ Some p.bytes)
+own_put name (Put key bytes) p e =
+    let d : PutData = record { name = name; bytes = bytes } in
+    let same : d ≡ p = cc in
+    (tt, ap (λ (q : PutData). Some q.bytes) same)
+own_put name (Delete key) p e = cc
+own_put name (Get key) p e = cc
+
+own_tomb : (name y : Name) (call : Call) → own_value name call ≡ Some (Tomb y) → IsDelete call
+own_tomb name y (Put key bytes) e = cc
+own_tomb name y (Delete key) e = tt
+own_tomb name y (Get key) e = cc
+
+-- what the answer of a call that reads tells: a value that was heard, and so what a call of that value writes
 pub record IsReading (c : Config) (t : Tale) (answer : Option Answer) (x : Name) : Type 0 where
   pub version : ℕ
+  pub value : Value
   pub shows_it : shows answer ≡ Some version
   pub names_it : (own : Name) → names own answer ≡ Some x
   pub reads : own_value t.caller.name t.caller.call ≡ None
+  pub named : name_of value ≡ x
+  pub heard : IsValueHeard t.moments version value
+  pub writes : (name : Name) (call : Call) → own_value name call ≡ Some value → Writes answer call
+  pub written : (name : Name) (call : Call) (bytes : List ℕ) → own_value name call ≡ Some value → bytes_read answer ≡ Some bytes → bytes_written call ≡ Some bytes
 
 pub reading : (c : Config) (t : Tale) (answer : Option Answer) (x : Name) → IsAnswered c t answer → read_from answer ≡ Some x → IsReading c t answer x
 reading c t None x h e = cc
 reading c t (Some (Ok version)) x h e = cc
-reading c t (Some (Bytes version name bytes)) x h e = record { version = version; shows_it = refl; names_it = λ own. e; reads = h.1.reads }
+reading c t (Some (Bytes version name bytes)) x h e =
+    let p : PutData = record { name = name; bytes = bytes } in
+    let named : name ≡ x = cc in
+    record {
+      version = version;
+      value = PutOf p;
+      shows_it = refl;
+      names_it = λ own. e;
+      reads = h.1.reads;
+      named = named;
+      heard = h.1.heard;
+      writes = λ own call is. (own_put own call p is).0;
+      written = λ own call read is same. (own_put own call p is).1 ∙ same;
+    }
+reading c t (Some (Gone version name)) x h e =
+    let named : name ≡ x = cc in
+    record {
+      version = version;
+      value = Tomb name;
+      shows_it = refl;
+      names_it = λ own. e;
+      reads = h.1.reads;
+      named = named;
+      heard = h.1.heard;
+      writes = λ own call is. own_tomb own name call is;
+      written = λ own call read is same. cc;
+    }
 reading c t (Some Absent) x h e = cc
 reading c t (Some (NoQuorum phase heard)) x h e = cc
 reading c t (Some (Contended met)) x h e = cc
 reading c t (Some (Unsure why)) x h e = cc
-reading c t (Some (Unsettled version)) x h e = cc
-
-no_put : (name : Name) (call : Call) → own_value name call ≡ None → IsPut call → ⊥
-no_put name (Put key bytes) e h = cc
-no_put name (Get key) e h = h
 
 same_call : (xs : List CallRec) (i j : ℕ) (a b : CallRec) → i ≡ j → slice_get xs i ≡ Some a → slice_get xs j ≡ Some b → a ≡ b
 same_call xs i j a b at h k = let both : Some a ≡ Some b = sym h ∙ ap (slice_get xs) at ∙ k in cc
 
--- a put whose value was shown to a call that had ended had begun before that end
+-- a call whose value was shown to one that had ended had begun before that end
 not_after : (key : List ℕ) (s : State) (ds : List Deed) (i j v : ℕ) (a b : CallRec) (x : Name) → IsKnownRun key s ds → slice_get s.calls i ≡ Some a → slice_get s.calls j ≡ Some b → key_of a.call ≡ key → key_of b.call ≡ key
     → shows a.answer ≡ Some v → IsShown s.cfg (seen_after unused ds) v x → b.name ≡ x → IsBefore a.end b.begin → ⊥
 not_after key s ds i j v a b x k ga gb ka kb shows_it shown name before =
@@ -173,13 +215,13 @@ not_after key s ds i j v a b x k ga gb ka kb shows_it shown name before =
     ]
 
 began_before : (key : List ℕ) (s : State) (ds : List Deed) (i j v : ℕ) (a b : CallRec) (x own : Name) (o : Option ℕ) → IsKnownRun key s ds → slice_get s.calls i ≡ Some a → slice_get s.calls j ≡ Some b → key_of a.call ≡ key → key_of b.call ≡ key
-    → shows a.answer ≡ Some v → IsShown s.cfg (seen_after unused ds) v x → b.name ≡ x → own_value own a.call ≡ None → IsPut b.call → a.end ≡ o → IsBeforeEnd b.begin o
-began_before key s ds i j v a b x own None k ga gb ka kb shows_it shown name reads put e = tt
-began_before key s ds i j v a b x own (Some end) k ga gb ka kb shows_it shown name reads put e = elim (cases_lt b.begin end) [
+    → shows a.answer ≡ Some v → IsShown s.cfg (seen_after unused ds) v x → b.name ≡ x → own_value own a.call ≡ None → IsWrite b.call → a.end ≡ o → IsBeforeEnd b.begin o
+began_before key s ds i j v a b x own None k ga gb ka kb shows_it shown name reads write e = tt
+began_before key s ds i j v a b x own (Some end) k ga gb ka kb shows_it shown name reads write e = elim (cases_lt b.begin end) [
   | inl l ↦ l
   | inr ge ↦ elim (cases_eq end b.begin) [
     | inl same ↦ (let at = k.placed.apart i j a b ga gb (e ∙ ap Some same) in
-        absurd (no_put own a.call reads (subst (λ (c : CallRec). IsPut c.call) (sym (same_call s.calls i j a b at ga gb)) put)))
+        absurd (no_write own a.call reads (subst (λ (c : CallRec). IsWrite c.call) (sym (same_call s.calls i j a b at ga gb)) write)))
     | inr ne ↦ (let lt : end < b.begin = below end b.begin ge ne in absurd (not_after key s ds i j v a b x k ga gb ka kb shows_it shown name (subst (λ q. IsBefore q b.begin) (sym e) lt)))
   ]
 ]
@@ -187,7 +229,17 @@ began_before key s ds i j v a b x own (Some end) k ga gb ka kb shows_it shown na
     below : (m n : ℕ) → m ≤ n → (m ≡ n → ⊥) → m < n
     below m n le ne = grind arith
 
--- the put that a call's answer names is in the history
+-- the value that a call read is the own one of the call that it names
+own_read : (s : State) (t : Tale) (answer : Option Answer) (x : Name) (j : ℕ) (b : CallRec) → AreListed s → AreValued s → MomentsCarried s.net t.caller.name t.moments → (r : IsReading s.cfg t answer x) → slice_get s.calls j ≡ Some b → b.name ≡ x → own_value b.name b.call ≡ Some r.value
+own_read s t answer x j b listed valued carried r gb name =
+    let heard = r.heard in
+    let given : IsGiven s.calls r.value = heard_given s.calls s.net t.caller.name t.moments (net_given s valued) carried heard.0 heard.1 heard.2 r.version r.value heard.3 in
+    let own : given.1.name ≡ b.name = sym (own_named given.1.name given.1.call r.value given.3) ∙ r.named ∙ sym name in
+    let at = listed.apart given.0 j given.1 b given.2 gb own in
+    let same = same_call s.calls given.0 j given.1 b at given.2 gb in
+    subst (λ (q : CallRec). own_value q.name q.call ≡ Some r.value) same given.3
+
+-- the call that an answer names is in the history, and writes what was read
 pub reads_a_write : (key : List ℕ) (s : State) (ds : List Deed) (i : ℕ) (a : CallRec) → IsKnownRun key s ds → slice_get s.calls i ≡ Some a → key_of a.call ≡ key → ReadsAWrite s.calls a
 reads_a_write key s ds i a k ga ka = λ x from.
     let c = s.cfg in
@@ -205,7 +257,8 @@ reads_a_write key s ds i a k ga ka = λ x from.
     let t = so.tale in
     let call : t.caller.call ≡ b.call = ap (λ (w : Caller). w.call) so.is.caller in
     let own : a.call ≡ h.tale.caller.call = sym (ap (λ (w : Caller). w.call) h.is.caller) in
-    let put : IsPut b.call = subst IsPut call (so.sender.put v (subst (VotesFor q.act v) (sym name) p.votes)) in
+    let write : IsWrite b.call = subst IsWrite call (so.sender.write v (subst (VotesFor q.act v) (sym name) p.votes)) in
+    let value = own_read s h.tale a.answer x n.0 b k.listed k.valued h.carried r n.2 name in
     let kb : key_of b.call ≡ key = sym (ap key_of call) ∙ so.sender.key_is in
     let cast : VotesFor q.act v t.caller.name = subst (VotesFor q.act v) (sym (so.sender.name_is ∙ name)) p.votes in (
       b,
@@ -214,47 +267,20 @@ reads_a_write key s ds i a k ga ka = λ x from.
         record {
           name = name;
           key = kb ∙ sym ka;
-          write = put;
-          began = began_before key s ds i n.0 v a b x h.tale.caller.name a.end k ga n.2 ka kb r.shows_it shown name (ap (own_value h.tale.caller.name) own ∙ r.reads) put refl;
+          write = r.writes b.name b.call value;
+          began = began_before key s ds i n.0 v a b x h.tale.caller.name a.end k ga n.2 ka kb r.shows_it shown name (ap (own_value h.tale.caller.name) own ∙ r.reads) write refl;
           effect = effect_of c t b.answer (subst (IsAnswered c t) so.is.answer so.is.told.answered) (voted_some t.caller.name t.moments v (sent_votes t.moments q.act v t.caller.name so.sender.sent cast));
         },
       ),
     )
-
--- the bytes that the answer of a call that reads gives were heard with the name
-read_value : (c : Config) (t : Tale) (answer : Option Answer) (x : Name) (bytes : List ℕ) → IsAnswered c t answer → read_from answer ≡ Some x → bytes_read answer ≡ Some bytes → (v : ℕ) × IsValueHeard t.moments v (PutOf (record { name = x; bytes = bytes }))
-read_value c t None x bytes h e k = cc
-read_value c t (Some (Ok version)) x bytes h e k = cc
-read_value c t (Some (Bytes version name read)) x bytes h e k =
-    let named : name ≡ x = cc in
-    let same : read ≡ bytes = cc in
-    (version, subst (λ y. IsValueHeard t.moments version (PutOf (record { name = y; bytes = bytes }))) named (subst (λ ys. IsValueHeard t.moments version (PutOf (record { name = name; bytes = ys }))) same h.1.heard))
-read_value c t (Some Absent) x bytes h e k = cc
-read_value c t (Some (NoQuorum phase heard)) x bytes h e k = cc
-read_value c t (Some (Contended met)) x bytes h e k = cc
-read_value c t (Some (Unsure why)) x bytes h e k = cc
-read_value c t (Some (Unsettled version)) x bytes h e k = cc
-
--- a call with a value of its own writes its bytes under its name
-own_put : (name : Name) (call : Call) (p : PutData) → own_value name call ≡ Some (PutOf p) → (name ≡ p.name) × (bytes_written call ≡ Some p.bytes)
-own_put name (Put key bytes) p e =
-    let d : PutData = record { name = name; bytes = bytes } in
-    let same : d ≡ p = cc in
-    (ap (λ (q : PutData). q.name) same, ap (λ (q : PutData). Some q.bytes) same)
-own_put name (Get key) p e = cc
 
 -- a call that reads returns the bytes of the put that it names
 pub returns_written : (key : List ℕ) (s : State) (ds : List Deed) (i j : ℕ) (a b : CallRec) → IsKnownRun key s ds → slice_get s.calls i ≡ Some a → slice_get s.calls j ≡ Some b → key_of a.call ≡ key → ReturnWritten a b
 returns_written key s ds i j a b k ga gb ka = λ bytes from read.
     let h = call_tale key s ds i a k.run k.listed k.carries ga ka in
     let t = h.tale in
-    let value = read_value s.cfg t a.answer b.name bytes (subst (IsAnswered s.cfg t) h.is.answer h.is.told.answered) from read in
-    let heard = value.1 in
-    let p : PutData = record { name = b.name; bytes = bytes } in
-    let given : IsGiven s.calls (PutOf p) = heard_given s.calls s.net t.caller.name t.moments (net_given s k.valued) h.carried heard.0 heard.1 heard.2 value.0 (PutOf p) heard.3 in
-    let own = own_put given.1.name given.1.call p given.3 in
-    let at = k.listed.apart given.0 j given.1 b given.2 gb own.0 in
-    ap (λ (c : CallRec). bytes_written c.call) (sym (same_call s.calls given.0 j given.1 b at given.2 gb)) ∙ own.1
+    let r = reading s.cfg t a.answer b.name (subst (IsAnswered s.cfg t) h.is.answer h.is.told.answered) from in
+    r.written b.name b.call bytes (own_read s t a.answer b.name j b k.listed k.valued h.carried r gb refl) read
 
 -- what is known of a world that is reached
 known : (key : List ℕ) (s : State) → IsReached s → AllTell s → (ds : List Deed) × IsKnownRun key s ds

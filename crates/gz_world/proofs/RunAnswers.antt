@@ -4,7 +4,7 @@ use Rattle.std.specs.Prelude.{Option, slice_get}
 use Rattle.gz_core.specs.Names.{Name}
 use Rattle.gz_core.specs.Calls.{key_of}
 use Rattle.gz_core.specs.declared.calls.Answer.{Answer}
-use Rattle.gz_core.specs.declared.calls.Answer.TheVariants.{Ok, Bytes, Absent, NoQuorum, Contended, Unsure, Unsettled}
+use Rattle.gz_core.specs.declared.calls.Answer.TheVariants.{Ok, Bytes, Gone, Absent, NoQuorum, Contended, Unsure}
 use Rattle.gz_core.specs.declared.configuration.Config.{Config}
 use Rattle.gz_round.specs.History.{Moment, Caller, Tale}
 use Rattle.gz_round.specs.Shown.{IsShown as IsShownTo}
@@ -58,11 +58,11 @@ pub answer_tells : (c : Config) (t : Tale) (answer : Option Answer) (v : ℕ) �
 answer_tells c t None v h e = cc
 answer_tells c t (Some (Ok u)) v h e = inr (t.caller.name, (subst (λ k. IsShownTo c t.moments k t.caller.name) (same_version u v e) h.1.2, refl))
 answer_tells c t (Some (Bytes u y bytes)) v h e = inr (y, (subst (λ k. IsShownTo c t.moments k y) (same_version u v e) h.1.shown, refl))
+answer_tells c t (Some (Gone u y)) v h e = inr (y, (subst (λ k. IsShownTo c t.moments k y) (same_version u v e) h.1.shown, refl))
 answer_tells c t (Some Absent) v h e = inl (sym (same_version 0 v e), refl)
 answer_tells c t (Some (NoQuorum phase heard)) v h e = cc
 answer_tells c t (Some (Contended met)) v h e = cc
 answer_tells c t (Some (Unsure why)) v h e = cc
-answer_tells c t (Some (Unsettled version)) v h e = cc
 
 -- what a call's answer shows
 abbrev pub IsTold : Config → List Deed → CallRec → ℕ → Type 0

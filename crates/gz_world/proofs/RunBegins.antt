@@ -90,7 +90,7 @@ begin_run key old new ds session call turn effect b listed carries placed run =
                   name_is = sym h.call;
                   key_is = h.key_is;
                   sent = h.sent;
-                  put = λ v votes. elim (h.vote v (subst (VotesFor q.act v) h.call votes)) [ inl p ↦ absurd (unsent p.write p.found p.own) | inr put ↦ put ];
+                  write = λ v votes. elim (h.vote v (subst (VotesFor q.act v) h.call votes)) [ inl p ↦ absurd (unsent p.write p.found p.own) | inr write ↦ write ];
                 })))
           ])
           (λ j d there is. elim (get_of_two old.calls (fresh ∷ []) j d (subst (λ xs. slice_get xs j ≡ Some d) b.calls there)) [

@@ -12,7 +12,7 @@ use Rattle.gz_round.specs.History.{Asked, Moment, Caller, Tale, sent_from, turne
 use Rattle.gz_round.specs.Sites.{seen_in, written_by}
 use Rattle.gz_round.specs.Sending.{AreAllowed}
 use Rattle.gz_client.specs.Tales.{AreTold}
-use Rattle.gz_history.specs.Answers.{shows, IsPut}
+use Rattle.gz_history.specs.Answers.{shows, IsWrite}
 use Rattle.gz_history.specs.Legal.{IsBefore}
 use Rattle.gz_history.specs.declared.record.CallRec.{CallRec}
 use Rattle.gz_ledger.specs.Histories.{Seen, Write, IsIn, VotesFor}
@@ -41,7 +41,7 @@ grown_sent key old new session t after ts moves is caller more name act h = elim
           name_is = ap (λ (w : Caller). w.name) caller ∙ s.name_is;
           key_is = ap (λ (w : Caller). key_of w.call) caller ∙ s.key_is;
           sent = more act s.sent;
-          put = λ v votes. subst (λ (w : Caller). IsPut w.call) (sym caller) (s.put v votes);
+          write = λ v votes. subst (λ (w : Caller). IsWrite w.call) (sym caller) (s.write v votes);
         })
         | inr s ↦ inr s
       ] in
@@ -56,11 +56,11 @@ ours_sent key c tales session t after ts ds ms q told is caller more sent ours =
   name_is = ap (λ (w : Caller). w.name) caller ∙ sym ours.call;
   key_is = ap (λ (w : Caller). key_of w.call) caller ∙ ours.key_is;
   sent = more q.act ours.sent;
-  put = λ v votes. subst (λ (w : Caller). IsPut w.call) (sym caller) (elim (ours.vote v (subst (VotesFor q.act v) ours.call votes)) [
+  write = λ v votes. subst (λ (w : Caller). IsWrite w.call) (sym caller) (elim (ours.vote v (subst (VotesFor q.act v) ours.call votes)) [
     | inl p ↦ (let at : p.write.call.session ≡ session = ap (λ (x : Name). x.session) (p.own ∙ told.1) in
         let mine = own_sender c key session t ts p.write.call p.write.act told p.own (subst (IsSentBy key p.write.call p.write.act) (ap tales at ∙ is) (sent p.write p.found)) in
-        mine.put v (subst (VotesFor p.write.act v) (sym p.own) p.votes))
-    | inr put ↦ put
+        mine.write v (subst (VotesFor p.write.act v) (sym p.own) p.votes))
+    | inr write ↦ write
   ]);
 }
 

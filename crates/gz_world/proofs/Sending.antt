@@ -9,10 +9,10 @@ use Rattle.gz_core.specs.Calls.{own_value}
 use Rattle.gz_core.specs.Rows.{RowAt}
 use Rattle.gz_core.specs.Slots.{Act, VotesFast, Promises, VotesClassic, Decides, Trims, Makes, act_of, slots}
 use Rattle.gz_core.specs.declared.calls.Call.{Call}
-use Rattle.gz_core.specs.declared.calls.Call.TheVariants.{Put as PutCall, Get as GetCall}
+use Rattle.gz_core.specs.declared.calls.Call.TheVariants.{Put as PutCall, Delete as DeleteCall, Get as GetCall}
 use Rattle.gz_core.specs.declared.configuration.Config.{Config}
 use Rattle.gz_core.specs.declared.values.Value.{Value}
-use Rattle.gz_core.specs.declared.values.Value.TheVariants.{Put as PutOf}
+use Rattle.gz_core.specs.declared.values.Value.TheVariants.{Tomb, Put as PutOf}
 use Rattle.gz_core.specs.declared.requests.RowStep.{RowStep}
 use Rattle.gz_core.specs.declared.requests.RowStep.TheVariants.{FastVote, Promise, ClassicVote, Decide, Trim}
 use Rattle.gz_core.specs.declared.requests.Op.{Op}
@@ -80,4 +80,5 @@ clear_heard c w past ms st v keeps clear = λ q u found own votes apart.
 -- the own value of a call has its name
 pub own_named : (name : Name) (call : Call) (x : Value) → own_value name call ≡ Some x → name_of x ≡ name
 own_named name (PutCall key bytes) x e = let k : PutOf (record { name = name; bytes = bytes }) ≡ x = cc in sym (ap name_of k)
+own_named name (DeleteCall key) x e = let k : Tomb name ≡ x = cc in sym (ap name_of k)
 own_named name (GetCall key) x e = cc

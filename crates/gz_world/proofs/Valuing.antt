@@ -1,4 +1,4 @@
--- Each step keeps the values of rows those that puts were given.
+-- Each step keeps the values of rows those that calls of the history write.
 use Rattle.std.proofs.Common.{◌≡◌, ℕ, zero, suc, ◌+◌, ◌-◌, inl, inr, List, [], ◌∷◌, ◌++◌, Some, None, true, false, cond, length, refl, ap, sym, ◌∙◌, subst}
 use Rattle.std.proofs.lemmas.Bool.{cases_eq}
 use Rattle.std.specs.Prelude.{Option, MatchOption, IfSome, IsSome, slice_get}

@@ -12,7 +12,7 @@ use Rattle.gz_round.specs.History.{Tale}
 use Rattle.gz_round.specs.declared.hearing.Seen.{Seen as SeenRow}
 use Rattle.gz_round.specs.Sites.{seen_in, written_by}
 use Rattle.gz_site.specs.Told.{Told}
-use Rattle.gz_history.specs.Answers.{shows, IsPut}
+use Rattle.gz_history.specs.Answers.{shows, IsWrite}
 use Rattle.gz_history.specs.Legal.{IsBefore}
 use Rattle.gz_history.specs.declared.record.CallRec.{CallRec}
 use Rattle.gz_model.specs.Casts.{has_cast}
@@ -47,12 +47,12 @@ pub record RequestStands (st : Store) (r : RequestAt) : Type 0 where
   pub clean : CleanOp r.op
   pub replies : (i tick : ℕ) (reply : Reply) → slice_get r.replies i ≡ Some (tick, reply) → SeenStands st r.site (seen_in (written_by r.op) reply)
 
--- the call of this name is one of the object and sent this step, and where that voted for its own value, it is a put
+-- the call of this name is one of the object and sent this step, and where that voted for its own value, it is a write
 pub record IsSender (key : List ℕ) (name : Name) (act : Act) (t : Tale) : Type 0 where
   pub name_is : t.caller.name ≡ name
   pub key_is : key_of t.caller.call ≡ key
   pub sent : SentStep t.moments act
-  pub put : (v : ℕ) → VotesFor act v name → IsPut t.caller.call
+  pub write : (v : ℕ) → VotesFor act v name → IsWrite t.caller.call
 
 abbrev pub IsSentBy : List ℕ → Name → Act → List Tale → Type 0
 IsSentBy key name act [] = ⊥

@@ -1,4 +1,5 @@
--- Every value in a row, wherever the row stands, is one that a put of the history was given.
+-- Every value in a row, wherever the row stands, is one that a call of the history writes: the bytes that a put was given,
+-- or the tombstone of a delete.
 use Rattle.std.specs.Prelude.{ℕ, ◌≡◌, List, Option, Some, None, slice_get}
 use Rattle.gz_core.specs.Calls.{own_value}
 use Rattle.gz_core.specs.Rows.{RowAt}
@@ -12,7 +13,7 @@ use Rattle.gz_site.specs.Told.{Told}
 use Rattle.gz_history.specs.declared.record.CallRec.{CallRec}
 use Rattle.gz_world.specs.States.{RequestAt, State, numbered}
 
--- a call of the history was given this value
+-- this is the own value of a call of the history
 abbrev pub IsGiven : List CallRec → Value → Type 0
 IsGiven calls x = (i : ℕ) × (call : CallRec) × (slice_get calls i ≡ Some call) × (own_value call.name call.call ≡ Some x)
 

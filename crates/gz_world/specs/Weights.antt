@@ -18,7 +18,7 @@ use Rattle.gz_core.specs.declared.values.Value.TheVariants.{Tomb, Put}
 abbrev pub capped : ℕ → ℕ
 capped n = min n (2 ^ 64 - 1)
 
--- the bytes of an object
+-- the bytes of a value, none of a tombstone
 abbrev pub value_bytes : Value → ℕ
 value_bytes (Tomb name) = 0
 value_bytes (Put put) = length put.bytes
@@ -54,7 +54,8 @@ reply_weight replies.Failed = 64
 abbrev pub outs_weight : List Out → ℕ
 outs_weight outs = sum_by (λ (o : Out). op_weight o.op) outs
 
--- the bytes that a call brings
+-- the bytes that a call brings, none where it deletes or reads
 abbrev pub call_bytes : Call → ℕ
 call_bytes (calls.Put key bytes) = length bytes
+call_bytes (calls.Delete key) = 0
 call_bytes (calls.Get key) = 0

@@ -36,15 +36,16 @@ pub fn agreement()
     ensures { (key : List ℕ) (s : State) → IsReached s → AllTell s → AreAgreed key s }
 {}
 
-/// In a world that is reached and whose sites tell what they hold, every value that a row has was given by a put of
-/// the history.
+/// In a world that is reached and whose sites tell what they hold, every value that a row has is one that a call of
+/// the history writes: the bytes that a put was given, or the tombstone of a delete.
 pub fn values_are_given()
     ensures { (s : State) → IsReached s → AllTell s → AreValued s }
 {}
 
 /// The history of a world that is reached and whose sites tell what they hold is legal: two answers that name one
-/// version of an object name one put, each put is at one version, the versions keep the order of calls that ended
-/// before others began, and a call that reads returns the bytes that the put of its version was given.
+/// version of an object name one put or delete, each of these is at one version, the versions keep the order of calls
+/// that ended before others began, and a call that reads returns the bytes that the put of its version was given, or
+/// that the object is gone where a delete wrote the version.
 pub fn legal()
     ensures { (s : State) → IsReached s → AllTell s → IsLegal s.calls }
 {}

@@ -1,6 +1,7 @@
 //! Worlds over sites in memory.
 ghost use Rattle.std.specs.Prelude.{◌≡◌, IfOk};
 ghost use Rattle.gz_core.specs.Configurations.{IsConfig};
+ghost use Rattle.gz_round.specs.Starting.{IsWithin};
 ghost use Rattle.gz_world.specs.Fits.{IsFitting, IsBounded};
 
 use super::*;
@@ -61,6 +62,16 @@ fn settle(world: &mut World<MemSite>, session: Session) -> Result<(), Fail>
     Ok(())
 }
 
+/// Begins a call of a session, and settles it.
+fn complete(world: &mut World<MemSite>, session: Session, call: Call) -> Result<(), Fail>
+    requires fits { IsFitting world.old }
+    requires within { IsWithin call }
+    ensures { IsFitting world.new }
+{
+    apply(world, Event::Begin { session, call })?;
+    settle(world, session)
+}
+
 /// Crashes a session that isn't there, so many times.
 fn crash_often(world: &mut World<MemSite>, session: Session, count: u32) -> Result<(), Fail>
     requires { IsFitting world.old }
@@ -114,6 +125,37 @@ fn a_put_and_a_get_over_three_sites(rt: HostRuntime) -> Result<(), Fail> {
         })
     );
     assert_eq!(rt; world.journal.len(), 21);
+    Ok(())
+}
+
+#[test]
+fn a_get_after_a_delete_finds_the_object_gone(rt: HostRuntime) -> Result<(), Fail> {
+    let alloc = rt.alloc();
+    let session = Session(1);
+    let key = key_of(alloc, b'a')?;
+    let put = Call::Put {
+        key: key.clone()?,
+        bytes: Items::from_slice(alloc, &[1, 2])?,
+    };
+    let delete = Call::Delete { key: key.clone()? };
+    let mut world = three_sites(alloc)?;
+    apply(&mut world, Event::OpenSession)?;
+    complete(&mut world, session, put)?;
+    complete(&mut world, session, delete)?;
+    complete(&mut world, session, Call::Get { key })?;
+    let [first, second, third] = world.calls.as_slice() else {
+        return Err(Fail::from("not three calls"));
+    };
+    let name = PutName { session, seq: 2 };
+    let version = Version(2);
+    assert_eq!(rt;
+        first.answer,
+        Some(Answer::Ok {
+            version: Version(1)
+        })
+    );
+    assert_eq!(rt; second.answer, Some(Answer::Ok { version }));
+    assert_eq!(rt; third.answer, Some(Answer::Gone { version, name }));
     Ok(())
 }
 

@@ -4,7 +4,7 @@ ghost use Rattle.gz_world.specs.Weights.{capped, value_bytes, vote_bytes, column
 
 use gz_core::{Call, Column, Op, Out, Reply, Row, Value, Vote};
 
-/// The bytes of an object.
+/// The bytes of a value.
 pub fn value_bytes(value: &Value) -> u64
     ensures { result ≡ value_bytes value.now }
 {
@@ -82,6 +82,6 @@ pub fn call_bytes(call: &Call) -> u64
 {
     match call {
         Call::Put { bytes, .. } => bytes.len() as u64,
-        Call::Get { .. } => 0,
+        Call::Delete { .. } | Call::Get { .. } => 0,
     }
 }

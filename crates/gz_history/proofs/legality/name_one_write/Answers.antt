@@ -1,6 +1,6 @@
 use Rattle.std.proofs.Common.{sym, ◌∙◌}
 use Rattle.gz_history.proofs.Searching.{names_tie}
-use Rattle.gz_history.proofs.legality.name_one_put.Goals as goal
+use Rattle.gz_history.proofs.legality.name_one_write.Goals as goal
 
 pub returns-in-Some-Some-clause-broken : goal.returns-in-Some-Some-clause-broken
 returns-in-Some-Some-clause-broken c = λ f h.
