@@ -401,6 +401,13 @@ fn put(alloc: Global) -> Result<Call, Fail>
     Ok(Call::Put { key, bytes })
 }
 
+fn delete(alloc: Global) -> Result<Call, Fail>
+    ensures { IfOk result (λ call. IsWithin call) }
+{
+    let key = key(alloc)?;
+    Ok(Call::Delete { key })
+}
+
 fn get(alloc: Global) -> Result<Call, Fail>
     ensures { IfOk result (λ call. IsWithin call) }
 {
@@ -427,18 +434,35 @@ fn get_alone(alloc: Global, moves: &[Move]) -> Result<End, Fail> {
     Ok((answer, network.sent.len(), driver.client.live_count()))
 }
 
-/// How a put ends, and the answer of a get after it.
-fn put_then_get(
+/// How a call ends, and the answer of a get after it.
+fn then_get(
     alloc: Global,
+    call: Call,
     moves: &[Move],
     later: &[Move],
-) -> Result<(End, Option<Answer>), Fail> {
+) -> Result<(End, Option<Answer>), Fail>
+    requires { IsWithin call }
+{
     let mut driver = Driver::new(8)?;
     let mut network = Network::new(alloc)?;
-    let answer = run(&mut driver, &mut network, alloc, put(alloc)?, moves)?;
+    let answer = run(&mut driver, &mut network, alloc, call, moves)?;
     let end = (answer, network.sent.len(), driver.client.live_count());
     let read = run(&mut driver, &mut network, alloc, get(alloc)?, later)?;
     Ok((end, read))
+}
+
+/// The answer with the bytes for which another session's put voted.
+fn bytes_of_another(alloc: Global) -> Result<Answer, Fail> {
+    let name = PutName {
+        session: Session(2),
+        seq: 1,
+    };
+    let bytes = Items::from_slice(alloc, &[7])?;
+    Ok(Answer::Bytes {
+        version: Version(1),
+        name,
+        bytes,
+    })
 }
 
 /// Two sites without a row are enough.
@@ -462,7 +486,8 @@ fn a_put_and_a_get(rt: HostRuntime) -> Result<(), Fail> {
     };
     let bytes = Items::from_slice(alloc, &[1, 2])?;
     let moves = [Take(1), Take(2), Take(3), Take(4), Take(5), Take(6)];
-    let (end, read) = put_then_get(alloc, &moves, &[Take(10), Take(11), Take(12)])?;
+    let later = [Take(10), Take(11), Take(12)];
+    let (end, read) = then_get(alloc, put(alloc)?, &moves, &later)?;
     assert_eq!(rt; end, (Some(Answer::Ok { version }), 9, 0));
     assert_eq!(rt;
         read,
@@ -642,14 +667,84 @@ fn a_ballot_of_another(rt: HostRuntime) -> Result<(), Fail> {
     Ok(())
 }
 
-/// A get of a version that isn't known to be chosen can't tell.
+/// A delete is chosen like a put; a get after it tells that the object is gone.
 #[test]
-fn a_get_that_is_unsettled(rt: HostRuntime) -> Result<(), Fail> {
+fn a_delete_and_a_get(rt: HostRuntime) -> Result<(), Fail> {
+    use Move::Take;
+    let alloc = rt.alloc();
+    let version = Version(1);
+    let name = PutName {
+        session: Session(1),
+        seq: 1,
+    };
+    let moves = [Take(1), Take(2), Take(3), Take(4), Take(5), Take(6)];
+    let later = [Take(10), Take(11), Take(12)];
+    let (end, read) = then_get(alloc, delete(alloc)?, &moves, &later)?;
+    assert_eq!(rt; end, (Some(Answer::Ok { version }), 9, 0));
+    assert_eq!(rt; read, Some(Answer::Gone { version, name }));
+    Ok(())
+}
+
+/// A get of a version that isn't known to be chosen prepares a classic ballot and votes in it: for the value that
+/// the votes force, or else for the one of the lowest site with a vote.
+#[test]
+fn a_get_that_repairs(rt: HostRuntime) -> Result<(), Fail> {
     use Move::{GiveUp, Take, Vote};
-    let moves = [Vote(0), Vote(1), Take(1), Take(2), GiveUp(3)];
-    let end = get_alone(rt.alloc(), &moves)?;
-    let phase = Phase::Look;
-    assert_eq!(rt; end, (Some(Answer::NoQuorum { phase, heard: 0 }), 3, 0));
+    let alloc = rt.alloc();
+    let forced = [
+        Vote(0),
+        Vote(1),
+        Take(1),
+        Take(2),
+        GiveUp(3),
+        Take(4),
+        Take(5),
+        Take(6),
+        Take(7),
+    ];
+    let end = get_alone(alloc, &forced)?;
+    assert_eq!(rt; end, (Some(bytes_of_another(alloc)?), 7, 0));
+    let free = [
+        Vote(1),
+        Take(1),
+        Take(2),
+        GiveUp(3),
+        Take(4),
+        Take(5),
+        Take(6),
+        Take(7),
+    ];
+    let end = get_alone(alloc, &free)?;
+    assert_eq!(rt; end, (Some(bytes_of_another(alloc)?), 7, 0));
+    Ok(())
+}
+
+/// A get that prepares again looks back at the vote of a site that is out by then.
+#[test]
+fn a_get_that_looks_back(rt: HostRuntime) -> Result<(), Fail> {
+    use Move::{GiveUp, Promise, Take, Vote};
+    let alloc = rt.alloc();
+    let moves = [
+        Vote(0),
+        Take(1),
+        Take(2),
+        Take(3),
+        GiveUp(4),
+        Take(5),
+        Take(6),
+        Promise(1),
+        Promise(2),
+        Take(7),
+        Take(8),
+        Take(9),
+        Take(10),
+        Take(11),
+        Take(12),
+        Take(13),
+        Take(14),
+    ];
+    let end = get_alone(alloc, &moves)?;
+    assert_eq!(rt; end, (Some(bytes_of_another(alloc)?), 14, 0));
     Ok(())
 }
 

@@ -3,6 +3,7 @@
 
 mod lanes;
 pub mod plain;
+mod quads;
 mod rows;
 mod vector;
 

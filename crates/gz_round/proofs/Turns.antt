@@ -162,7 +162,7 @@ noticed_from c w past run ms v x h own served s l kept quiet seen last other is_
     let settled : IsSettledBy w ms s seen (Some (Decide v x)) = subst (λ (z : Seen). IsSettledBy w ms s z (Some (Decide v x))) same k.3 in
     subst (λ (z : Value). HasNotice ms s (WriteRow (key_of w.call) seen.etag (Decide v z) (decided seen.row v z))) value (settled done).1
 
--- a put whose value is chosen, once the others were told
+-- a call whose value is chosen, once the others were told
 pub finish_turned : (c : Config) (w : Caller) (past : List Tale) (run new : Run) (ms : List Moment) (first : ℕ) (sent : List Out) (v : ℕ) (step : Option RowStep) → Finishes c w past run ms v → step ≡ notice_for v run.own →
     (Asks c w past run ms step → Asks c w past new (sent_from first sent ms) step × AreServed c w (sent_from first sent ms) step) → Turned c w past new (sent_from first sent ms) (Some (Ok v))
 finish_turned c w past run new ms first sent v step f is asked =

@@ -115,7 +115,7 @@ IsPromiseHeard ms v b h = (row : RowAt) × WasHeard ms h.site row × (slots row 
 abbrev pub IsNamedAt : List Heard → ℕ → Name → Type 0
 IsNamedAt heard at x = (h : Heard) × (vote : BallotAt × Name) × (slice_get heard at ≡ Some h) × (h.vote ≡ Some vote) × (vote.1 ≡ x)
 
--- where the choice is free, a put proposes its own value, and another call one that it heard a vote for
+-- where the choice is free, a call that writes proposes its own value, and another one that it heard a vote for
 abbrev pub MayPropose : Config → Caller → List Moment → ℕ → Value → Type 0
 MayPropose c w ms v x =
     ((own_value w.name w.call ≡ Some x) × IsCurrent c ms v × IsClear c w.name ms v)

@@ -248,7 +248,7 @@ impl Run {
         })
     }
 
-    /// Ends a put whose value is chosen: every site that can take it is told by a notice.
+    /// Ends a call whose value is chosen: every site that can take it is told by a notice.
     fn finish(
         &mut self,
         alloc: Global,

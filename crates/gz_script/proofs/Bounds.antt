@@ -12,7 +12,7 @@ use Rattle.gz_script.specs.declared.line.Reading.{Reading}
 use Rattle.gz_script.specs.declared.line.Reading.TheVariants.{Skipped, Unbuilt, Is}
 use Rattle.gz_script.specs.Texts.{fields, lines}
 use Rattle.gz_script.specs.Fields.{number_of, session_of, sites_of, key_of, bytes_of, within}
-use Rattle.gz_script.specs.Grammar.{is_word, both, all_three, line_of_word, line_of_one, get_line, line_of_two, line_of_three, line_from, is_or_unbuilt, reading_of, read_line}
+use Rattle.gz_script.specs.Grammar.{is_word, both, all_three, line_of_word, line_of_one, get_line, delete_line, line_of_two, line_of_three, line_from, is_or_unbuilt, reading_of, read_line}
 use Rattle.gz_script.specs.Schedule.{IsBounded, line_of, readings}
 
 -- the reading is no line, or one that keeps to the bounds
@@ -78,10 +78,14 @@ one-bounded verb x =
 get-bounded : (s k : List ℕ) → AreBounded (get_line s k)
 get-bounded s k = both-bounded (λ session key. Begin session (calls.Get key)) (λ session key. tt) (session_of s) (key_of k)
 
+delete-bounded : (s k : List ℕ) → AreBounded (delete_line s k)
+delete-bounded s k = both-bounded (λ session key. Begin session (calls.Delete key)) (λ session key. tt) (session_of s) (key_of k)
+
 two-bounded : (verb x y : List ℕ) → AreBounded (line_of_two verb x y)
 two-bounded verb x y =
     if-bounded (is_word (codes "get") verb) _ _ (get-bounded x y)
-    (if-bounded (is_word (codes "reply") verb) _ _ (both-bounded (λ n which. Reply n which) (λ n which. tt) (number_of x) (number_of y)) tt)
+    (if-bounded (is_word (codes "delete") verb) _ _ (delete-bounded x y)
+    (if-bounded (is_word (codes "reply") verb) _ _ (both-bounded (λ n which. Reply n which) (λ n which. tt) (number_of x) (number_of y)) tt))
 
 three-bounded : (verb x y z : List ℕ) → AreBounded (line_of_three verb x y z)
 three-bounded verb x y z =

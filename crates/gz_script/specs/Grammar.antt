@@ -39,12 +39,20 @@ line_of_one verb x =
 abbrev pub get_line : List ℕ → List ℕ → Option Line
 get_line s k = both (λ session key. Begin session (calls.Get key)) (session_of s) (key_of k)
 
+-- `delete S KEY`
+abbrev pub delete_line : List ℕ → List ℕ → Option Line
+delete_line s k = both (λ session key. Begin session (calls.Delete key)) (session_of s) (key_of k)
+
 -- `reply N WHICH`
 abbrev pub reply_line : List ℕ → List ℕ → Option Line
 reply_line n w = both (λ number which. Reply number which) (number_of n) (number_of w)
 
 abbrev pub line_of_two : List ℕ → List ℕ → List ℕ → Option Line
-line_of_two verb x y = if is_word (codes "get") verb then get_line x y else (if is_word (codes "reply") verb then reply_line x y else None)
+line_of_two verb x y =
+    if is_word (codes "get") verb then get_line x y
+    else (if is_word (codes "delete") verb then delete_line x y
+    else (if is_word (codes "reply") verb then reply_line x y
+    else None))
 
 -- `put S KEY BYTES`
 abbrev pub put_line : List ℕ → List ℕ → List ℕ → Option Line

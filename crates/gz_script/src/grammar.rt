@@ -1,6 +1,6 @@
 //! What a line of a schedule reads as.
 ghost use Rattle.std.specs.Prelude.{◌≡◌, IfOk, map};
-ghost use Rattle.gz_script.specs.Grammar.{line_of_word, line_of_one, line_of_two, line_of_three, get_line, reply_line, put_line, settle_line, line_from, reading_of, read_line};
+ghost use Rattle.gz_script.specs.Grammar.{line_of_word, line_of_one, line_of_two, line_of_three, get_line, delete_line, reply_line, put_line, settle_line, line_from, reading_of, read_line};
 
 use crate::line::{Line, Reading};
 use crate::{cut, fields};
@@ -94,6 +94,8 @@ fn line_of_two(
 {
     if verb == b"get".as_slice() {
         get(alloc, first, second)
+    } else if verb == b"delete".as_slice() {
+        delete(alloc, first, second)
     } else if verb == b"reply".as_slice() {
         Ok(reply(first, second))
     } else {
@@ -130,6 +132,19 @@ fn get(alloc: Global, session: &[u8], key: &[u8]) -> Result<Option<Line>, AllocE
         return Ok(None);
     };
     let call = Call::Get { key };
+    Ok(Some(Line::Begin { session, call }))
+}
+
+fn delete(alloc: Global, session: &[u8], key: &[u8]) -> Result<Option<Line>, AllocError>
+    ensures { IfOk result (λ line. line ≡ delete_line session.now key.now) }
+{
+    let Some(session) = fields::session(session) else {
+        return Ok(None);
+    };
+    let Some(key) = fields::key(alloc, key)? else {
+        return Ok(None);
+    };
+    let call = Call::Delete { key };
     Ok(Some(Line::Begin { session, call }))
 }
 

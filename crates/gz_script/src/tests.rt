@@ -11,14 +11,15 @@ fn key(alloc: Global) -> Result<Key, Fail> {
     }
 }
 
-/// A session that writes these bytes and reads them.
-fn schedule(alloc: Global, bytes: &[u8]) -> Result<[Line; 5], Fail> {
+/// A session that writes these bytes, reads them and deletes the object.
+fn schedule(alloc: Global, bytes: &[u8]) -> Result<[Line; 6], Fail> {
     let session = Session(1);
     let put = Call::Put {
         key: key(alloc)?,
         bytes: Items::from_slice(alloc, bytes)?,
     };
     let get = Call::Get { key: key(alloc)? };
+    let delete = Call::Delete { key: key(alloc)? };
     Ok([
         Line::OpenSession,
         Line::Begin { session, call: put },
@@ -31,6 +32,10 @@ fn schedule(alloc: Global, bytes: &[u8]) -> Result<[Line; 5], Fail> {
             session,
             without: Items::new(alloc),
         },
+        Line::Begin {
+            session,
+            call: delete,
+        },
     ])
 }
 
@@ -38,19 +43,19 @@ fn schedule(alloc: Global, bytes: &[u8]) -> Result<[Line; 5], Fail> {
 fn schedules_are_read(rt: HostRuntime) -> Result<(), Fail> {
     let cases: [(&[u8], &[u8]); 4] = [
         (
-            b"session\nput 1 a x:0102\nsettle 1\nget 1 a\nsettle 1\n",
+            b"session\nput 1 a x:0102\nsettle 1\nget 1 a\nsettle 1\ndelete 1 a\n",
             &[1, 2],
         ),
         (
-            b"session\r\nput 1 a x:0102\r\nsettle 1\r\nget 1 a\r\nsettle 1\r\n",
+            b"session\r\nput 1 a x:0102\r\nsettle 1\r\nget 1 a\r\nsettle 1\r\ndelete 1 a\r\n",
             &[1, 2],
         ),
         (
-            b"session\nput 1 a x:AbcD\nsettle 1\nget 1 a\nsettle 1",
+            b"session\nput 1 a x:AbcD\nsettle 1\nget 1 a\nsettle 1\ndelete 1 a",
             &[0xab, 0xcd],
         ),
         (
-            b"# c\n\nsession\nput 1 a x:\n  \nsettle 1\nget 1 a\n# d\nsettle 1\n",
+            b"# c\n\nsession\nput 1 a x:\n  \nsettle 1\nget 1 a\n# d\nsettle 1\n delete  1 a \n",
             &[],
         ),
     ];
@@ -112,8 +117,8 @@ fn refused_at(alloc: Global, text: &[u8]) -> Option<u32> {
 
 #[test]
 fn the_first_line_that_is_not_built_is_told(rt: HostRuntime) {
-    let cases: [(&[u8], u32); 20] = [
-        (b"session\ndelete 1 a\n", 2),
+    let cases: [(&[u8], u32); 23] = [
+        (b"session\ngetat 1 a 1\n", 2),
         (b"session\npat 1 a\n", 2),
         (b"# c\n\nsession\nput 1 a x:0\nsettle 1\n", 4),
         (b"session\nput 01 a x:01\nsettle 1\n", 2),
@@ -121,6 +126,9 @@ fn the_first_line_that_is_not_built_is_told(rt: HostRuntime) {
         (b"deliver 4294967296\n", 1),
         (b"deliver\n", 1),
         (b"take 1\ntake -1\n", 2),
+        (b"delete 1\n", 1),
+        (b"delete 0 a\n", 1),
+        (b"session\ndelete 1 a x:01\n", 2),
         (b"giveup 1 2\n", 1),
         (b"crash 1\ncrash 0\n", 2),
         (b"drain x\n", 1),

@@ -6,7 +6,7 @@ ghost use Rattle.gz_script.specs.Schedule.{IsBounded};
 use super::play;
 use crate::line::Line;
 use crate::schedule::read_schedule;
-use gz_core::{Answer, Config, Phase, UnsureWhy, Version};
+use gz_core::{Answer, Config, Order, Phase, UnsureWhy, Version};
 use gz_site::MemSite;
 use gz_world::World;
 use std::alloc::{AllocError, Global};
@@ -21,15 +21,15 @@ fn empty_sites(alloc: Global, count: usize) -> Result<Vec<MemSite>, AllocError> 
     Ok(sites)
 }
 
-/// A world over three empty sites.
-fn three_sites(alloc: Global) -> Result<World<MemSite>, Fail>
+/// A world over empty sites.
+fn opened(alloc: Global, config: Config) -> Result<World<MemSite>, Fail>
     ensures { IfOk result (λ world. IsFitting world) }
 {
-    let config = Config::DEFAULT;
     if config.check().is_err() {
         return Err(Fail::from("no configuration"));
     }
-    match World::open(alloc, config, empty_sites(alloc, 3)?) {
+    let sites = empty_sites(alloc, config.n as usize)?;
+    match World::open(alloc, config, sites) {
         Ok(world) => Ok(world),
         Err(_) => Err(Fail::from("too few sites")),
     }
@@ -48,10 +48,15 @@ fn lines(alloc: Global, text: &[u8]) -> Result<Vec<Line>, Fail>
     }
 }
 
-/// The world after a schedule.
+/// The world after a schedule over three sites.
 fn played(alloc: Global, text: &[u8]) -> Result<World<MemSite>, Fail> {
+    played_over(alloc, Config::DEFAULT, text)
+}
+
+/// The world after a schedule.
+fn played_over(alloc: Global, config: Config, text: &[u8]) -> Result<World<MemSite>, Fail> {
     let lines = lines(alloc, text)?;
-    let mut world = three_sites(alloc)?;
+    let mut world = opened(alloc, config)?;
     match play(lines.as_slice(), &mut world) {
         Ok(()) => Ok(world),
         Err(_) => Err(Fail::from("broken off")),
@@ -69,6 +74,22 @@ fn ticks(world: &World<MemSite>) -> Result<Vec<u32>, AllocError> {
     Ok(ticks)
 }
 
+/// The version at which each call was placed, 0 where it was not.
+fn places(world: &World<MemSite>) -> Result<Vec<u64>, AllocError> {
+    let mut places = Vec::new(world.alloc);
+    for call in &world.calls {
+        places.push(place(&call.answer))?;
+    }
+    Ok(places)
+}
+
+fn place(answer: &Option<Answer>) -> u64 {
+    match answer {
+        Some(Answer::Ok { version }) => version.number(),
+        _ => 0,
+    }
+}
+
 /// The answer of the first call.
 fn first_answer(world: World<MemSite>) -> Option<Answer> {
     match world.calls.into_iter().next() {
@@ -79,7 +100,7 @@ fn first_answer(world: World<MemSite>) -> Option<Answer> {
 
 #[test]
 fn each_event_of_a_line_has_a_tick(rt: HostRuntime) -> Result<(), Fail> {
-    let cases: [(&[u8], &[u32]); 9] = [
+    let cases: [(&[u8], &[u32]); 10] = [
         (
             b"session\nput 1 a x:0102\nsettle 1\nget 1 a\nsettle 1\n",
             &[2, 14, 15, 21, 21],
@@ -102,7 +123,7 @@ fn each_event_of_a_line_has_a_tick(rt: HostRuntime) -> Result<(), Fail> {
         ),
         (
             b"session\nput 1 a x:0102\ntake 1\ntake 2\ntake 3\ndeliver 4\ncrash 1\nsession\nget 2 a\nsettle 2\n",
-            &[2, 0, 12, 18, 18],
+            &[2, 0, 12, 28, 28],
         ),
         (
             b"session\nput 1 a x:01\ndrain 1\nsettle 1\ndrain 1\nget 1 a\ndrain 1\nsettle 1\n",
@@ -111,6 +132,10 @@ fn each_event_of_a_line_has_a_tick(rt: HostRuntime) -> Result<(), Fail> {
         (
             b"session\nsession\nput 1 a x:01\nput 2 b x:02\ntake 2\ndrain 1\ndrain 2\nsettle 1 without 15\nsettle 2\nput 2 b x:\ndrain 2\ndrain 3\nsettle 9\ntake 99\n",
             &[3, 19, 4, 28, 29, 0, 37],
+        ),
+        (
+            b"session\nput 1 a x:01\nsettle 1\ndelete 1 a\nsettle 1\nget 1 a\nsettle 1\n",
+            &[2, 14, 15, 27, 28, 34, 34],
         ),
         (b"# nothing\n", &[0]),
     ];
@@ -154,5 +179,27 @@ fn answers_of_calls_that_lose_sites(rt: HostRuntime) -> Result<(), Fail> {
     assert_eq!(rt; first_answer(short), Some(no_quorum));
     assert_eq!(rt; first_answer(unsure), Some(Answer::Unsure { why }));
     assert_eq!(rt; first_answer(placed), Some(Answer::Ok { version }));
+    Ok(())
+}
+
+/// Five sites, of which two may be lost.
+const FIVE_SITES: Config = Config {
+    n: 5,
+    qc: 3,
+    qf: 4,
+    k: 2,
+    m: 1,
+    f: 0,
+    tries: 8,
+    order: Order::Parallel,
+};
+
+#[test]
+fn two_puts_that_race_over_five_sites_are_both_placed(rt: HostRuntime) -> Result<(), Fail> {
+    let race: &[u8] =
+        b"session\nsession\nput 1 a x:01\nput 2 a x:02\ntake 1\ntake 2\ntake 3\ntake 9\ntake 10\ntake 8\ndeliver 15\ndeliver 16\nsettle 1\nsettle 2\n";
+    let world = played_over(rt.alloc(), FIVE_SITES, race)?;
+    assert_eq!(rt; ticks(&world)?.as_slice(), [3, 44, 4, 70, 70].as_slice());
+    assert_eq!(rt; places(&world)?.as_slice(), [1, 2].as_slice());
     Ok(())
 }

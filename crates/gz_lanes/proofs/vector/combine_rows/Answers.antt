@@ -12,13 +12,13 @@ loop-four-preserved c =
     let at = c.loop-four.four * 4 in
     let enough : c.if-width-lt16.fours * 4 ≤ length rows = elim c.if-width-lt16.branch [ then-width-lt16 w ↦ omega arith | else-width-lt16 w ↦ omega arith ] in
     let room : at + 3 < length rows = omega (arith, enough, c.loop-four-test.true) in
-    let first = pieces_more rows sources width at (at + 1) c.loop-four.pieces.items c.push.new.self.items c.in_ok-a.a c.index-rows-at.result
+    let first = pieces_more rows sources width at (at + 1) c.loop-four.pieces.items c.push.new.self.items c.in_ok-a.field-0.a c.index-rows-at.result
     c.loop-four.invariant (omega (arith, room)) c.index-rows-at.is c.in_ok-a.ensures.first c.in_ok-push.ensures.items (omega arith) in
-    let second = pieces_more rows sources width (at + 1) (at + 2) c.push.new.self.items c.push-in-loop-four.new.self.items c.in_ok-a.b c.index-rows-at-in-loop-four.result
+    let second = pieces_more rows sources width (at + 1) (at + 2) c.push.new.self.items c.push-in-loop-four.new.self.items c.in_ok-a.field-0.b c.index-rows-at-in-loop-four.result
     first (omega (arith, room)) c.index-rows-at-in-loop-four.is c.in_ok-a.ensures.second c.in_ok-push-2.ensures.items (omega arith) in
-    let third = pieces_more rows sources width (at + 2) (at + 3) c.push-in-loop-four.new.self.items c.push-in-loop-four-2.new.self.items c.in_ok-a.c c.index-rows-at-in-loop-four-2.result
+    let third = pieces_more rows sources width (at + 2) (at + 3) c.push-in-loop-four.new.self.items c.push-in-loop-four-2.new.self.items c.in_ok-a.field-0.c c.index-rows-at-in-loop-four-2.result
     second (omega (arith, room)) c.index-rows-at-in-loop-four-2.is c.in_ok-a.ensures.third c.in_ok-push-3.ensures.items (omega arith) in
-    pieces_more rows sources width (at + 3) ((c.loop-four.four + 1) * 4) c.push-in-loop-four-2.new.self.items c.push-in-loop-four-3.new.self.items c.in_ok-a.d c.index-rows-at-in-loop-four-3.result
+    pieces_more rows sources width (at + 3) ((c.loop-four.four + 1) * 4) c.push-in-loop-four-2.new.self.items c.push-in-loop-four-3.new.self.items c.in_ok-a.field-0.d c.index-rows-at-in-loop-four-3.result
     third (omega (arith, room)) c.index-rows-at-in-loop-four-3.is c.in_ok-a.ensures.fourth c.in_ok-push-4.ensures.items (omega arith)
 
 pub loop-at-preserved : goal.loop-at-preserved
