@@ -15,6 +15,9 @@ no_source = record { ref_ptr = (0, 0); now = [] }
 pub contents_at : (sources : List (Bor (List ℕ))) (j : ℕ) → slice_index_or (contents sources) j [] ≡ (slice_index_or sources j no_source).now
 contents_at sources j = get_or-map (λ (source : Bor (List ℕ)). source.now) sources j no_source
 
+pub length-contents : (sources : List (Bor (List ℕ))) → length (contents sources) ≡ length sources
+length-contents sources = length-map {B = List ℕ} sources (λ (source : Bor (List ℕ)). source.now)
+
 pub column_at : (sources : List (Bor (List ℕ))) (place j : ℕ) → column (contents sources) place j ≡ slice_index (slice_index_or sources j no_source).now place
 column_at sources place j = ap (λ source. slice_index source place) (contents_at sources j)
 

@@ -1,5 +1,5 @@
 -- Sums of products in the field.
-use Rattle.std.specs.Prelude.{◌≡◌, ℕ, zero, suc, ◌+◌, ◌<◌, ◌≤◌, List, [], length, map, slice_index, slice_index_or, bit_xor}
+use Rattle.std.specs.Prelude.{◌≡◌, ℕ, zero, suc, ◌+◌, ◌<◌, ◌≤◌, List, [], length, map, take, slice_index, slice_index_or, bit_xor}
 use Rattle.std.specs.Borrow.{Bor}
 use Rattle.gz_field.specs.Field.{product}
 use Rattle.gz_lanes.specs.Lanes.{HasLanes}
@@ -61,3 +61,7 @@ pub record AreFour (a b c d : List ℕ) (sources : List (List ℕ)) (n : ℕ) (o
 pub record AreCombined (rows sources : List (List ℕ)) (width n : ℕ) (pieces : List (List ℕ)) : Type 0 where
   pub count : length pieces ≡ n
   pub pieces_are : (t : ℕ) → t < n → IsPiece (slice_index_or rows t []) sources width (slice_index_or pieces t [])
+
+-- copies of the first sources, each up to the same end
+pub record AreCopies (sources : List (List ℕ)) (end : ℕ) (copies : List (List ℕ)) : Type 0 where
+  pub each : (j : ℕ) → j < length copies → slice_index_or copies j [] ≡ take end (slice_index_or sources j [])

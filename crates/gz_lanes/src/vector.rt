@@ -1,14 +1,12 @@
 //! Sums of products over 16 bytes at once, with the sums in registers over all sources.
-ghost use Rattle.std.specs.Prelude.{◌≡◌, ℕ, ◌+◌, ◌*◌, ◌/◌, ◌%◌, ◌^◌, ◌<◌, ◌≤◌, length, map, slice_index, All, IfOk, IfSome, OnOk};
-ghost use Rattle.gz_lanes.specs.Combination.{combination, column, contents, combined_below, HasSums, IsCombined, IsSum, IsPiece, AreFour, AreCombined};
+ghost use Rattle.std.specs.Prelude.{◌≡◌, ℕ, ◌+◌, ◌/◌, ◌%◌, ◌^◌, ◌<◌, ◌≤◌, length, slice_index, All, IfSome};
+ghost use Rattle.gz_lanes.specs.Combination.{combination, column, contents, combined_below, HasSums, IsSum};
 ghost use Rattle.gz_lanes.specs.Lanes.{HasLanes};
 ghost use Rattle.gz_lanes.specs.Quads.{AreQuads};
 
 use crate::lanes::{high_halves, load, look_up, low_halves, store, sum, zeros};
-use crate::plain;
-use crate::quads::{quad_sums, quads_of};
+use crate::quads::quad_sums;
 use crate::rows::Row;
-use std::alloc::{AllocError, Global};
 use std::simd::prelude::*;
 
 /// Adds the products of the row's coefficient j with 16 bytes, which are given by their halves: those of source j from `at`
@@ -69,7 +67,7 @@ fn add_difference(
 
 /// The sums of one row over all sources, at the 16 places from `at` on.
 #[inline(always)]
-fn one_sum(row: &Row, sources: &[&[u8]], at: usize) -> u8x16
+pub(crate) fn one_sum(row: &Row, sources: &[&[u8]], at: usize) -> u8x16
     requires paired { length row.now ≡ length sources.now }
     requires some { 0 < length sources.now }
     requires inside { All (λ source. at + 16 ≤ length source) (contents sources.now) }
@@ -118,7 +116,7 @@ fn four_sums(
 
 /// The sums of four rows over all sources, at the 16 places from `at` on, by their constants where they have some.
 #[inline(always)]
-fn sums_of_four(
+pub(crate) fn sums_of_four(
     constants: &Option<Row>,
     rows: (&Row, &Row, &Row, &Row),
     sources: &[&[u8]],
@@ -141,51 +139,19 @@ fn sums_of_four(
 
 /// Writes 16 sums into a block of those from `at` on. `row` and `sources` are for the contract alone.
 #[inline(always)]
-fn put(sums: u8x16, block: &mut [u8], offset: usize, at: usize, row: &Row, sources: &[&[u8]])
+pub(crate) fn put(
+    sums: u8x16,
+    block: &mut [u8],
+    offset: usize,
+    at: usize,
+    row: &Row,
+    sources: &[&[u8]],
+)
     requires inside { offset + 16 ≤ length block.old }
     requires sums_are { IsSum row.now (contents sources.now) (at + offset) sums }
     ensures { HasSums row.now (contents sources.now) at offset block.old → HasSums row.now (contents sources.now) at (offset + 16) block.new }
 {
     store(sums, block, offset);
-}
-
-/// Adds to a piece those of the sums from `at` on that lie beyond its end. `row` and `sources` are for the contract alone.
-#[inline(always)]
-fn append(
-    sums: &[u8],
-    at: usize,
-    piece: &mut Vec<u8>,
-    row: &Row,
-    sources: &[&[u8]],
-) -> Result<(), AllocError>
-    requires begun { at ≤ length piece.old.items }
-    requires ended { length piece.old.items ≤ at + length sums.now }
-    requires sums_are { HasSums row.now (contents sources.now) at (length sums.now) sums.now }
-    requires before { IsCombined row.now (contents sources.now) piece.old.items (length piece.old.items) }
-    ensures { OnOk result (IsPiece row.now (contents sources.now) (at + length sums.now) piece.new.items) }
-{
-    piece.extend_from_slice(&sums[piece.len() - at..])?;
-    Ok(())
-}
-
-/// The same for 16 sums in a vector.
-#[inline(always)]
-fn append_vector(
-    sums: u8x16,
-    at: usize,
-    piece: &mut Vec<u8>,
-    row: &Row,
-    sources: &[&[u8]],
-) -> Result<(), AllocError>
-    requires begun { at ≤ length piece.old.items }
-    requires ended { length piece.old.items ≤ at + 16 }
-    requires sums_are { IsSum row.now (contents sources.now) at sums }
-    requires before { IsCombined row.now (contents sources.now) piece.old.items (length piece.old.items) }
-    ensures { OnOk result (IsPiece row.now (contents sources.now) (at + 16) piece.new.items) }
-{
-    let mut block = [0; 16];
-    put(sums, &mut block, 0, at, row, sources);
-    append(&block, at, piece, row, sources)
 }
 
 /// The sums of one row over all sources, at the 64 places from `at` on.
@@ -221,7 +187,7 @@ fn four_places(row: &Row, sources: &[&[u8]], at: usize) -> (u8x16, u8x16, u8x16,
 
 /// The same, as bytes.
 #[inline(always)]
-fn one_block(row: &Row, sources: &[&[u8]], at: usize) -> [u8; 64]
+pub(crate) fn one_block(row: &Row, sources: &[&[u8]], at: usize) -> [u8; 64]
     requires paired { length row.now ≡ length sources.now }
     requires some { 0 < length sources.now }
     requires inside { All (λ source. at + 64 ≤ length source) (contents sources.now) }
@@ -237,64 +203,18 @@ fn one_block(row: &Row, sources: &[&[u8]], at: usize) -> [u8; 64]
     block
 }
 
-/// Adds the sums of one row to a piece, 64 at a time, so that fewer than 64 are left to the given end.
-fn extend_by_blocks(
-    row: &Row,
-    sources: &[&[u8]],
-    end: usize,
-    piece: &mut Vec<u8>,
-) -> Result<(), AllocError>
-    requires paired { length row.now ≡ length sources.now }
-    requires some { 0 < length sources.now }
-    requires inside { All (λ source. end ≤ length source) (contents sources.now) }
-    requires before { length piece.old.items ≤ end }
-    requires combined { IsCombined row.now (contents sources.now) piece.old.items (length piece.old.items) }
-    ensures { OnOk result ((length piece.new.items ≤ end) × IsCombined row.now (contents sources.now) piece.new.items (length piece.new.items)) }
-{
-    for _block in 0..(end - piece.len()) / 64 {
-        let at = piece.len();
-        let block = one_block(row, sources, at);
-        append(&block, at, piece, row, sources)?;
-    }
-    Ok(())
-}
-
-/// Adds the sums of one row to a piece up to the given end. The last block of 16 ends there, so that it may sum some places again.
-fn extend_to(
-    row: &Row,
-    sources: &[&[u8]],
-    end: usize,
-    piece: &mut Vec<u8>,
-) -> Result<(), AllocError>
-    requires paired { length row.now ≡ length sources.now }
-    requires some { 0 < length sources.now }
-    requires inside { All (λ source. end ≤ length source) (contents sources.now) }
-    requires long { 16 ≤ end }
-    requires before { length piece.old.items ≤ end }
-    requires combined { IsCombined row.now (contents sources.now) piece.old.items (length piece.old.items) }
-    ensures { OnOk result (IsPiece row.now (contents sources.now) end piece.new.items) }
-{
-    extend_by_blocks(row, sources, end, piece)?;
-    for _block in 0..(end - piece.len()).div_ceil(16) {
-        let at = piece.len().min(end - 16);
-        let sums = one_sum(row, sources, at);
-        append_vector(sums, at, piece, row, sources)?;
-    }
-    Ok(())
-}
-
 /// Sums of four rows at 64 places.
 #[derive(Clone, Copy)]
-struct Blocks {
-    a: [u8; 64],
-    b: [u8; 64],
-    c: [u8; 64],
-    d: [u8; 64],
+pub(crate) struct Blocks {
+    pub(crate) a: [u8; 64],
+    pub(crate) b: [u8; 64],
+    pub(crate) c: [u8; 64],
+    pub(crate) d: [u8; 64],
 }
 
 /// The sums of four rows over all sources, at the 64 places from `at` on.
 #[inline(always)]
-fn four_blocks(
+pub(crate) fn four_blocks(
     constants: &Option<Row>,
     rows: (&Row, &Row, &Row, &Row),
     sources: &[&[u8]],
@@ -328,141 +248,4 @@ fn four_blocks(
         c: block_c,
         d: block_d,
     }
-}
-
-/// Four pieces of one length that hold the combinations of four rows so far.
-#[derive(Drop)]
-struct Four {
-    a: Vec<u8>,
-    b: Vec<u8>,
-    c: Vec<u8>,
-    d: Vec<u8>,
-}
-
-/// Adds the sums of four rows to their pieces, 64 at a time, so that fewer than 64 are left to the given end.
-fn extend_four_by_blocks(
-    constants: &Option<Row>,
-    rows: (&Row, &Row, &Row, &Row),
-    sources: &[&[u8]],
-    end: usize,
-    pieces: &mut Four,
-) -> Result<(), AllocError>
-    requires quads { IfSome constants.now (λ c. AreQuads c rows.0.now rows.1.now rows.2.now rows.3.now) }
-    requires paired { (length rows.0.now ≡ length sources.now) × (length rows.1.now ≡ length sources.now) × (length rows.2.now ≡ length sources.now) × (length rows.3.now ≡ length sources.now) }
-    requires inside { All (λ source. end ≤ length source) (contents sources.now) }
-    requires before { length pieces.old.a.items ≤ end }
-    requires pieces_are { AreFour rows.0.now rows.1.now rows.2.now rows.3.now (contents sources.now) (length pieces.old.a.items) pieces.old.a.items pieces.old.b.items pieces.old.c.items pieces.old.d.items }
-    ensures { OnOk result ((length pieces.new.a.items ≤ end) × AreFour rows.entry.0.now rows.entry.1.now rows.entry.2.now rows.entry.3.now (contents sources.now) (length pieces.new.a.items) pieces.new.a.items pieces.new.b.items pieces.new.c.items pieces.new.d.items) }
-{
-    let (a, b, c, d) = rows;
-    for _block in 0..(end - pieces.a.len()) / 64 {
-        let at = pieces.a.len();
-        let blocks = four_blocks(constants, rows, sources, at);
-        append(&blocks.a, at, &mut pieces.a, a, sources)?;
-        append(&blocks.b, at, &mut pieces.b, b, sources)?;
-        append(&blocks.c, at, &mut pieces.c, c, sources)?;
-        append(&blocks.d, at, &mut pieces.d, d, sources)?;
-    }
-    Ok(())
-}
-
-/// Adds the sums of four rows to their pieces up to the given end. The last block of 16 ends there, as with one row.
-fn extend_four_to(
-    constants: &Option<Row>,
-    rows: (&Row, &Row, &Row, &Row),
-    sources: &[&[u8]],
-    end: usize,
-    pieces: &mut Four,
-) -> Result<(), AllocError>
-    requires quads { IfSome constants.now (λ c. AreQuads c rows.0.now rows.1.now rows.2.now rows.3.now) }
-    requires paired { (length rows.0.now ≡ length sources.now) × (length rows.1.now ≡ length sources.now) × (length rows.2.now ≡ length sources.now) × (length rows.3.now ≡ length sources.now) }
-    requires inside { All (λ source. end ≤ length source) (contents sources.now) }
-    requires long { 16 ≤ end }
-    requires before { length pieces.old.a.items ≤ end }
-    requires pieces_are { AreFour rows.0.now rows.1.now rows.2.now rows.3.now (contents sources.now) (length pieces.old.a.items) pieces.old.a.items pieces.old.b.items pieces.old.c.items pieces.old.d.items }
-    ensures { OnOk result (AreFour rows.entry.0.now rows.entry.1.now rows.entry.2.now rows.entry.3.now (contents sources.now) end pieces.new.a.items pieces.new.b.items pieces.new.c.items pieces.new.d.items) }
-{
-    let (a, b, c, d) = rows;
-    extend_four_by_blocks(constants, rows, sources, end, pieces)?;
-    for _block in 0..(end - pieces.a.len()).div_ceil(16) {
-        let at = pieces.a.len().min(end - 16);
-        let (of_a, of_b, of_c, of_d) = sums_of_four(constants, rows, sources, at);
-        append_vector(of_a, at, &mut pieces.a, a, sources)?;
-        append_vector(of_b, at, &mut pieces.b, b, sources)?;
-        append_vector(of_c, at, &mut pieces.c, c, sources)?;
-        append_vector(of_d, at, &mut pieces.d, d, sources)?;
-    }
-    Ok(())
-}
-
-/// A piece of the width that holds the combinations of one row.
-fn combined(
-    alloc: Global,
-    row: &Row,
-    sources: &[&[u8]],
-    width: usize,
-) -> Result<Vec<u8>, AllocError>
-    requires paired { length row.now ≡ length sources.now }
-    requires widths { All (λ source. length source ≡ width) (contents sources.now) }
-    ensures { IfOk result (λ piece. IsPiece row.now (contents sources.now) width piece.items) }
-{
-    if width < 16 || sources.is_empty() {
-        let mut piece = vec![in alloc; 0; width]?;
-        plain::combine(row.coefficients(), sources, &mut piece);
-        return Ok(piece);
-    }
-    let mut piece = Vec::with_capacity(alloc, width)?;
-    extend_to(row, sources, width, &mut piece)?;
-    Ok(piece)
-}
-
-/// The pieces of four rows at a width of at least 16.
-fn combined_four(
-    alloc: Global,
-    rows: (&Row, &Row, &Row, &Row),
-    sources: &[&[u8]],
-    width: usize,
-) -> Result<Four, AllocError>
-    requires paired { (length rows.0.now ≡ length sources.now) × (length rows.1.now ≡ length sources.now) × (length rows.2.now ≡ length sources.now) × (length rows.3.now ≡ length sources.now) }
-    requires widths { All (λ source. length source ≡ width) (contents sources.now) }
-    requires long { 16 ≤ width }
-    ensures { IfOk result (λ pieces. AreFour rows.entry.0.now rows.entry.1.now rows.entry.2.now rows.entry.3.now (contents sources.now) width pieces.a.items pieces.b.items pieces.c.items pieces.d.items) }
-{
-    let constants = quads_of(alloc, rows)?;
-    let mut pieces = Four {
-        a: Vec::with_capacity(alloc, width)?,
-        b: Vec::with_capacity(alloc, width)?,
-        c: Vec::with_capacity(alloc, width)?,
-        d: Vec::with_capacity(alloc, width)?,
-    };
-    extend_four_to(&constants, rows, sources, width, &mut pieces)?;
-    Ok(pieces)
-}
-
-/// A piece of the width for each row, with the combinations of the sources' bytes at each place.
-pub fn combine_rows(
-    alloc: Global,
-    rows: &[Row],
-    sources: &[&[u8]],
-    width: usize,
-) -> Result<Vec<Vec<u8>>, AllocError>
-    requires paired { All (λ row. length row ≡ length sources.now) rows.now }
-    requires widths { All (λ source. length source ≡ width) (contents sources.now) }
-    ensures { IfOk result (λ pieces. AreCombined rows.now (contents sources.now) width (length rows.now) (map (λ piece. piece.items) pieces.items)) }
-{
-    let mut pieces = Vec::with_capacity(alloc, rows.len())?;
-    let fours = if width < 16 { 0 } else { rows.len() / 4 };
-    for four in 0..fours {
-        let at = four * 4;
-        let group = (&rows[at], &rows[at + 1], &rows[at + 2], &rows[at + 3]);
-        let Four { a, b, c, d } = combined_four(alloc, group, sources, width)?;
-        pieces.push(a)?;
-        pieces.push(b)?;
-        pieces.push(c)?;
-        pieces.push(d)?;
-    }
-    for at in fours * 4..rows.len() {
-        pieces.push(combined(alloc, &rows[at], sources, width)?)?;
-    }
-    Ok(pieces)
 }

@@ -1,5 +1,5 @@
 use Rattle.std.proofs.Common.{arith}
-use Rattle.gz_lanes.proofs.vector.extend_by_blocks.Goals as goal
+use Rattle.gz_lanes.proofs.pieces.extend_by_blocks.Goals as goal
 
 pub one_block-block-requires-clause-inside : goal.one_block-block-requires-clause-inside
 one_block-block-requires-clause-inside c k d l =
