@@ -110,7 +110,7 @@ fn each_status_of_a_schedule(rt: HostRuntime) -> Result<(), Fail> {
             "done",
             "2.1 put b - 3 15 ok 1\n1.1 put b ff 16 28 ok 2\n2.2 get b - 29 35 bytes 2 1.1 ff\nend 3 35 0\n",
         ),
-        ("session\ndelete 1 a\n", 7, "line 2: unbuilt", ""),
+        ("session\ngetat 1 a 1\n", 7, "line 2: unbuilt", ""),
         ("session\npat 1 a\n", 7, "line 2: unbuilt", ""),
         (
             "session\nput 0 a x:01\nsettle 1\n",
@@ -150,11 +150,36 @@ fn events_in_any_order(rt: HostRuntime) -> Result<(), Fail> {
         ),
         (
             "session\nput 1 a x:0102\ntake 1\ntake 2\ntake 3\ndeliver 4\ncrash 1\nsession\nget 2 a\nsettle 2\n",
-            "1.1 put a 0102 2 - open\n2.1 get a - 12 18 unsettled 1\nend 2 18 0\n",
+            "1.1 put a 0102 2 - open\n2.1 get a - 12 28 bytes 1 1.1 0102\nend 2 28 0\n",
+        ),
+        (
+            "session\nput 1 a x:01\nsettle 1\ndelete 1 a\nsettle 1\nget 1 a\nsettle 1\n",
+            "1.1 put a 01 2 14 ok 1\n1.2 delete a - 15 27 ok 2\n1.3 get a - 28 34 gone 2 1.2\nend 3 34 0\n",
         ),
         (
             "put 2 a x:01\nsession\nput 1 a x:02\nput 1 b x:03\ndrain 1\nreply 1 0\nreply 1 1\nreply 1 1\ndeliver 0\ngiveup 4\n",
             "1.1 put a 02 3 - open\nend 1 12 6\n",
+        ),
+    ] {
+        check(&rt, rt.alloc(), &played(text, 0, "done", log))?;
+    }
+    Ok(())
+}
+
+#[test]
+fn puts_that_race_or_are_cut_off(rt: HostRuntime) -> Result<(), Fail> {
+    for (text, log) in [
+        (
+            "session\nsession\nput 1 a x:01\nput 2 a x:02\ntake 1\ntake 2\ntake 3\ntake 4\ntake 5\ntake 6\ndeliver 7\ndeliver 11\ndeliver 9\nsettle 1\nsettle 2\nget 1 a\nsettle 1\n",
+            "1.1 put a 01 3 35 ok 1\n2.1 put a 02 4 62 ok 2\n1.2 get a - 63 69 bytes 2 2.1 02\nend 3 69 0\n",
+        ),
+        (
+            "session\nput 1 a x:01\nsettle 1\nput 1 a x:02\ntake 10\ntake 11\ntake 12\ncrash 1\nsession\nget 2 a\nsettle 2\ndeliver 13\nget 2 a\nsettle 2\n",
+            "1.1 put a 01 2 14 ok 1\n1.2 put a 02 15 - open\n2.1 get a - 24 30 bytes 1 1.1 01\n2.2 get a - 32 48 bytes 2 1.2 02\nend 4 48 0\n",
+        ),
+        (
+            "session\nput 1 a x:0102\ntake 1\ntake 2\ntake 3\ndeliver 4\ncrash 1\nsession\nget 2 a\nsettle 2\nget 2 a\nsettle 2\n",
+            "1.1 put a 0102 2 - open\n2.1 get a - 12 28 bytes 1 1.1 0102\n2.2 get a - 29 33 bytes 1 1.1 0102\nend 3 33 0\n",
         ),
     ] {
         check(&rt, rt.alloc(), &played(text, 0, "done", log))?;
