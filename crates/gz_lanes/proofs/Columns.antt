@@ -6,6 +6,7 @@ use Rattle.std.proofs.Math.ListN.{get_or-map}
 use Rattle.std.proofs.lemmas.List.{length-map}
 use Rattle.gz_field.specs.Field.{product}
 use Rattle.gz_lanes.specs.Combination.{contents, column, combination}
+use Rattle.gz_lanes.specs.Lanes.{HasLanes}
 
 -- a source past the end
 abbrev pub no_source : Bor (List ℕ)
@@ -13,6 +14,9 @@ no_source = record { ref_ptr = (0, 0); now = [] }
 
 pub contents_at : (sources : List (Bor (List ℕ))) (j : ℕ) → slice_index_or (contents sources) j [] ≡ (slice_index_or sources j no_source).now
 contents_at sources j = get_or-map (λ (source : Bor (List ℕ)). source.now) sources j no_source
+
+pub length-contents : (sources : List (Bor (List ℕ))) → length (contents sources) ≡ length sources
+length-contents sources = length-map {B = List ℕ} sources (λ (source : Bor (List ℕ)). source.now)
 
 pub column_at : (sources : List (Bor (List ℕ))) (place j : ℕ) → column (contents sources) place j ≡ slice_index (slice_index_or sources j no_source).now place
 column_at sources place j = ap (λ source. slice_index source place) (contents_at sources j)
@@ -33,3 +37,7 @@ combination_more n c sources place old new before added =
     (added
     ∙ ap (λ x. bit_xor x (product (slice_index c n) (slice_index (slice_index_or sources n no_source).now place))) before
     ∙ ap (λ x. bit_xor (combination n (slice_index c) (column (contents sources) place)) (product (slice_index c n) x)) (sym (column_at sources place n)))
+
+-- what was loaded from source j
+pub loaded : (sources : List (Bor (List ℕ))) (at j : ℕ) (v : List ℕ) → HasLanes v (λ k. slice_index (slice_index_or sources j no_source).now (at + k)) → HasLanes v (λ k. column (contents sources) (at + k) j)
+loaded sources at j v V = record { long = V.long; each = λ k l. V.each k l ∙ sym (column_at sources (at + k) j) }

@@ -1,13 +1,32 @@
 -- The products of 16 bytes with a coefficient, by its tables.
-use Rattle.std.proofs.Common.{◌≡◌, ℕ, ◌+◌, ◌*◌, ◌/◌, ◌%◌, ◌-◌, inl, inr, ◌<◌, ◌≤◌, List, [], ◌∷◌, ◌++◌, Vec, map, length, get_or, slice_index, sym, ◌∙◌, ap, subst, arith, add-one, bit_xor}
+use Rattle.std.proofs.Common.{◌≡◌, ℕ, ◌+◌, ◌*◌, ◌/◌, ◌%◌, ◌-◌, inl, inr, ◌<◌, List, [], ◌∷◌, ◌++◌, Vec, map, length, get_or, slice_index, sym, ◌∙◌, ap, subst, arith, add-one, bit_xor}
 use Rattle.std.specs.declared.alloc.Global.{Global}
 use Rattle.std.proofs.lemmas.List.{map_push, get_or_default}
 use Rattle.std.proofs.lemmas.Bool.{cases_lt}
 use Rattle.gz_field.specs.Field.{product}
+use Rattle.gz_field.proofs.Additive.{xor_both}
 use Rattle.gz_field.proofs.Algebra.{product_by_halves}
 use Rattle.gz_lanes.proofs.Pushes.{each_pushed, length_pushed}
-use Rattle.gz_lanes.specs.Combination.{combination, column, IsCombined, IsSum, IsPiece, AreCombined}
+use Rattle.gz_lanes.specs.Combination.{combination, column, HasSums, IsSum, IsPiece, AreCombined}
 use Rattle.gz_lanes.specs.Lanes.{HasLanes, AreTables, IsStored}
+
+-- the products of a coefficient with 16 bytes, by the tables of its products
+pub products_are : (c : ℕ) (bytes low high low_table high_table of_low of_high both : List ℕ) → HasLanes low_table (product c) → HasLanes high_table (λ k. product c (k * 16))
+    → HasLanes low (λ k. slice_index bytes k % 16) → HasLanes high (λ k. slice_index bytes k / 16) → ((k : ℕ) → k < 16 → slice_index high k < 16)
+    → HasLanes of_low (λ k. slice_index low_table (slice_index low k)) → HasLanes of_high (λ k. slice_index high_table (slice_index high k))
+    → HasLanes both (λ k. bit_xor (slice_index of_low k) (slice_index of_high k)) → HasLanes both (λ k. product c (slice_index bytes k))
+products_are c bytes low high low_table high_table of_low of_high both M N L H small F G B = record {
+  long = B.long;
+  each = λ k l.
+      let b = slice_index bytes k in
+      let low_is : b % 16 < 16 = omega arith in
+      let high_is : b / 16 < 16 = subst (λ x. x < 16) (H.each k l) (small k l) in
+      B.each k l
+      ∙ xor_both _ _ _ _
+      (F.each k l ∙ ap (slice_index low_table) (L.each k l) ∙ M.each (b % 16) low_is)
+      (G.each k l ∙ ap (slice_index high_table) (H.each k l) ∙ N.each (b / 16) high_is)
+      ∙ sym (product_by_halves c b);
+}
 
 -- one more product at a lane
 lane_more : (j : ℕ) (c v : ℕ → ℕ) (old new : ℕ) → old ≡ combination j c v → new ≡ bit_xor old (product (c j) (v j)) → new ≡ combination (j + 1) c v
@@ -53,17 +72,19 @@ module _ (coefficients tables : List ℕ) (n j : ℕ) (sources : List (List ℕ)
         lane_more j (slice_index coefficients) (column sources (at + k)) (slice_index so_far k) (slice_index result k) (S.each k l) (R.each k l ∙ ap (bit_xor (slice_index so_far k)) whole);
   }
 
--- 16 sums that are written from `at` on, after those before
-pub stored_more : (coefficients : List ℕ) (sources : List (List ℕ)) (v old new : List ℕ) (at done : ℕ) → IsStored v old new at → IsSum coefficients sources at v
-    → at ≤ done → IsCombined coefficients sources old done → IsCombined coefficients sources new (at + 16)
-stored_more coefficients sources v old new at done S sums reached before place l =
-    elim (cases_lt place at) [
-      | inl early ↦ S.below place early ∙ before place (omega arith)
+-- 16 sums that are written into a block, after those before
+pub stored_more : (coefficients : List ℕ) (sources : List (List ℕ)) (v old new : List ℕ) (at offset : ℕ) → IsStored v old new offset → IsSum coefficients sources (at + offset) v
+    → HasSums coefficients sources at offset old → HasSums coefficients sources at (offset + 16) new
+stored_more coefficients sources v old new at offset S sums before i l =
+    elim (cases_lt i offset) [
+      | inl early ↦ S.below i early ∙ before i early
       | inr late ↦
-          let lane : place - at < 16 = omega arith in
-          let back : at + (place - at) ≡ place = omega arith in
-          let P : ℕ → Type 0 = λ p. slice_index new p ≡ combination (length coefficients) (slice_index coefficients) (column sources p) in
-          subst P back (S.inside (place - at) lane ∙ sums.each (place - at) lane)
+          let lane : i - offset < 16 = omega arith in
+          let back : offset + (i - offset) ≡ i = omega arith in
+          let there : at + offset + (i - offset) ≡ at + i = omega arith in
+          let P : ℕ → Type 0 = λ p. slice_index new p ≡ combination (length coefficients) (slice_index coefficients) (column sources (at + i)) in
+          let Q : ℕ → Type 0 = λ p. slice_index v (i - offset) ≡ combination (length coefficients) (slice_index coefficients) (column sources p) in
+          subst P back (S.inside (i - offset) lane ∙ subst Q there (sums.each (i - offset) lane))
     ]
 
 -- one more piece, of the next row

@@ -1,8 +1,11 @@
 -- What the operations on vectors of 16 bytes hold at each lane.
-use Rattle.std.proofs.Common.{◌≡◌, ℕ, ◌+◌, ◌*◌, ◌/◌, ◌<◌, List, length, get_or, replicate, refl, sym, ◌∙◌, ap, arith, w8, Fits}
+use Rattle.std.proofs.Common.{zero, suc, bit_xor, slice_index, ◌≡◌, ℕ, ◌+◌, ◌*◌, ◌/◌, ◌<◌, List, length, get_or, replicate, refl, sym, ◌∙◌, ap, arith, w8, Fits}
 use Rattle.std.specs.Simd.Lanes.{zip2, Each1}
 use Rattle.std.proofs.lemmas.Simd.{length-zip2, get_or-zip2, get_or-replicate, length-swz_l, get_or-swz_l_below, swz_l, SwzOk, SwzOk-from_below, Each1-get_or, Each1-from_get_or}
+use Rattle.gz_field.specs.Field.{product}
+use Rattle.gz_field.proofs.Additive.{xor_both}
 use Rattle.gz_lanes.specs.Lanes.{HasLanes}
+use Rattle.gz_lanes.specs.Quads.{lifted}
 
 -- an operator on two vectors
 pub zipped : (f : ℕ → ℕ → ℕ) (a b : List ℕ) → length a ≡ 16 → length b ≡ 16 → HasLanes (zip2 f a b) (λ k. f (get_or a k 0) (get_or b k 0))
@@ -31,3 +34,26 @@ module _ (places : List ℕ) (long : length places ≡ 16) (small : (k : ℕ) �
         let block : 16 * ((0 + k) / 16) + get_or places k 0 ≡ get_or places k 0 = omega arith in
         get_or-swz_l_below w8 16 table 0 places k (omega arith) (small k l) ∙ ap (λ j. get_or table j 0) block;
   }
+
+-- a sum of vectors, and a first of a pair lifted, by what the vectors hold
+pub summed : (a b r : List ℕ) (f g : ℕ → ℕ) → HasLanes a f → HasLanes b g → HasLanes r (λ k. bit_xor (slice_index a k) (slice_index b k)) → HasLanes r (λ k. bit_xor (f k) (g k))
+summed a b r f g A B R = record { long = R.long; each = λ k l. R.each k l ∙ xor_both _ _ _ _ (A.each k l) (B.each k l) }
+
+pub lifted_lanes : (x : ℕ) (a b r : List ℕ) (f g : ℕ → ℕ) → HasLanes a f → HasLanes b g → HasLanes r (λ k. lifted x (slice_index a k) (slice_index b k)) → HasLanes r (λ k. lifted x (f k) (g k))
+lifted_lanes x a b r f g A B R = record {
+  long = R.long;
+  each = λ k l. R.each k l ∙ xor_both _ _ _ _ (A.each k l) (ap (product x) (xor_both _ _ _ _ (A.each k l) (B.each k l)));
+}
+
+-- one more term at each lane
+pub added : (old more new : List ℕ) (f g h : ℕ → ℕ) → HasLanes old f → HasLanes more g → HasLanes new (λ k. bit_xor (slice_index old k) (slice_index more k)) → ((k : ℕ) → k < 16 → bit_xor (f k) (g k) ≡ h k)
+    → HasLanes new h
+added old more new f g h O M N sums = record { long = N.long; each = λ k l. N.each k l ∙ xor_both _ _ _ _ (O.each k l) (M.each k l) ∙ sums k l }
+
+-- what holds of each number below four
+pub each_of_four : (P : ℕ → Type 0) → P 0 → P 1 → P 2 → P 3 → (r : ℕ) → r < 4 → P r
+each_of_four P a b c d zero l = a
+each_of_four P a b c d (suc zero) l = b
+each_of_four P a b c d (suc (suc zero)) l = c
+each_of_four P a b c d (suc (suc (suc zero))) l = d
+each_of_four P a b c d (suc (suc (suc (suc r)))) l = absurd (omega arith)

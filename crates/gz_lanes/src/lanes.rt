@@ -1,7 +1,10 @@
 //! Vectors of 16 bytes, one operation each.
 ghost use Rattle.std.specs.Prelude.{◌≡◌, ℕ, ◌+◌, ◌/◌, ◌%◌, ◌<◌, ◌≤◌, length, slice_index, bit_xor};
+ghost use Rattle.std.specs.Prelude.{◌*◌};
+ghost use Rattle.gz_field.specs.Field.{product};
 ghost use Rattle.gz_lanes.specs.Lanes.{HasLanes, IsStored};
 
+use gz_field::{products_with_high, products_with_low};
 use std::simd::prelude::*;
 
 #[inline(always)]
@@ -14,7 +17,8 @@ pub(crate) fn zeros() -> u8x16
 #[inline(always)]
 pub(crate) fn load(bytes: &[u8], at: usize) -> u8x16
     requires { at + 16 ≤ length bytes.now }
-    ensures { HasLanes result (λ k. slice_index bytes.now (at + k)) }
+    ensures lanes { HasLanes result (λ k. slice_index bytes.now (at + k)) }
+    ensures are_bytes { (k : ℕ) → k < 16 → slice_index result k < 256 }
 {
     u8x16::from_slice(&bytes[at..])
 }
@@ -56,4 +60,27 @@ pub(crate) fn sum(a: u8x16, b: u8x16) -> u8x16
     ensures { HasLanes result (λ k. bit_xor (slice_index a k) (slice_index b k)) }
 {
     a ^ b
+}
+
+/// The products of a coefficient with each byte, by the tables of its products with 0 to 15 and with the multiples of 16.
+#[inline(always)]
+pub(crate) fn products(coefficient: u8, low_table: u8x16, high_table: u8x16, bytes: u8x16) -> u8x16
+    requires low { HasLanes low_table (product coefficient) }
+    requires high { HasLanes high_table (λ k. product coefficient (k * 16)) }
+    ensures lanes { HasLanes result (λ k. product coefficient (slice_index bytes k)) }
+    ensures is_byte { coefficient < 256 }
+{
+    let of_low = look_up(low_table, low_halves(bytes));
+    let of_high = look_up(high_table, high_halves(bytes));
+    sum(of_low, of_high)
+}
+
+/// The products of any coefficient with each byte.
+#[inline(always)]
+pub(crate) fn product_by(coefficient: u8, bytes: u8x16) -> u8x16
+    ensures { HasLanes result (λ k. product coefficient (slice_index bytes k)) }
+{
+    let low_table = load(products_with_low(coefficient), 0);
+    let high_table = load(products_with_high(coefficient), 0);
+    products(coefficient, low_table, high_table, bytes)
 }

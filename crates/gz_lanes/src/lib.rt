@@ -2,9 +2,11 @@
 #![tactic(auto)]
 
 mod lanes;
+mod pieces;
 pub mod plain;
+mod quads;
 mod rows;
 mod vector;
 
+pub use pieces::{combine_rows, copy_and_combine};
 pub use rows::Row;
-pub use vector::combine_rows;

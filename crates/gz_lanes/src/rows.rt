@@ -1,27 +1,33 @@
 //! Coefficients with the tables that multiply by them.
-ghost use Rattle.std.specs.Prelude.{◌≡◌, IfOk, length};
-ghost use Rattle.gz_lanes.specs.Lanes.{AreTables};
+ghost use Rattle.std.specs.Prelude.{◌≡◌, ◌<◌, IfOk, length, slice_index};
+ghost use Rattle.gz_field.specs.Field.{product};
+ghost use Rattle.gz_lanes.specs.Combination.{sum_below};
+ghost use Rattle.gz_lanes.specs.Lanes.{AreTables, HasLanes};
 
-use gz_field::{products_with_high, products_with_low};
+use crate::lanes::{load, product_by, products};
+use gz_field::{add, products_with_high, products_with_low};
 use std::alloc::{AllocError, Global};
 use std::marker::Model;
+use std::simd::prelude::*;
 
-/// A row of coefficients, one for each source, with 32 bytes of tables for each. A contract sees the coefficients.
+/// A row of coefficients, one for each source, with their sum, and 32 bytes of tables for each. A contract sees the coefficients.
 #[derive(Drop)]
 pub struct Row {
     coefficients: Vec<u8>,
+    total: u8,
     pub(crate) tables: Vec<u8>,
 }
 
 impl Model for Row {
-    ghost use Rattle.std.specs.Prelude.{ℕ, List, length};
+    ghost use Rattle.std.specs.Prelude.{◌≡◌, ℕ, List, length, slice_index};
+    ghost use Rattle.gz_lanes.specs.Combination.{sum_below};
     ghost use Rattle.gz_lanes.specs.Lanes.{AreTables};
 
     ghost Value = { List ℕ };
 
     ghost view = { λ row. row.coefficients.items };
 
-    ghost invariant = { λ row. AreTables row.coefficients.items row.tables.items (length row.coefficients.items) };
+    ghost invariant = { λ row. AreTables row.coefficients.items row.tables.items (length row.coefficients.items) × (row.total ≡ sum_below (length row.coefficients.items) (slice_index row.coefficients.items)) };
 }
 
 impl Row {
@@ -29,8 +35,10 @@ impl Row {
         ensures { IfOk result (λ row. row ≡ coefficients.items) }
     {
         let tables = tables_of(alloc, &coefficients)?;
+        let total = total_of(&coefficients);
         Ok(Row {
             coefficients,
+            total,
             tables,
         })
     }
@@ -40,6 +48,42 @@ impl Row {
     {
         &self.coefficients
     }
+
+    /// The products of coefficient j with 16 bytes.
+    #[inline(always)]
+    pub(crate) fn times(&self, j: usize, bytes: u8x16) -> u8x16
+        requires { j < length self.now }
+        ensures lanes { HasLanes result (λ k. product (slice_index self.now j) (slice_index bytes k)) }
+        ensures is_byte { slice_index self.now j < 256 }
+    {
+        let low_table = load(&self.tables, j * 32);
+        let high_table = load(&self.tables, j * 32 + 16);
+        products(self.coefficients[j], low_table, high_table, bytes)
+    }
+
+    /// The products of the sum of all coefficients with 16 bytes.
+    #[inline(always)]
+    pub(crate) fn times_total(&self, bytes: u8x16) -> u8x16
+        ensures { HasLanes result (λ k. product (sum_below (length self.now) (slice_index self.now)) (slice_index bytes k)) }
+    {
+        if self.total == 1 {
+            bytes
+        } else {
+            product_by(self.total, bytes)
+        }
+    }
+}
+
+/// The sum of the coefficients.
+#[tactic(auto, unfolding(crate::specs::Combination::sum_below))]
+fn total_of(coefficients: &[u8]) -> u8
+    ensures { result ≡ sum_below (length coefficients.now) (slice_index coefficients.now) }
+{
+    let mut total = 0;
+    for coefficient in coefficients {
+        total = add(total, *coefficient);
+    }
+    total
 }
 
 /// The tables of each coefficient, one after another.

@@ -1,13 +1,12 @@
 //! Sums of products over 16 bytes at once, with the sums in registers over all sources.
-ghost use Rattle.std.specs.Prelude.{◌≡◌, ℕ, ◌+◌, ◌/◌, ◌%◌, ◌<◌, ◌≤◌, length, slice_index, All};
-ghost use Rattle.gz_lanes.specs.Combination.{combination, column, contents, IsCombined, IsSum, IsPiece, AreCombined};
-ghost use Rattle.std.specs.Prelude.{◌*◌, ◌^◌, map, IfOk};
+ghost use Rattle.std.specs.Prelude.{◌≡◌, ℕ, ◌+◌, ◌/◌, ◌%◌, ◌^◌, ◌<◌, ◌≤◌, length, slice_index, All, IfSome};
+ghost use Rattle.gz_lanes.specs.Combination.{combination, column, contents, combined_below, HasSums, IsSum};
 ghost use Rattle.gz_lanes.specs.Lanes.{HasLanes};
+ghost use Rattle.gz_lanes.specs.Quads.{AreQuads};
 
 use crate::lanes::{high_halves, load, look_up, low_halves, store, sum, zeros};
-use crate::plain;
+use crate::quads::quad_sums;
 use crate::rows::Row;
-use std::alloc::{AllocError, Global};
 use std::simd::prelude::*;
 
 /// Adds the products of the row's coefficient j with 16 bytes, which are given by their halves: those of source j from `at`
@@ -34,42 +33,50 @@ fn add_products(
     sum(so_far, sum(of_low, of_high))
 }
 
-/// The same, with the bytes as they are.
+/// Begins the sums of one row: as if all sources held the first one's bytes, which are given. `sources` and `at` are for the contract
+/// alone.
 #[inline(always)]
-fn add_source(
+fn begin(row: &Row, base: u8x16, sources: &[&[u8]], at: usize) -> u8x16
+    requires some { 0 < length row.now }
+    requires base_is { HasLanes base (λ k. column (contents sources.now) (at + k) 0) }
+    ensures { HasLanes result (λ k. combined_below 1 row.now (column (contents sources.now) (at + k))) }
+{
+    row.times_total(base)
+}
+
+/// Adds the products of the row's coefficient j with the differences of source j from the first one.
+#[inline(always)]
+fn add_difference(
     row: &Row,
     j: usize,
-    bytes: u8x16,
-    so_far: u8x16,
+    base: u8x16,
+    below: u8x16,
     sources: &[&[u8]],
     at: usize,
 ) -> u8x16
     requires within { j < length row.now }
-    requires bytes_are { HasLanes bytes (λ k. column (contents sources.now) (at + k) j) }
-    requires so_far_is { HasLanes so_far (λ k. combination j (slice_index row.now) (column (contents sources.now) (at + k))) }
-    ensures { HasLanes result (λ k. combination (j + 1) (slice_index row.now) (column (contents sources.now) (at + k))) }
+    requires paired { length row.now ≡ length sources.now }
+    requires inside { All (λ source. at + 16 ≤ length source) (contents sources.now) }
+    requires base_is { HasLanes base (λ k. column (contents sources.now) (at + k) 0) }
+    requires below_is { HasLanes below (λ k. combined_below j row.now (column (contents sources.now) (at + k))) }
+    ensures { HasLanes result (λ k. combined_below (j + 1) row.now (column (contents sources.now) (at + k))) }
 {
-    add_products(
-        row,
-        j,
-        low_halves(bytes),
-        high_halves(bytes),
-        so_far,
-        sources,
-        at,
-    )
+    let difference = sum(load(sources[j], at), base);
+    sum(below, row.times(j, difference))
 }
 
 /// The sums of one row over all sources, at the 16 places from `at` on.
 #[inline(always)]
-fn one_sum(row: &Row, sources: &[&[u8]], at: usize) -> u8x16
+pub(crate) fn one_sum(row: &Row, sources: &[&[u8]], at: usize) -> u8x16
     requires paired { length row.now ≡ length sources.now }
+    requires some { 0 < length sources.now }
     requires inside { All (λ source. at + 16 ≤ length source) (contents sources.now) }
     ensures { IsSum row.now (contents sources.now) at result }
 {
-    let mut total = zeros();
-    for j in 0..sources.len() {
-        total = add_source(row, j, load(sources[j], at), total, sources, at);
+    let base = load(sources[0], at);
+    let mut total = begin(row, base, sources, at);
+    for j in 1..sources.len() {
+        total = add_difference(row, j, base, total, sources, at);
     }
     total
 }
@@ -107,10 +114,51 @@ fn four_sums(
     (of_a, of_b, of_c, of_d)
 }
 
+/// The sums of four rows over all sources, at the 16 places from `at` on, by their constants where they have some.
+#[inline(always)]
+pub(crate) fn sums_of_four(
+    constants: &Option<Row>,
+    rows: (&Row, &Row, &Row, &Row),
+    sources: &[&[u8]],
+    at: usize,
+) -> (u8x16, u8x16, u8x16, u8x16)
+    requires quads { IfSome constants.now (λ c. AreQuads c rows.0.now rows.1.now rows.2.now rows.3.now) }
+    requires paired { (length rows.0.now ≡ length sources.now) × (length rows.1.now ≡ length sources.now) × (length rows.2.now ≡ length sources.now) × (length rows.3.now ≡ length sources.now) }
+    requires inside { All (λ source. at + 16 ≤ length source) (contents sources.now) }
+    ensures first { IsSum rows.entry.0.now (contents sources.now) at result.0 }
+    ensures second { IsSum rows.entry.1.now (contents sources.now) at result.1 }
+    ensures third { IsSum rows.entry.2.now (contents sources.now) at result.2 }
+    ensures fourth { IsSum rows.entry.3.now (contents sources.now) at result.3 }
+{
+    let (a, b, c, d) = rows;
+    match constants {
+        Some(constants) => quad_sums(constants, sources, at),
+        None => four_sums(a, b, c, d, sources, at),
+    }
+}
+
+/// Writes 16 sums into a block of those from `at` on. `row` and `sources` are for the contract alone.
+#[inline(always)]
+pub(crate) fn put(
+    sums: u8x16,
+    block: &mut [u8],
+    offset: usize,
+    at: usize,
+    row: &Row,
+    sources: &[&[u8]],
+)
+    requires inside { offset + 16 ≤ length block.old }
+    requires sums_are { IsSum row.now (contents sources.now) (at + offset) sums }
+    ensures { HasSums row.now (contents sources.now) at offset block.old → HasSums row.now (contents sources.now) at (offset + 16) block.new }
+{
+    store(sums, block, offset);
+}
+
 /// The sums of one row over all sources, at the 64 places from `at` on.
 #[inline(always)]
 fn four_places(row: &Row, sources: &[&[u8]], at: usize) -> (u8x16, u8x16, u8x16, u8x16)
     requires paired { length row.now ≡ length sources.now }
+    requires some { 0 < length sources.now }
     requires inside { All (λ source. at + 64 ≤ length source) (contents sources.now) }
     requires fits { at + 64 < 2 ^ 64 }
     ensures first { IsSum row.now (contents sources.now) at result.0 }
@@ -118,151 +166,86 @@ fn four_places(row: &Row, sources: &[&[u8]], at: usize) -> (u8x16, u8x16, u8x16,
     ensures third { IsSum row.now (contents sources.now) (at + 32) result.2 }
     ensures fourth { IsSum row.now (contents sources.now) (at + 48) result.3 }
 {
-    let mut first = zeros();
-    let mut second = zeros();
-    let mut third = zeros();
-    let mut fourth = zeros();
-    for j in 0..sources.len() {
-        let source = sources[j];
-        first = add_source(row, j, load(source, at), first, sources, at);
-        second = add_source(row, j, load(source, at + 16), second, sources, at + 16);
-        third = add_source(row, j, load(source, at + 32), third, sources, at + 32);
-        fourth = add_source(row, j, load(source, at + 48), fourth, sources, at + 48);
+    let bases = (
+        load(sources[0], at),
+        load(sources[0], at + 16),
+        load(sources[0], at + 32),
+        load(sources[0], at + 48),
+    );
+    let mut first = begin(row, bases.0, sources, at);
+    let mut second = begin(row, bases.1, sources, at + 16);
+    let mut third = begin(row, bases.2, sources, at + 32);
+    let mut fourth = begin(row, bases.3, sources, at + 48);
+    for j in 1..sources.len() {
+        first = add_difference(row, j, bases.0, first, sources, at);
+        second = add_difference(row, j, bases.1, second, sources, at + 16);
+        third = add_difference(row, j, bases.2, third, sources, at + 32);
+        fourth = add_difference(row, j, bases.3, fourth, sources, at + 48);
     }
     (first, second, third, fourth)
 }
 
-/// Writes 16 sums from `at` on. `row` and `sources` are for the contract alone.
+/// The same, as bytes.
 #[inline(always)]
-fn put(sums: u8x16, out: &mut [u8], at: usize, row: &Row, sources: &[&[u8]])
-    requires inside { at + 16 ≤ length out.old }
-    requires sums_are { IsSum row.now (contents sources.now) at sums }
-    ensures { (done : ℕ) → at ≤ done → IsCombined row.now (contents sources.now) out.old done → IsCombined row.now (contents sources.now) out.new (at + 16) }
-{
-    store(sums, out, at);
-}
-
-/// Writes to each place the combination of the sources' bytes there. The last block of 16 ends with the slice, so that it
-/// may write some places again.
-fn combine_one(row: &Row, sources: &[&[u8]], out: &mut [u8])
+pub(crate) fn one_block(row: &Row, sources: &[&[u8]], at: usize) -> [u8; 64]
     requires paired { length row.now ≡ length sources.now }
-    requires widths { All (λ source. length source ≡ length out.old) (contents sources.now) }
-    requires long { 16 ≤ length out.old }
-    ensures { IsCombined row.now (contents sources.now) out.new (length out.old) }
+    requires some { 0 < length sources.now }
+    requires inside { All (λ source. at + 64 ≤ length source) (contents sources.now) }
+    requires fits { at + 64 < 2 ^ 64 }
+    ensures { HasSums row.now (contents sources.now) at 64 result }
 {
-    let width = out.len();
-    let wide = width / 64;
-    for block in 0..wide {
-        let at = block * 64;
-        let (first, second, third, fourth) = four_places(row, sources, at);
-        put(first, out, at, row, sources);
-        put(second, out, at + 16, row, sources);
-        put(third, out, at + 32, row, sources);
-        put(fourth, out, at + 48, row, sources);
-    }
-    for block in wide * 4..width.div_ceil(16) {
-        let at = (block * 16).min(width - 16);
-        put(one_sum(row, sources, at), out, at, row, sources);
-    }
+    let (first, second, third, fourth) = four_places(row, sources, at);
+    let mut block = [0; 64];
+    put(first, &mut block, 0, at, row, sources);
+    put(second, &mut block, 16, at, row, sources);
+    put(third, &mut block, 32, at, row, sources);
+    put(fourth, &mut block, 48, at, row, sources);
+    block
 }
 
-/// The same for four rows at once.
-fn combine_four(
+/// Sums of four rows at 64 places.
+#[derive(Clone, Copy)]
+pub(crate) struct Blocks {
+    pub(crate) a: [u8; 64],
+    pub(crate) b: [u8; 64],
+    pub(crate) c: [u8; 64],
+    pub(crate) d: [u8; 64],
+}
+
+/// The sums of four rows over all sources, at the 64 places from `at` on.
+#[inline(always)]
+pub(crate) fn four_blocks(
+    constants: &Option<Row>,
     rows: (&Row, &Row, &Row, &Row),
     sources: &[&[u8]],
-    out_a: &mut [u8],
-    out_b: &mut [u8],
-    out_c: &mut [u8],
-    out_d: &mut [u8],
-)
+    at: usize,
+) -> Blocks
+    requires quads { IfSome constants.now (λ c. AreQuads c rows.0.now rows.1.now rows.2.now rows.3.now) }
     requires paired { (length rows.0.now ≡ length sources.now) × (length rows.1.now ≡ length sources.now) × (length rows.2.now ≡ length sources.now) × (length rows.3.now ≡ length sources.now) }
-    requires widths { All (λ source. length source ≡ length out_a.old) (contents sources.now) }
-    requires long { 16 ≤ length out_a.old }
-    requires same { (length out_b.old ≡ length out_a.old) × (length out_c.old ≡ length out_a.old) × (length out_d.old ≡ length out_a.old) }
-    ensures first { IsCombined rows.entry.0.now (contents sources.now) out_a.new (length out_a.old) }
-    ensures second { IsCombined rows.entry.1.now (contents sources.now) out_b.new (length out_a.old) }
-    ensures third { IsCombined rows.entry.2.now (contents sources.now) out_c.new (length out_a.old) }
-    ensures fourth { IsCombined rows.entry.3.now (contents sources.now) out_d.new (length out_a.old) }
+    requires inside { All (λ source. at + 64 ≤ length source) (contents sources.now) }
+    requires fits { at + 64 < 2 ^ 64 }
+    ensures first { HasSums rows.entry.0.now (contents sources.now) at 64 result.a }
+    ensures second { HasSums rows.entry.1.now (contents sources.now) at 64 result.b }
+    ensures third { HasSums rows.entry.2.now (contents sources.now) at 64 result.c }
+    ensures fourth { HasSums rows.entry.3.now (contents sources.now) at 64 result.d }
 {
     let (a, b, c, d) = rows;
-    let width = out_a.len();
-    for block in 0..width.div_ceil(16) {
-        let at = (block * 16).min(width - 16);
-        let (of_a, of_b, of_c, of_d) = four_sums(a, b, c, d, sources, at);
-        put(of_a, out_a, at, a, sources);
-        put(of_b, out_b, at, b, sources);
-        put(of_c, out_c, at, c, sources);
-        put(of_d, out_d, at, d, sources);
+    let mut block_a = [0; 64];
+    let mut block_b = [0; 64];
+    let mut block_c = [0; 64];
+    let mut block_d = [0; 64];
+    for i in 0..4 {
+        let offset = i * 16;
+        let (of_a, of_b, of_c, of_d) = sums_of_four(constants, rows, sources, at + offset);
+        put(of_a, &mut block_a, offset, at, a, sources);
+        put(of_b, &mut block_b, offset, at, b, sources);
+        put(of_c, &mut block_c, offset, at, c, sources);
+        put(of_d, &mut block_d, offset, at, d, sources);
     }
-}
-
-/// A piece of the width that holds the combinations of one row.
-fn combined(
-    alloc: Global,
-    row: &Row,
-    sources: &[&[u8]],
-    width: usize,
-) -> Result<Vec<u8>, AllocError>
-    requires paired { length row.now ≡ length sources.now }
-    requires widths { All (λ source. length source ≡ width) (contents sources.now) }
-    ensures { IfOk result (λ piece. IsPiece row.now (contents sources.now) width piece.items) }
-{
-    let mut piece = vec![in alloc; 0; width]?;
-    if width < 16 {
-        plain::combine(row.coefficients(), sources, &mut piece);
-    } else {
-        combine_one(row, sources, &mut piece);
+    Blocks {
+        a: block_a,
+        b: block_b,
+        c: block_c,
+        d: block_d,
     }
-    Ok(piece)
-}
-
-/// The pieces of four rows at a width of at least 16.
-fn combined_four(
-    alloc: Global,
-    rows: (&Row, &Row, &Row, &Row),
-    sources: &[&[u8]],
-    width: usize,
-) -> Result<(Vec<u8>, Vec<u8>, Vec<u8>, Vec<u8>), AllocError>
-    requires paired { (length rows.0.now ≡ length sources.now) × (length rows.1.now ≡ length sources.now) × (length rows.2.now ≡ length sources.now) × (length rows.3.now ≡ length sources.now) }
-    requires widths { All (λ source. length source ≡ width) (contents sources.now) }
-    requires long { 16 ≤ width }
-    ensures first { IfOk result (λ pieces. IsPiece rows.entry.0.now (contents sources.now) width pieces.0.items) }
-    ensures second { IfOk result (λ pieces. IsPiece rows.entry.1.now (contents sources.now) width pieces.1.items) }
-    ensures third { IfOk result (λ pieces. IsPiece rows.entry.2.now (contents sources.now) width pieces.2.items) }
-    ensures fourth { IfOk result (λ pieces. IsPiece rows.entry.3.now (contents sources.now) width pieces.3.items) }
-{
-    let mut a = vec![in alloc; 0; width]?;
-    let mut b = vec![in alloc; 0; width]?;
-    let mut c = vec![in alloc; 0; width]?;
-    let mut d = vec![in alloc; 0; width]?;
-    combine_four(rows, sources, &mut a, &mut b, &mut c, &mut d);
-    Ok((a, b, c, d))
-}
-
-/// A piece of the width for each row, with the combinations of the sources' bytes at each place.
-pub fn combine_rows(
-    alloc: Global,
-    rows: &[Row],
-    sources: &[&[u8]],
-    width: usize,
-) -> Result<Vec<Vec<u8>>, AllocError>
-    requires paired { All (λ row. length row ≡ length sources.now) rows.now }
-    requires widths { All (λ source. length source ≡ width) (contents sources.now) }
-    ensures { IfOk result (λ pieces. AreCombined rows.now (contents sources.now) width (length rows.now) (map (λ piece. piece.items) pieces.items)) }
-{
-    let mut pieces = Vec::with_capacity(alloc, rows.len())?;
-    let fours = if width < 16 { 0 } else { rows.len() / 4 };
-    for four in 0..fours {
-        let at = four * 4;
-        let group = (&rows[at], &rows[at + 1], &rows[at + 2], &rows[at + 3]);
-        let (a, b, c, d) = combined_four(alloc, group, sources, width)?;
-        pieces.push(a)?;
-        pieces.push(b)?;
-        pieces.push(c)?;
-        pieces.push(d)?;
-    }
-    for at in fours * 4..rows.len() {
-        pieces.push(combined(alloc, &rows[at], sources, width)?)?;
-    }
-    Ok(pieces)
 }

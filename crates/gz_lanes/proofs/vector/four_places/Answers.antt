@@ -1,20 +1,24 @@
-use Rattle.std.proofs.Common.{length, ◌+◌, ◌≤◌, arith}
-use Rattle.gz_lanes.specs.Combination.{combination}
-use Rattle.gz_lanes.proofs.Columns.{source_holds}
+use Rattle.std.proofs.Common.{◌≡◌, ◌+◌, length, arith}
+use Rattle.gz_lanes.specs.Combination.{contents}
+use Rattle.gz_lanes.proofs.Differences.{differences_done}
 use Rattle.gz_lanes.proofs.vector.four_places.Goals as goal
 
-pub loop-j-init : goal.loop-j-init
-unfolding combination
-loop-j-init c = (c.zeros-first.ensures, c.zeros-second.ensures, c.zeros-third.ensures, c.zeros-fourth.ensures)
+pub returns-clause-first : goal.returns-clause-first
+returns-clause-first c =
+    let whole : c.loop-j.j ≡ length c.args.row.now = omega (arith, c.requires.paired, c.requires.some, c.loop-j-test.false, c.loop-j.auto.j) in
+    differences_done c.args.row.now (contents c.args.sources.now) c.args.at c.loop-j.j c.loop-j.first whole c.loop-j.invariant.0
 
-pub load-requires : goal.load-requires
-load-requires c = omega (arith, source_holds (λ s. c.args.at + 64 ≤ length s) c.args.sources.now c.loop-j.j c.loop-j-test.true c.requires.inside)
+pub returns-clause-second : goal.returns-clause-second
+returns-clause-second c =
+    let whole : c.loop-j.j ≡ length c.args.row.now = omega (arith, c.requires.paired, c.requires.some, c.loop-j-test.false, c.loop-j.auto.j) in
+    differences_done c.args.row.now (contents c.args.sources.now) (c.args.at + 16) c.loop-j.j c.loop-j.second whole c.loop-j.invariant.1
 
-pub load-requires-in-loop-j : goal.load-requires-in-loop-j
-load-requires-in-loop-j c = omega (arith, source_holds (λ s. c.args.at + 64 ≤ length s) c.args.sources.now c.loop-j.j c.loop-j-test.true c.requires.inside)
+pub returns-clause-third : goal.returns-clause-third
+returns-clause-third c =
+    let whole : c.loop-j.j ≡ length c.args.row.now = omega (arith, c.requires.paired, c.requires.some, c.loop-j-test.false, c.loop-j.auto.j) in
+    differences_done c.args.row.now (contents c.args.sources.now) (c.args.at + 32) c.loop-j.j c.loop-j.third whole c.loop-j.invariant.2
 
-pub load-requires-in-loop-j-2 : goal.load-requires-in-loop-j-2
-load-requires-in-loop-j-2 c = omega (arith, source_holds (λ s. c.args.at + 64 ≤ length s) c.args.sources.now c.loop-j.j c.loop-j-test.true c.requires.inside)
-
-pub load-requires-in-loop-j-3 : goal.load-requires-in-loop-j-3
-load-requires-in-loop-j-3 c = omega (arith, source_holds (λ s. c.args.at + 64 ≤ length s) c.args.sources.now c.loop-j.j c.loop-j-test.true c.requires.inside)
+pub returns-clause-fourth : goal.returns-clause-fourth
+returns-clause-fourth c =
+    let whole : c.loop-j.j ≡ length c.args.row.now = omega (arith, c.requires.paired, c.requires.some, c.loop-j-test.false, c.loop-j.auto.j) in
+    differences_done c.args.row.now (contents c.args.sources.now) (c.args.at + 48) c.loop-j.j c.loop-j.fourth whole c.loop-j.invariant.3
