@@ -7,3 +7,4 @@ pub mod Seen
 pub mod Rebuilding
 pub mod Decoded
 pub mod Refusals
+pub mod Cutting

@@ -1,5 +1,5 @@
 -- The steps of cutting an object.
-use Rattle.std.specs.Prelude.{◌≡◌, ℕ, ◌+◌, ◌*◌, ◌<◌, List, [], length, slice_index, slice_index_or}
+use Rattle.std.specs.Prelude.{◌≡◌, ℕ, ◌+◌, ◌*◌, ◌<◌, ◌++◌, List, [], length, slice_index, slice_index_or}
 use Rattle.gz_code.specs.CodeWord.{word_at}
 use Rattle.gz_code.specs.Polynomial.{value, IsPolynomial}
 
@@ -13,6 +13,12 @@ pub record AreDataPieces (object : List ℕ) (width n : ℕ) (pieces : List (Lis
   pub count : length pieces ≡ n
   pub widths : (j : ℕ) → j < n → length (slice_index_or pieces j []) ≡ width
   pub bytes : (j place : ℕ) → j < n → place < width → slice_index (slice_index_or pieces j []) place ≡ slice_index object (j * width + place)
+
+-- slices of the first pieces of an object, which lie whole in it, and then those of the rest
+pub record AreDataSlices (object : List ℕ) (width whole : ℕ) (rest slices : List (List ℕ)) : Type 0 where
+  pub front : List (List ℕ)
+  pub are_whole : AreDataPieces object width whole front
+  pub joined : slices ≡ front ++ rest
 
 -- the numbers from one on
 pub record AreNumbers (from n : ℕ) (numbers : List ℕ) : Type 0 where

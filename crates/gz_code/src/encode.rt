@@ -1,11 +1,11 @@
 //! An object into its pieces.
-ghost use Rattle.std.specs.Prelude.{◌≡◌, ℕ, ◌+◌, ◌*◌, ◌<◌, ◌≤◌, length, slice_index, slice_index_or, IfOk, ◌^◌, map, []};
+ghost use Rattle.std.specs.Prelude.{◌≡◌, ℕ, ◌+◌, ◌*◌, ◌<◌, ◌≤◌, [], length, map, take, slice_index, slice_index_or, All, IfOk};
 ghost use Rattle.gz_lanes.specs.Combination.{contents};
 ghost use Rattle.gz_code.specs.CodeWord.{IsSplit, piece_width};
 ghost use Rattle.gz_code.specs.Interpolation.{rows, AreAllValues};
-ghost use Rattle.gz_code.specs.Encoding.{IsPadded, AreDataPieces, AreNumbers, AreParity};
+ghost use Rattle.gz_code.specs.Encoding.{IsPadded, AreDataPieces, AreDataSlices, AreNumbers, AreParity};
 
-use crate::interpolate::{Kernel, pieces_at};
+use crate::interpolate::{Kernel, copies_and_pieces_at, pieces_at};
 use std::alloc::{AllocError, Global};
 
 /// The bytes with zeros after them, up to the width.
@@ -28,12 +28,11 @@ fn data_pieces(
     width: usize,
     object: &[u8],
 ) -> Result<Vec<Vec<u8>>, AllocError>
-    requires { count * width < 2 ^ 64 }
     ensures { IfOk result (λ pieces. AreDataPieces object.now width count (rows pieces)) }
 {
     let mut pieces = Vec::with_capacity(alloc, count)?;
     for j in 0..count {
-        let from = (j * width).min(object.len());
+        let from = j.saturating_mul(width).min(object.len());
         let len = width.min(object.len() - from);
         pieces.push(padded(alloc, &object[from..from + len], width)?)?;
     }
@@ -66,10 +65,9 @@ pub(crate) fn slices_of<'a>(
     Ok(slices)
 }
 
-/// The parity pieces to the data pieces.
+/// The parity pieces to the data pieces, by the plain bodies.
 fn parity_pieces(
     alloc: Global,
-    kernel: Kernel,
     m: usize,
     width: usize,
     firsts: &[Vec<u8>],
@@ -81,13 +79,12 @@ fn parity_pieces(
     let points = points_from(alloc, 0, firsts.len())?;
     let targets = points_from(alloc, firsts.len(), m)?;
     let sources = slices_of(alloc, firsts)?;
-    pieces_at(alloc, kernel, &points, &sources, width, &targets)
+    pieces_at(alloc, Kernel::Plain, &points, &sources, width, &targets)
 }
 
-/// The pieces of an object, by either body.
-fn split_by(
+/// The pieces of an object by the plain bodies: the data pieces, and then the parity pieces.
+fn split_in_passes(
     alloc: Global,
-    kernel: Kernel,
     k: usize,
     m: usize,
     bytes: &[u8],
@@ -98,9 +95,74 @@ fn split_by(
 {
     let width = bytes.len().div_ceil(k);
     let mut pieces = data_pieces(alloc, k, width, bytes)?;
-    let mut parity = parity_pieces(alloc, kernel, m, width, &pieces)?;
+    let mut parity = parity_pieces(alloc, m, width, &pieces)?;
     pieces.append(&mut parity)?;
     Ok(pieces)
+}
+
+/// How many of k pieces lie whole in an object.
+fn whole_pieces(k: usize, len: usize, width: usize) -> usize
+    ensures few { result ≤ k }
+    ensures within { result * width ≤ len }
+{
+    if width == 0 {
+        return 0;
+    }
+    (len / width).min(k)
+}
+
+/// The slices of the first `count` pieces, which lie whole in the object.
+fn slices_within<'a>(
+    alloc: Global,
+    count: usize,
+    width: usize,
+    object: &'a [u8],
+) -> Result<Vec<&'a [u8]>, AllocError>
+    requires { count * width ≤ length object.now }
+    ensures { IfOk result (λ slices. AreDataPieces object.now width count (contents slices.items)) }
+{
+    let mut slices = Vec::with_capacity(alloc, count)?;
+    for j in 0..count {
+        let from = j * width;
+        slices.push(&object[from..from + width])?;
+    }
+    Ok(slices)
+}
+
+/// The slices of all data pieces: of those that lie whole in the object, and of the others.
+fn data_slices<'a>(
+    alloc: Global,
+    whole: usize,
+    width: usize,
+    object: &'a [u8],
+    rest: &'a [Vec<u8>],
+) -> Result<Vec<&'a [u8]>, AllocError>
+    requires { whole * width ≤ length object.now }
+    ensures { IfOk result (λ slices. AreDataSlices object.now width whole (map (λ piece. piece.items) rest.now) (contents slices.items)) }
+{
+    let mut slices = slices_within(alloc, whole, width, object)?;
+    let mut others = slices_of(alloc, rest)?;
+    slices.append(&mut others)?;
+    Ok(slices)
+}
+
+/// Copies of the first `count` data pieces, and the parity pieces to all of them.
+fn copies_and_parity(
+    alloc: Global,
+    count: usize,
+    m: usize,
+    width: usize,
+    sources: &[&[u8]],
+) -> Result<(Vec<Vec<u8>>, Vec<Vec<u8>>), AllocError>
+    requires within_field { length sources.now + m ≤ 256 }
+    requires counted { count ≤ length sources.now }
+    requires widths { All (λ source. length source ≡ width) (contents sources.now) }
+    ensures copies { IfOk result (λ both. rows both.0 ≡ take count (contents sources.now)) }
+    ensures parity { IfOk result (λ both. AreParity (contents sources.now) width m (rows both.1)) }
+{
+    let points = points_from(alloc, 0, sources.len())?;
+    let targets = points_from(alloc, sources.len(), m)?;
+    copies_and_pieces_at(alloc, &points, sources, count, width, &targets)
 }
 
 /// The k + m pieces of an object, of which any k give it back: each has the object's length divided by k, rounded up,
@@ -110,7 +172,15 @@ pub fn split(alloc: Global, k: usize, m: usize, bytes: &[u8]) -> Result<Vec<Vec<
     requires within_field { k + m ≤ 256 }
     ensures { IfOk result (λ pieces. IsSplit k m bytes.now (rows pieces)) }
 {
-    split_by(alloc, Kernel::Vector, k, m, bytes)
+    let width = bytes.len().div_ceil(k);
+    let whole = whole_pieces(k, bytes.len(), width);
+    let mut rest = data_pieces(alloc, k - whole, width, &bytes[whole * width..])?;
+    let sources = data_slices(alloc, whole, width, bytes, &rest)?;
+    let (mut pieces, mut parity) = copies_and_parity(alloc, whole, m, width, &sources)?;
+    drop(sources);
+    pieces.append(&mut rest)?;
+    pieces.append(&mut parity)?;
+    Ok(pieces)
 }
 
 /// The same as `split`, byte by byte with one look-up for each product: the program that `split` is compared with.
@@ -124,5 +194,5 @@ pub fn split_plainly(
     requires within_field { k + m ≤ 256 }
     ensures { IfOk result (λ pieces. IsSplit k m bytes.now (rows pieces)) }
 {
-    split_by(alloc, Kernel::Plain, k, m, bytes)
+    split_in_passes(alloc, k, m, bytes)
 }

@@ -1,12 +1,12 @@
 //! The value of a polynomial at one point from its values at others.
-ghost use Rattle.std.specs.Prelude.{◌≡◌, ◌≢◌, ℕ, ◌<◌, ◌≤◌, length, slice_index, All, IfOk};
+ghost use Rattle.std.specs.Prelude.{◌≡◌, ◌≢◌, ℕ, ◌<◌, ◌≤◌, length, take, slice_index, All, IfOk};
 ghost use Rattle.gz_lanes.specs.Combination.{contents};
 ghost use Rattle.gz_code.specs.Polynomial.{ArePoints};
 ghost use Rattle.gz_code.specs.Interpolation.{apart, HasInverses, AreWeights, AreValues, AreAllValues, AreRows, rows};
 
 use gz_field::{add, inv, mul};
 use gz_lanes::plain::combine;
-use gz_lanes::{Row, combine_rows};
+use gz_lanes::{Row, combine_rows, copy_and_combine};
 use std::alloc::{AllocError, Global};
 
 /// The product of the differences of `y` from all points but the one at the place that is left out.
@@ -81,13 +81,16 @@ fn piece_at(
     Ok(piece)
 }
 
-/// The weights for each target, in rows that multiply by them.
+/// The weights for each target, in rows that multiply by them. With no target it does nothing.
 fn rows_of(alloc: Global, points: &[u8], targets: &[u8]) -> Result<Vec<Row>, AllocError>
     requires few { length points.now ≤ 256 }
     requires points { ArePoints (length points.now) (slice_index points.now) }
     requires elsewhere { (t j : ℕ) → t < length targets.now → j < length points.now → slice_index targets.now t ≢ slice_index points.now j }
     ensures { IfOk result (λ rows. AreRows points.now targets.now (length targets.now) rows.items) }
 {
+    if targets.is_empty() {
+        return Ok(Vec::new(alloc));
+    }
     let inverses = inverses_of(points);
     let mut rows = Vec::with_capacity(alloc, targets.len())?;
     for target in targets {
@@ -154,4 +157,27 @@ pub(crate) fn pieces_at(
             Ok(pieces)
         }
     }
+}
+
+/// Copies of the first `count` sources, and a piece for each target, from the sources at the points.
+pub(crate) fn copies_and_pieces_at(
+    alloc: Global,
+    points: &[u8],
+    sources: &[&[u8]],
+    count: usize,
+    width: usize,
+    targets: &[u8],
+) -> Result<(Vec<Vec<u8>>, Vec<Vec<u8>>), AllocError>
+    requires few { length points.now ≤ 256 }
+    requires points { ArePoints (length points.now) (slice_index points.now) }
+    requires elsewhere { (t j : ℕ) → t < length targets.now → j < length points.now → slice_index targets.now t ≢ slice_index points.now j }
+    requires paired { length sources.now ≡ length points.now }
+    requires widths { All (λ source. length source ≡ width) (contents sources.now) }
+    requires counted { count ≤ length sources.now }
+    ensures copies { IfOk result (λ both. rows both.0 ≡ take count (contents sources.now)) }
+    ensures pieces { IfOk result (λ both. AreAllValues points.now (contents sources.now) width targets.now (length targets.now) (rows both.1)) }
+{
+    let rows = rows_of(alloc, points, targets)?;
+    let both = copy_and_combine(alloc, &rows, sources, count, width)?;
+    Ok(both)
 }

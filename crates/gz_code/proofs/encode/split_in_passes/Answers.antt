@@ -1,5 +1,5 @@
 use Rattle.gz_code.proofs.Pieces.{data_wide, split_from}
-use Rattle.gz_code.proofs.encode.split_by.Goals as goal
+use Rattle.gz_code.proofs.encode.split_in_passes.Goals as goal
 
 pub parity_pieces-requires-clause-widths : goal.parity_pieces-requires-clause-widths
 parity_pieces-requires-clause-widths c =
