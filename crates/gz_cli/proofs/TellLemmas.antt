@@ -2,7 +2,7 @@
 use Rattle.std.proofs.Common.{ℕ, ◌≡◌, ◌<◌, Some, None, refl, sym, ◌∙◌, subst, inl, inr}
 use Rattle.std.specs.Prelude.{Option, MatchOption, IsSome}
 use Rattle.std.proofs.lemmas.Bool.{cases_eq}
-use Rattle.gz_core.specs.declared.configuration.Config.{Config}
+use Rattle.gz_config.specs.declared.Config.{Config}
 use Rattle.gz_core.specs.declared.requests.Reply.{Reply}
 use Rattle.gz_site.specs.Told.{Told, Tells}
 use Rattle.gz_world.specs.Refusals.{refusal_of}

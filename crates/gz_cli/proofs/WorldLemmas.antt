@@ -2,7 +2,7 @@
 use Rattle.std.proofs.Common.{ℕ, zero, suc, ◌≡◌, ◌≤◌, ◌<◌, List, [], ◌∷◌, ◌++◌, Some, None, length, map, refl, ap, sym, ◌∙◌, subst, arith, inl, inr, false}
 use Rattle.std.specs.Prelude.{Option, IfSome, IsSome, option_map, unwrap_or}
 use Rattle.gz_core.specs.Configurations.{IsConfig}
-use Rattle.gz_core.specs.declared.configuration.Config.{Config}
+use Rattle.gz_config.specs.declared.Config.{Config}
 use Rattle.gz_round.specs.History.{Tale}
 use Rattle.gz_site.specs.Told.{Told, IsEmpty, nothing}
 use Rattle.gz_site.specs.Memory.{memory}

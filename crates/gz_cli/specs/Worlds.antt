@@ -1,7 +1,7 @@
 -- The world that a run of a schedule opens, plays and leaves.
 use Rattle.std.specs.Prelude.{ℕ, ◌≡◌, ◌≤◌, ◌<◌, ◌⊎◌, Bool, true, false, List, length, count_by, Option, Some, IsSome}
-use Rattle.gz_core.specs.declared.configuration.Config.{Config}
-use Rattle.gz_core.specs.declared.configuration.Order.TheVariants.{Parallel}
+use Rattle.gz_config.specs.declared.Config.{Config}
+use Rattle.gz_config.specs.declared.Order.TheVariants.{Parallel}
 use Rattle.gz_round.specs.History.{Tale}
 use Rattle.gz_site.specs.Told.{Told}
 use Rattle.gz_site.specs.Many.{told_at}

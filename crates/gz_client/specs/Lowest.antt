@@ -1,6 +1,6 @@
 -- The lowest request that a session's running call awaits.
 use Rattle.std.specs.Prelude.{ℕ, ◌≡◌, ◌≤◌, true, List, Option, Some, None}
-use Rattle.gz_core.specs.declared.configuration.Config.{Config}
+use Rattle.gz_config.specs.declared.Config.{Config}
 use Rattle.gz_round.specs.History.{Tale}
 pub use Rattle.gz_round.specs.Numbering.{awaits_number}
 pub use Rattle.gz_client.specs.Tales.{live, live_in, IsLive}

@@ -1,9 +1,8 @@
 //! The values that every part of the store speaks of: names, ballots, keys, values, rows of acceptor
-//! columns, calls with their answers, and the sizes of quorums.
+//! columns, and calls with their answers.
 #![tactic(auto)]
 
 pub mod calls;
-pub mod configuration;
 pub mod keys;
 pub mod lists;
 pub mod names;
@@ -13,7 +12,7 @@ pub mod texts;
 pub mod values;
 
 pub use calls::{Answer, Call, Phase, UnsureWhy};
-pub use configuration::{Config, ConfigError, Order};
+pub use gz_config::{Config, ConfigError, Order};
 pub use keys::Key;
 pub use lists::Items;
 pub use names::{Ballot, Etag, PutName, Session, SiteId, Version};

@@ -187,7 +187,7 @@ impl Ballot {
 }
 
 /// The entity tag under which a site keeps a row. A site uses none twice.
-#[derive(Clone, Copy, Debug, PartialEq, Eq, PartialOrd, Ord)]
+#[derive(Clone, Copy, Debug, PartialEq, Eq)]
 pub struct Etag(pub u64);
 
 impl Model for Etag {

@@ -38,7 +38,7 @@ pub enum RowStep {
 }
 
 /// An operation that is asked of a site.
-#[derive(Clone, Debug, Drop)]
+#[derive(Debug, Drop)]
 pub enum Op {
     /// Reads the row of a key.
     ReadRow {
@@ -54,7 +54,7 @@ pub enum Op {
 }
 
 /// A request to send. A notice is one that nobody awaits.
-#[derive(Clone, Debug, Drop)]
+#[derive(Drop)]
 pub struct Out {
     pub site: SiteId,
     pub op: Op,
@@ -72,7 +72,7 @@ pub enum Reply {
 }
 
 /// What a client does at one event: the requests that it sends, and the answer of its call where it ends.
-#[derive(Debug, Drop)]
+#[derive(Drop)]
 pub struct Turn {
     pub send: Items<Out>,
     pub answer: Option<Answer>,

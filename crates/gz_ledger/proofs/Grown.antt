@@ -2,7 +2,7 @@
 use Rattle.std.proofs.Common.{◌≡◌, ℕ, ◌+◌, false, List, Some, None, inl, inr, arith}
 use Rattle.gz_core.specs.Names.{Name, BallotAt, fast, same_ballot}
 use Rattle.gz_core.specs.Slots.{Slot, Gone, DecidedAs, OpenAt, Act, VotesFast, Promises, VotesClassic, Decides, Trims}
-use Rattle.gz_core.specs.declared.configuration.Config.{Config}
+use Rattle.gz_config.specs.declared.Config.{Config}
 use Rattle.gz_core.proofs.Counting.{count_weaker}
 use Rattle.gz_model.specs.Choosing.{IsSafe}
 use Rattle.gz_ledger.specs.Histories.{Seen, Write, IsProposed, IsPromised}

@@ -3,7 +3,7 @@ use Rattle.std.proofs.Common.{◌≡◌, ℕ, zero, suc, ◌+◌, ◌≤◌, fal
 use Rattle.std.proofs.lemmas.Bool.{cases_eq}
 use Rattle.gz_core.specs.Names.{Name, BallotAt, fast, same_ballot}
 use Rattle.gz_core.specs.Slots.{Slot, Gone, DecidedAs, OpenAt, Act, VotesFast, Promises, VotesClassic, Decides, Trims}
-use Rattle.gz_core.specs.declared.configuration.Config.{Config}
+use Rattle.gz_config.specs.declared.Config.{Config}
 use Rattle.gz_model.proofs.Choices.{allowed_safe}
 use Rattle.gz_ledger.specs.Acceptors.{HasValue}
 use Rattle.gz_ledger.specs.Histories.{Seen, Write, IsChosenAt, IsShown, IsVotedAt, VotesFor, IsProposed, IsPromised}

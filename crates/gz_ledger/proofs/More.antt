@@ -4,7 +4,7 @@ use Rattle.std.specs.List.{slice_get}
 use Rattle.std.proofs.Common.{Some}
 use Rattle.gz_core.specs.Names.{Name, BallotAt}
 use Rattle.gz_core.specs.Slots.{Act, VotesFast, Promises, VotesClassic, Decides, Trims}
-use Rattle.gz_core.specs.declared.configuration.Config.{Config}
+use Rattle.gz_config.specs.declared.Config.{Config}
 use Rattle.gz_pick.specs.declared.heard.Heard.{Heard}
 use Rattle.gz_pick.specs.declared.heard.Pick.TheVariants.{Free}
 use Rattle.gz_pick.specs.Choices.{pick_of}

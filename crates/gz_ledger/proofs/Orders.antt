@@ -5,7 +5,7 @@ use Rattle.std.proofs.lemmas.Option.{same_Some, some_pair_parts}
 use Rattle.gz_core.specs.Names.{Name, BallotAt, fast, is_below, same_ballot}
 use Rattle.gz_core.specs.Counts.{count_sites}
 use Rattle.gz_core.specs.Slots.{Slot, Gone, DecidedAs, OpenAt, VotesClassic}
-use Rattle.gz_core.specs.declared.configuration.Config.{Config}
+use Rattle.gz_config.specs.declared.Config.{Config}
 use Rattle.gz_core.proofs.Ballots.{below_fast, same_means, name_from}
 use Rattle.gz_core.proofs.Counting.{count_weaker}
 use Rattle.gz_core.proofs.Quorums.{need_least, quorums_meet}

@@ -2,7 +2,7 @@
 use Rattle.std.proofs.Common.{◌≡◌, ℕ, true, ◌&&◌, ◌==◌, List, [], ◌∷◌, refl, sym, subst, inl, inr, arith}
 use Rattle.std.proofs.lemmas.Bool.{true≢false, and_parts, and_from, or_cases, or_left, or_right, eqb-true, eq-eqb}
 use Rattle.gz_core.specs.Names.{Name, BallotAt}
-use Rattle.gz_core.specs.declared.configuration.Config.{Config}
+use Rattle.gz_config.specs.declared.Config.{Config}
 use Rattle.gz_core.proofs.Counting.{count_weaker}
 use Rattle.gz_ledger.specs.Acceptors.{slot_votes, slot_voted}
 use Rattle.gz_ledger.specs.Histories.{IsIn, Seen, cast, cast_in, IsChosenAt, IsShown, IsVotedAt, IsCurrent}

@@ -5,7 +5,7 @@ use Rattle.std.proofs.lemmas.Bool.{both_ways}
 use Rattle.std.proofs.lemmas.Option.{same_Some, some_pair_parts}
 use Rattle.gz_core.specs.Names.{Name, BallotAt, is_below}
 use Rattle.gz_core.specs.Slots.{Slot, OpenAt, IsVoteOf}
-use Rattle.gz_core.specs.declared.configuration.Config.{Config}
+use Rattle.gz_config.specs.declared.Config.{Config}
 use Rattle.gz_core.proofs.Ballots.{below_never, below_not, below_cases, below_at}
 use Rattle.gz_core.proofs.Counting.{count_weaker, count_found}
 use Rattle.gz_core.proofs.Quorums.{need_some}

@@ -4,7 +4,7 @@ use Rattle.std.proofs.lemmas.Bool.{both_ways, false_from_ne_true, cond-true, con
 use Rattle.std.proofs.lemmas.Option.{none-some, same_Some}
 use Rattle.gz_core.specs.Names.{Name, BallotAt, fast, is_below, same_ballot}
 use Rattle.gz_core.specs.Slots.{Slot, OpenAt, Makes}
-use Rattle.gz_core.specs.declared.configuration.Config.{Config}
+use Rattle.gz_config.specs.declared.Config.{Config}
 use Rattle.gz_core.proofs.Ballots.{same_means, below_never, below_not, below_fast, not_below_trans}
 use Rattle.gz_ledger.specs.Acceptors.{Acceptor, with_acceptor}
 use Rattle.gz_ledger.specs.Histories.{IsIn, Seen, Write}

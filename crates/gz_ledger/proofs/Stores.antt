@@ -3,7 +3,7 @@ use Rattle.std.proofs.Common.{◌≡◌, ℕ, ◌<◌, ◌≤◌, List, [], ◌�
 use Rattle.std.proofs.Math.Path.{fun_ext}
 use Rattle.std.proofs.lemmas.Bool.{cases_eq}
 use Rattle.gz_core.specs.Names.{Name}
-use Rattle.gz_core.specs.declared.configuration.Config.{Config}
+use Rattle.gz_config.specs.declared.Config.{Config}
 use Rattle.gz_ledger.specs.Acceptors.{Acceptor, with_acceptor}
 use Rattle.gz_ledger.specs.Histories.{IsIn, Seen, Write, IsShown, IsCurrent, VotesFor, IsProposed}
 use Rattle.gz_ledger.specs.Ledgers.{Ledger, Move, Shows, Sends, Takes, moved, row_of, CanSend, Can, after_moves, AreMoves, late_seen}

@@ -2,7 +2,7 @@
 use Rattle.std.proofs.Common.{◌≡◌, ℕ, ◌≤◌, ◌==◌, List, [], ◌∷◌, Option, Some, None, refl, ap, ◌∙◌, sym, subst, inl, inr, arith}
 use Rattle.std.proofs.lemmas.Bool.{cases_eq, cond-true, cond-false, eq-eqb, ne_eqb}
 use Rattle.std.proofs.lemmas.Option.{none-some, same_Some}
-use Rattle.gz_core.specs.declared.configuration.Config.{Config}
+use Rattle.gz_config.specs.declared.Config.{Config}
 use Rattle.gz_ledger.specs.Acceptors.{new_acceptor}
 use Rattle.gz_ledger.specs.Histories.{IsIn}
 use Rattle.gz_ledger.specs.Deeds.{Stored, Answered, Asked, Store, empty_store, Deed, Reads, Begins, Written, Failed, Elsewhere, etag_of, acceptor_of, answer_of, answer_to, with_site, kept_after, done, CanWrite, CanDo, after_deeds, AreDeeds}

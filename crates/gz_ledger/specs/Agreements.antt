@@ -4,7 +4,7 @@ use Rattle.gz_core.specs.Names.{Name, BallotAt, fast, same_ballot}
 use Rattle.gz_core.specs.Counts.{count_sites}
 use Rattle.gz_core.specs.Configurations.{AreQuorums}
 use Rattle.gz_core.specs.Slots.{VotesClassic}
-use Rattle.gz_core.specs.declared.configuration.Config.{Config}
+use Rattle.gz_config.specs.declared.Config.{Config}
 use Rattle.gz_model.specs.Choosing.{IsSafe}
 use Rattle.gz_ledger.specs.Histories.{IsIn, Write, cast, IsChosenAt, IsShown, IsCurrent, VotesFor, IsProposed}
 use Rattle.gz_ledger.specs.Ledgers.{Ledger, Move, Shows, Sends, Takes, after_moves, AreMoves, votes, stands, backs, late_seen}

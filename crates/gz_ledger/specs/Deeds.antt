@@ -3,7 +3,7 @@
 use Rattle.std.specs.Prelude.{ℕ, ◌≡◌, ◌≤◌, ◌<◌, ◌==◌, ◌⊎◌, if◌then◌else◌, List, [], ◌∷◌, ◌++◌, Option, Some, None}
 use Rattle.gz_core.specs.Names.{Name}
 use Rattle.gz_core.specs.Slots.{Makes}
-use Rattle.gz_core.specs.declared.configuration.Config.{Config}
+use Rattle.gz_config.specs.declared.Config.{Config}
 use Rattle.gz_ledger.specs.Acceptors.{Acceptor, new_acceptor}
 use Rattle.gz_ledger.specs.Histories.{IsIn, Seen, Write, IsShown, IsCurrent, VotesFor, IsProposed}
 use Rattle.gz_ledger.specs.Guards.{May}

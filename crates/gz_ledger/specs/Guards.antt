@@ -2,7 +2,7 @@
 use Rattle.std.specs.Prelude.{ℕ, ◌≡◌, ◌≤◌, ◌+◌, suc, false, ◌⊎◌, List, length, Some, slice_get}
 use Rattle.gz_core.specs.Names.{Name, BallotAt, fast, same_ballot}
 use Rattle.gz_core.specs.Slots.{OpenAt, Act, VotesFast, Promises, VotesClassic, Decides, Trims, IsVoteOf}
-use Rattle.gz_core.specs.declared.configuration.Config.{Config}
+use Rattle.gz_config.specs.declared.Config.{Config}
 use Rattle.gz_pick.specs.declared.heard.Heard.{Heard}
 use Rattle.gz_pick.specs.declared.heard.Pick.TheVariants.{Free}
 use Rattle.gz_pick.specs.Choices.{AreSites, pick_of}

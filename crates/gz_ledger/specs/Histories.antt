@@ -2,7 +2,7 @@
 use Rattle.std.specs.Prelude.{ℕ, ◌≡◌, ◌≤◌, Bool, false, ◌&&◌, ◌||◌, ◌==◌, ◌⊎◌, List, [], ◌∷◌, length, Some}
 use Rattle.gz_core.specs.Names.{Name, BallotAt}
 use Rattle.gz_core.specs.Slots.{DecidedAs, OpenAt, Act, VotesFast, Promises, VotesClassic, Decides, Trims}
-use Rattle.gz_core.specs.declared.configuration.Config.{Config}
+use Rattle.gz_config.specs.declared.Config.{Config}
 use Rattle.gz_model.specs.Choosing.{IsChosenBy}
 use Rattle.gz_model.specs.Sites.{AreSites}
 use Rattle.gz_ledger.specs.Acceptors.{Acceptor, slot_votes, slot_voted, IsQuiet}

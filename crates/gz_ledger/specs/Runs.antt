@@ -2,8 +2,8 @@
 use Rattle.std.specs.Prelude.{ℕ, List, [], ◌∷◌, Some, None}
 use Rattle.gz_core.specs.Names.{Name, BallotAt, fast}
 use Rattle.gz_core.specs.Slots.{Slot, OpenAt, DecidedAs, VotesFast, Promises, VotesClassic, Decides, with_slot}
-use Rattle.gz_core.specs.declared.configuration.Config.{Config}
-use Rattle.gz_core.specs.declared.configuration.Order.TheVariants.{Parallel}
+use Rattle.gz_config.specs.declared.Config.{Config}
+use Rattle.gz_config.specs.declared.Order.TheVariants.{Parallel}
 use Rattle.gz_ledger.specs.Acceptors.{Acceptor, new_acceptor}
 use Rattle.gz_ledger.specs.Histories.{Seen, IsShown}
 use Rattle.gz_ledger.specs.Deeds.{Asked, Deed, Reads, Begins, Written, AreDeeds, seen_after}

@@ -4,7 +4,7 @@ use Rattle.std.specs.Str.{bytes_eq}
 use Rattle.gz_core.specs.Names.{Name, BallotAt, same_ballot, same_name}
 use Rattle.gz_core.specs.Configurations.{need}
 use Rattle.gz_core.specs.Counts.{count_sites}
-use Rattle.gz_core.specs.declared.configuration.Config.{Config}
+use Rattle.gz_config.specs.declared.Config.{Config}
 use Rattle.gz_model.specs.declared.casts.Cast.{Cast}
 use Rattle.gz_model.specs.Choosing.{IsChosenBy}
 

@@ -9,7 +9,7 @@ use Rattle.gz_core.specs.Configurations.{IsConfig}
 use Rattle.gz_core.specs.declared.calls.Answer.{Answer}
 use Rattle.gz_core.specs.declared.calls.Answer.TheVariants.{NoQuorum, Unsure}
 use Rattle.gz_core.specs.declared.calls.UnsureWhy.TheVariants.{NoQuorum as UnsureNoQuorum}
-use Rattle.gz_core.specs.declared.configuration.Config.{Config}
+use Rattle.gz_config.specs.declared.Config.{Config}
 use Rattle.gz_core.specs.declared.requests.RowStep.{RowStep}
 use Rattle.gz_core.specs.declared.requests.RowStep.TheVariants.{Promise, ClassicVote}
 use Rattle.gz_pick.specs.Looks.{highest_of}

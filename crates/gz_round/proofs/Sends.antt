@@ -8,7 +8,7 @@ use Rattle.gz_core.specs.Names.{Name, BallotAt}
 use Rattle.gz_core.specs.Rows.{RowAt}
 use Rattle.gz_core.specs.Calls.{key_of}
 use Rattle.gz_core.specs.declared.calls.Phase.{Phase}
-use Rattle.gz_core.specs.declared.configuration.Config.{Config}
+use Rattle.gz_config.specs.declared.Config.{Config}
 use Rattle.gz_core.specs.declared.requests.RowStep.{RowStep}
 use Rattle.gz_core.specs.declared.requests.Op.TheVariants.{WriteRow}
 use Rattle.gz_core.specs.declared.requests.Out.{Out}

@@ -5,7 +5,7 @@ use Rattle.gz_core.specs.Names.{Name, BallotAt, same_ballot}
 use Rattle.gz_core.specs.Rows.{RowAt}
 use Rattle.gz_core.specs.Slots.{Slot, Gone, DecidedAs, OpenAt, slots}
 use Rattle.gz_core.specs.declared.values.Value.{Value}
-use Rattle.gz_core.specs.declared.configuration.Config.{Config}
+use Rattle.gz_config.specs.declared.Config.{Config}
 use Rattle.gz_pick.specs.Evidences.{is_in}
 use Rattle.gz_pick.specs.Choices.{pick_of, AreSites}
 use Rattle.gz_pick.specs.declared.heard.Heard.{Heard}

@@ -3,7 +3,7 @@ use Rattle.std.specs.Prelude.{ℕ, false, ◌≡◌, ◌≤◌, ◌<◌, ◌+◌
 use Rattle.gz_core.specs.Counts.{count_sites}
 use Rattle.gz_core.specs.Calls.{key_of, own_value}
 use Rattle.gz_core.specs.declared.values.Value.{Value}
-use Rattle.gz_core.specs.declared.configuration.Config.{Config}
+use Rattle.gz_config.specs.declared.Config.{Config}
 use Rattle.gz_core.specs.declared.requests.RowStep.TheVariants.{Decide}
 use Rattle.gz_core.specs.declared.requests.Op.{Op}
 use Rattle.gz_core.specs.declared.requests.Op.TheVariants.{WriteRow}

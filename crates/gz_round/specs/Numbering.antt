@@ -1,7 +1,7 @@
 -- The numbers of the requests that a call awaits.
 use Rattle.std.specs.Prelude.{ℕ, ◌≡◌, ◌<◌, ◌≤◌, nat_lt, Bool, true, false, List, Option, Some, None}
 use Rattle.gz_core.specs.Counts.{count_sites}
-use Rattle.gz_core.specs.declared.configuration.Config.{Config}
+use Rattle.gz_config.specs.declared.Config.{Config}
 use Rattle.gz_round.specs.History.{Asked, Moment}
 use Rattle.gz_round.specs.Sites.{site_now}
 

@@ -9,7 +9,7 @@ use Rattle.gz_core.specs.declared.rows.Column.TheVariants.{Open, Decided}
 use Rattle.gz_core.specs.declared.values.Value.{Value}
 use Rattle.gz_core.specs.Counts.{count_sites}
 use Rattle.gz_core.specs.Configurations.{need}
-use Rattle.gz_core.specs.declared.configuration.Config.{Config}
+use Rattle.gz_config.specs.declared.Config.{Config}
 use Rattle.gz_pick.specs.Looks.{row_top}
 use Rattle.gz_pick.specs.Evidences.{votes_for, decides}
 use Rattle.gz_round.specs.History.{Moment}

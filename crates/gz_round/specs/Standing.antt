@@ -5,7 +5,7 @@ use Rattle.gz_core.specs.Rows.{RowAt}
 use Rattle.gz_core.specs.Calls.{key_of, own_value}
 use Rattle.gz_core.specs.declared.values.Value.{Value}
 use Rattle.gz_core.specs.declared.calls.Phase.TheVariants.{Look as NotBegun}
-use Rattle.gz_core.specs.declared.configuration.Config.{Config}
+use Rattle.gz_config.specs.declared.Config.{Config}
 use Rattle.gz_round.specs.declared.run.Awaited.{Awaited}
 use Rattle.gz_round.specs.declared.run.Mark.{Mark}
 use Rattle.gz_round.specs.declared.run.Run.{Run}

@@ -1,6 +1,6 @@
 //! Which requests a call awaits.
 ghost use Rattle.std.specs.Prelude.{◌≡◌, ℕ, List, Some, count_by, MatchOption};
-ghost use Rattle.gz_core.specs.declared.configuration.Config.{Config};
+ghost use Rattle.gz_config.specs.declared.Config.{Config};
 ghost use Rattle.gz_round.specs.History.{Moment};
 ghost use Rattle.gz_round.specs.Standing.{Knows, AreSound};
 ghost use Rattle.gz_round.specs.Numbering.{AreNumbered, IsLiveAt};

@@ -6,7 +6,7 @@ ghost use Rattle.gz_core.specs.Rows.{RowAt};
 ghost use Rattle.gz_core.specs.Names.{BallotAt};
 ghost use Rattle.gz_core.specs.Slots.{slots, slot_of, vote_pair, OpenAt};
 ghost use Rattle.gz_core.specs.Configurations.{IsConfig};
-ghost use Rattle.gz_core.specs.declared.configuration.Config.{Config};
+ghost use Rattle.gz_config.specs.declared.Config.{Config};
 ghost use Rattle.gz_pick.specs.Choices.{AreSites};
 ghost use Rattle.gz_pick.specs.Evidences.{is_in};
 ghost use Rattle.gz_round.specs.History.{Moment, Caller, Tale};

@@ -5,7 +5,7 @@ ghost use Rattle.gz_pick.specs.Looks.{row_name};
 ghost use Rattle.gz_core.specs.Configurations.{IsConfig};
 ghost use Rattle.gz_round.specs.History.{Moment, Caller, Tale};
 ghost use Rattle.gz_round.specs.Following.{IsReady, Ready, NextMeans, MayPass, IsFirst, IsStageAt};
-ghost use Rattle.gz_core.specs.declared.configuration.Config.{Config};
+ghost use Rattle.gz_config.specs.declared.Config.{Config};
 ghost use Rattle.gz_round.specs.Evidence.{NoneEvident, EvidentAt};
 ghost use Rattle.gz_round.specs.Standing.{Stands, IsKept};
 

@@ -1,7 +1,7 @@
 //! What came at an event, noted.
 ghost use Rattle.std.specs.Prelude.{◌≡◌, ◌≤◌, ◌<◌, ◌+◌, ◌^◌, List, length, slice_get, ◌∷◌, Option, Some, None, IfOk, OnOk};
 ghost use Rattle.gz_core.specs.Rows.{RowAt};
-ghost use Rattle.gz_core.specs.declared.configuration.Config.{Config};
+ghost use Rattle.gz_config.specs.declared.Config.{Config};
 ghost use Rattle.gz_round.specs.History.{Asked, Moment, Handed, GaveUp, Caller, Tale};
 ghost use Rattle.gz_round.specs.Sites.{is_changed, site_now, seen_in};
 ghost use Rattle.gz_round.specs.Noting.{noted_by, written_at, IsReplyNoted};

@@ -5,7 +5,7 @@ use Rattle.std.specs.Prelude.{Option, IsSome, not, ◌==◌, ◌&&◌, ◌||◌}
 use Rattle.gz_core.specs.Names.{Name, BallotAt, same_ballot, same_name}
 use Rattle.gz_core.specs.Rows.{RowAt}
 use Rattle.gz_core.specs.Slots.{Act, VotesClassic}
-use Rattle.gz_core.specs.declared.configuration.Config.{Config}
+use Rattle.gz_config.specs.declared.Config.{Config}
 use Rattle.gz_core.proofs.Ballots.{name_refl}
 use Rattle.gz_core.proofs.Counting.{count_within, count_weaker}
 use Rattle.gz_round.specs.History.{Caller, Tale}

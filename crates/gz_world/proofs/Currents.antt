@@ -12,7 +12,7 @@ use Rattle.gz_core.specs.Rows.{RowAt, column_in}
 use Rattle.gz_core.specs.Slots.{OpenAt, act_of, slots, slot_of}
 use Rattle.gz_core.specs.declared.rows.Column.{Column}
 use Rattle.gz_core.specs.declared.rows.Column.TheVariants.{Open, Decided}
-use Rattle.gz_core.specs.declared.configuration.Config.{Config}
+use Rattle.gz_config.specs.declared.Config.{Config}
 use Rattle.gz_core.specs.declared.calls.Call.{Call}
 use Rattle.gz_core.specs.declared.calls.Call.TheVariants.{Put as PutCall, Delete as DeleteCall, Get as GetCall}
 use Rattle.gz_core.specs.declared.values.Value.{Value}

@@ -6,7 +6,7 @@ use Rattle.std.specs.Prelude.{Option, MatchOption, ◌==◌, if◌then◌else◌
 use Rattle.gz_core.specs.Names.{Name}
 use Rattle.gz_core.specs.declared.calls.Answer.{Answer}
 use Rattle.gz_core.specs.declared.calls.Call.{Call}
-use Rattle.gz_core.specs.declared.configuration.Config.{Config}
+use Rattle.gz_config.specs.declared.Config.{Config}
 use Rattle.gz_core.specs.declared.requests.Turn.{Turn}
 use Rattle.gz_round.specs.History.{Asked, Moment, Handed, GaveUp, Caller, Tale, begun, turned}
 use Rattle.gz_client.specs.Tales.{IsTold, AreTold}

@@ -5,7 +5,7 @@ use Rattle.gz_world.specs.Steps.{last_name, name_at}
 use Rattle.std.specs.Prelude.{Option, IsSome, option_map, ◌==◌, if◌then◌else◌, ◌↔◌, IsTrue, is_none, slice_get}
 use Rattle.std.specs.Option.{ForSome, option_map_or}
 use Rattle.gz_core.specs.declared.calls.Answer.{Answer}
-use Rattle.gz_core.specs.declared.configuration.Config.{Config}
+use Rattle.gz_config.specs.declared.Config.{Config}
 use Rattle.gz_round.specs.History.{Tale}
 use Rattle.gz_client.specs.Tales.{Holds, AreTold, IsRunning}
 use Rattle.gz_history.specs.declared.record.CallRec.{CallRec}

@@ -4,7 +4,7 @@ use Rattle.std.specs.Prelude.{Option, ◌==◌, slice_get, slice_set, option_map
 use Rattle.std.proofs.lemmas.Bool.{cases_eq}
 use Rattle.std.proofs.lemmas.Bool.Decides.{nat_tests}
 use Rattle.gz_core.specs.Configurations.{IsConfig}
-use Rattle.gz_core.specs.declared.configuration.Config.{Config}
+use Rattle.gz_config.specs.declared.Config.{Config}
 use Rattle.gz_round.specs.History.{Tale}
 use Rattle.gz_client.specs.Tales.{Holds}
 use Rattle.gz_site.specs.Told.{Told}

@@ -10,7 +10,7 @@ use Rattle.gz_client.specs.Tales.{Holds, HoldsRun, CanBegin}
 use Rattle.gz_world.specs.declared.requests.Request.{Request}
 use Rattle.gz_world.specs.declared.world.Member.{Member}
 use Rattle.gz_core.specs.Configurations.{IsConfig}
-use Rattle.gz_core.specs.declared.configuration.Config.{Config}
+use Rattle.gz_config.specs.declared.Config.{Config}
 use Rattle.gz_core.specs.declared.calls.Call.{Call}
 use Rattle.gz_round.specs.History.{Handed, GaveUp, Tale}
 use Rattle.gz_site.specs.Told.{Told}

@@ -6,7 +6,7 @@ use Rattle.gz_core.specs.Names.{Name}
 use Rattle.gz_core.specs.Calls.{key_of}
 use Rattle.gz_core.specs.Slots.{Act}
 use Rattle.gz_core.specs.declared.calls.Answer.{Answer}
-use Rattle.gz_core.specs.declared.configuration.Config.{Config}
+use Rattle.gz_config.specs.declared.Config.{Config}
 use Rattle.gz_core.specs.declared.requests.Op.{Op}
 use Rattle.gz_core.specs.declared.requests.Out.{Out}
 use Rattle.gz_core.specs.declared.requests.Reply.{Reply}

@@ -4,7 +4,7 @@ use Rattle.std.specs.Prelude.{Option, ◌==◌, ◌&&◌, ◌||◌, if◌then◌
 use Rattle.gz_core.specs.Names.{Name, BallotAt}
 use Rattle.gz_core.specs.Rows.{RowAt, empty_row}
 use Rattle.gz_core.specs.Slots.{slots}
-use Rattle.gz_core.specs.declared.configuration.Config.{Config}
+use Rattle.gz_config.specs.declared.Config.{Config}
 use Rattle.gz_core.specs.declared.requests.RowStep.{RowStep}
 use Rattle.gz_core.specs.declared.requests.Op.{Op}
 use Rattle.gz_core.specs.declared.requests.Op.TheVariants.{ReadRow, WriteRow}

@@ -6,7 +6,7 @@ use Rattle.gz_core.specs.Calls.{key_of}
 use Rattle.gz_core.specs.Counts.{count_sites}
 use Rattle.gz_core.specs.Rows.{RowAt}
 use Rattle.gz_core.specs.Slots.{Act, VotesClassic, slots}
-use Rattle.gz_core.specs.declared.configuration.Config.{Config}
+use Rattle.gz_config.specs.declared.Config.{Config}
 use Rattle.gz_round.specs.History.{Tale}
 use Rattle.gz_round.specs.Shown.{IsShown}
 use Rattle.gz_site.specs.Told.{Told}

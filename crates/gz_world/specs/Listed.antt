@@ -1,6 +1,6 @@
 -- The calls of the history are those of the sessions' tales, and each tale is told by the rules.
 use Rattle.std.specs.Prelude.{ℕ, ◌≡◌, ◌⊎◌, List, [], ◌∷◌, Some, slice_get}
-use Rattle.gz_core.specs.declared.configuration.Config.{Config}
+use Rattle.gz_config.specs.declared.Config.{Config}
 use Rattle.gz_round.specs.History.{Tale}
 use Rattle.gz_client.specs.Tales.{IsTold, AreTold}
 use Rattle.gz_history.specs.declared.record.CallRec.{CallRec}

@@ -1,6 +1,6 @@
 -- A world as it is opened.
 use Rattle.std.specs.Prelude.{ℕ, ◌≡◌, false, List, [], Option, IfSome}
-use Rattle.gz_core.specs.declared.configuration.Config.{Config}
+use Rattle.gz_config.specs.declared.Config.{Config}
 use Rattle.gz_site.specs.Told.{Told, IsEmpty}
 use Rattle.gz_site.specs.Many.{told_at}
 use Rattle.gz_world.specs.declared.world.World.{World}

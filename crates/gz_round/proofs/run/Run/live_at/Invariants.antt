@@ -1,5 +1,5 @@
 use Rattle.std.proofs.Common.{◌≡◌, ℕ, List, nat_lt}
-use Rattle.gz_core.specs.declared.configuration.Config.{Config}
+use Rattle.gz_config.specs.declared.Config.{Config}
 use Rattle.gz_round.specs.History.{Moment}
 use Rattle.gz_round.specs.Standing.{Knows}
 use Rattle.gz_round.specs.Numbering.{AreNumbered, live_where}

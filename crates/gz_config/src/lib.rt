@@ -1,9 +1,11 @@
 //! The sizes of a store: sites, quorums, fragments, and how often a call tries again.
+#![tactic(auto)]
+
 ghost use Rattle.std.specs.Prelude.{◌≡◌, IfOk};
-ghost use Rattle.gz_core.specs.Configurations.{check_of, IsConfig};
+ghost use Rattle.gz_config.specs.Configurations.{check_of, IsConfig};
 
 /// Whether the fragments of a put are sent beside its first reads, or before them.
-#[derive(Clone, Copy, Debug, PartialEq, Eq)]
+#[derive(Clone, Copy, Debug)]
 pub enum Order {
     Parallel,
     BlobsFirst,
@@ -12,7 +14,7 @@ pub enum Order {
 /// The configuration of a store: `n` sites, classic quorums of `qc` sites and fast quorums of `qf`, `k` data
 /// fragments and `m` parity fragments of an object, `f` fragments beyond `k` that must be stored before a put
 /// answers Ok, and the number `tries` of lost races at which a call gives up.
-#[derive(Clone, Copy, Debug, PartialEq, Eq)]
+#[derive(Clone, Copy, Debug)]
 pub struct Config {
     pub n: u16,
     pub qc: u16,
