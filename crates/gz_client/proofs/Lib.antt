@@ -2,4 +2,3 @@ pub mod Holding
 pub mod Live
 pub mod Exactly
 mod LiveRequests
-mod Driving

@@ -114,7 +114,3 @@ Extends old new n first moment turn =
 abbrev pub going_on : Run → Option Answer → Option Run
 going_on run None = Some run
 going_on run (Some answer) = None
-
--- the client stands for at most so many tales, and its requests have numbers below `first`
-abbrev pub IsHeld : Client → ℕ → ℕ → Type 0
-IsHeld client calls first = (next : ℕ) × (ts : List Tale) × Holds client next ts × (next ≤ first) × (length ts ≤ calls)

@@ -12,7 +12,7 @@ use gz_round::Run;
 use std::alloc::{AllocError, Global};
 
 /// The client of one session, and the greatest round that it promised: at most one call of it runs.
-#[derive(Debug, Drop)]
+#[derive(Drop)]
 pub struct Client {
     config: Config,
     session: Session,

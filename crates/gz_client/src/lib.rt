@@ -3,8 +3,6 @@
 
 pub mod client;
 mod law;
-#[cfg(test)]
-mod tests;
 
 pub use client::Client;
 pub use law::ends_exactly;

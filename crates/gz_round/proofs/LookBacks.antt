@@ -18,7 +18,7 @@ use Rattle.gz_round.specs.History.{Moment, IsEarlier}
 use Rattle.gz_round.specs.Sites.{SiteNow, site_now, known, row_seen, WasHeard}
 use Rattle.gz_round.specs.Shown.{row_value, column_value}
 use Rattle.gz_round.specs.LookBack.{column_cast, row_cast, or_next, lowest, lowest_vote, IsLookedBack}
-use Rattle.gz_round.specs.Choosing.{last_of, AreLastVotes}
+use Rattle.gz_round.specs.Choosing.{AreLastVotes}
 use Rattle.gz_round.specs.Standing.{Knows, left_of, mark_of}
 use Rattle.gz_round.proofs.Lists.{place_of}
 use Rattle.gz_round.proofs.Known.{last_heard}
@@ -81,16 +81,16 @@ lowest_above (suc n) k f x l e =
 pub lowest_here : {A : Type 0} (n at : ℕ) (f : ℕ → Option A) (x : A) → at < n → lowest at f ≡ None → f at ≡ Some x → lowest n f ≡ Some x
 lowest_here n at f x l low here = lowest_above n (suc at) f x (omega arith) (ap (λ o. or_next o (f at)) low ∙ here)
 
-last_none : (o : Option RowAt) → last_of o None ≡ o
+last_none : (o : Option RowAt) → or_next o None ≡ o
 last_none None = refl
 last_none (Some row) = refl
 
 -- the last row of a site is the one that is known, or the one that was left
-last_row : (now : SiteNow) → last_of (known now) (left_of now) ≡ row_seen now.row
+last_row : (now : SiteNow) → or_next (known now) (left_of now) ≡ row_seen now.row
 last_row now =
     elim (cases_Bool now.out) [
-      | inl e ↦ ap (λ o. last_of o (left_of now)) (cond-true now.out None (row_seen now.row) e) ∙ cond-true now.out (row_seen now.row) None e
-      | inr e ↦ ap (λ o. last_of o (left_of now)) (cond-false now.out None (row_seen now.row) e) ∙ (ap (last_of (row_seen now.row)) (cond-false now.out (row_seen now.row) None e) ∙ last_none (row_seen now.row))
+      | inl e ↦ ap (λ o. or_next o (left_of now)) (cond-true now.out None (row_seen now.row) e) ∙ cond-true now.out (row_seen now.row) None e
+      | inr e ↦ ap (λ o. or_next o (left_of now)) (cond-false now.out None (row_seen now.row) e) ∙ (ap (or_next (row_seen now.row)) (cond-false now.out (row_seen now.row) None e) ∙ last_none (row_seen now.row))
     ]
 
 -- the lists tell the votes of the last rows
@@ -99,11 +99,11 @@ told_votes c run ms v k s row mark at_row at_mark =
     let inside : s < c.n = let len = k.rows_len in omega (arith, slice_get_within run.rows s row at_row) in
     let row_is : row ≡ known (site_now ms s) = same_Some row (known (site_now ms s)) (sym at_row ∙ k.rows s inside) in
     let mark_is : mark ≡ mark_of (site_now ms s) = same_Some mark (mark_of (site_now ms s)) (sym at_mark ∙ k.marks s inside) in
-    ap (row_cast v) (sym (last_row (site_now ms s)) ∙ (ap (λ o. last_of o (left_of (site_now ms s))) (sym row_is) ∙ ap (λ (m : Mark). last_of row m.left) (sym mark_is)))
+    ap (row_cast v) (sym (last_row (site_now ms s)) ∙ (ap (λ o. or_next o (left_of (site_now ms s))) (sym row_is) ∙ ap (λ (m : Mark). or_next row m.left) (sym mark_is)))
 
 -- the vote of the last row of a site
 pub last_told : (run : Run) (v at : ℕ) (f : ℕ → Option Value) (o : Option Value) → AreLastVotes run v f → at < length run.rows → at < length run.marks →
-    ((row : Option RowAt) (mark : Mark) → slice_get run.rows at ≡ Some row → slice_get run.marks at ≡ Some mark → o ≡ row_cast v (last_of row mark.left)) → f at ≡ o
+    ((row : Option RowAt) (mark : Mark) → slice_get run.rows at ≡ Some row → slice_get run.marks at ≡ Some mark → o ≡ row_cast v (or_next row mark.left)) → f at ≡ o
 last_told run v at f o votes in_rows in_marks told =
     let row = place_of run.rows at in_rows in
     let mark = place_of run.marks at in_marks in

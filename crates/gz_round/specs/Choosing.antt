@@ -44,11 +44,6 @@ IsProposed c run v found heard o =
     ((pick_of c.n c.qf heard ≡ Free) × (o ≡ or_next run.own found))
     ⊎ ((at : ℕ) × (h : Heard) × (row : RowAt) × (pick_of c.n c.qf heard ≡ Forced at) × (slice_get heard at ≡ Some h) × (slice_get run.rows h.site ≡ Some (Some row)) × (x : Value) × (row_value row v ≡ Some x) × (o ≡ Some x))
 
--- the last row of a site: the one that is known, or the one that was left when it went out
-abbrev pub last_of : Option RowAt → Option RowAt → Option RowAt
-last_of None left = left
-last_of (Some row) left = Some row
-
--- a function that tells of each site the value that its last row has a vote for
+-- a function that tells of each site the value that its last row has a vote for: of the row that is known, or the one that was left when it went out
 abbrev pub AreLastVotes : Run → ℕ → (ℕ → Option Value) → Type 0
-AreLastVotes run v f = (s : ℕ) (row : Option RowAt) (mark : Mark) → slice_get run.rows s ≡ Some row → slice_get run.marks s ≡ Some mark → f s ≡ row_cast v (last_of row mark.left)
+AreLastVotes run v f = (s : ℕ) (row : Option RowAt) (mark : Mark) → slice_get run.rows s ≡ Some row → slice_get run.marks s ≡ Some mark → f s ≡ row_cast v (or_next row mark.left)

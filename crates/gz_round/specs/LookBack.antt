@@ -22,6 +22,7 @@ abbrev pub row_cast : ℕ → Option RowAt → Option Value
 row_cast v None = None
 row_cast v (Some row) = column_cast (column_in row.columns v)
 
+-- the first of two that is there
 abbrev pub or_next : {A : Type 0} → Option A → Option A → Option A
 or_next None next = next
 or_next (Some x) next = Some x

@@ -24,7 +24,7 @@ use gz_pick::pick;
 use std::alloc::{AllocError, Global};
 
 /// What the promises of the call's ballot come to.
-#[derive(Debug, Drop)]
+#[derive(Drop)]
 pub enum Choice {
     /// The phase goes on: they are too few.
     Wait,

@@ -14,7 +14,7 @@ use gz_core::{Config, PutName, Row, SiteId, Version};
 use gz_pick::{evidence, highest, named_at};
 
 /// What the rows that are known come to.
-#[derive(Clone, Copy, Debug, PartialEq, Eq)]
+#[derive(Clone, Copy)]
 pub enum Next {
     /// The phase goes on.
     Wait,

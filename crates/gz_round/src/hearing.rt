@@ -11,7 +11,7 @@ use gz_core::{Column, Etag, Reply, Row, Version};
 use std::alloc::{AllocError, Global};
 
 /// A row that was heard, and the tag that it stands under (none: there was no row).
-#[derive(Debug, Drop)]
+#[derive(Drop)]
 pub struct Seen {
     pub etag: Option<Etag>,
     pub row: Row,

@@ -7,8 +7,8 @@ ghost use Rattle.gz_core.specs.Configurations.{IsConfig};
 ghost use Rattle.gz_core.specs.declared.values.Value.{Value};
 ghost use Rattle.gz_round.specs.declared.run.Mark.{Mark};
 ghost use Rattle.gz_round.specs.History.{Moment, Caller, Tale};
-ghost use Rattle.gz_round.specs.LookBack.{column_cast, row_cast, lowest, lowest_vote};
-ghost use Rattle.gz_round.specs.Choosing.{last_of, AreLastVotes};
+ghost use Rattle.gz_round.specs.LookBack.{column_cast, row_cast, or_next, lowest, lowest_vote};
+ghost use Rattle.gz_round.specs.Choosing.{AreLastVotes};
 ghost use Rattle.gz_round.specs.Standing.{Stands};
 
 use crate::acting::value_of;
@@ -53,7 +53,7 @@ impl Run {
         requires rows { at < length self.now.rows }
         requires marks { at < length self.now.marks }
         ensures { (row : Option RowAt) (mark : Mark) → slice_get self.now.rows at ≡ Some row → slice_get self.now.marks at ≡ Some mark
-            → option_copied result ≡ row_cast version (last_of row mark.left) }
+            → option_copied result ≡ row_cast version (or_next row mark.left) }
     {
         match self.rows.at(at) {
             None => vote_of(&self.marks.at(at).left, version),

@@ -5,7 +5,7 @@ use gz_core::{Ballot, Etag, Items, Key, Phase, PutName, Row, Value, Version};
 use std::alloc::AllocError;
 
 /// A row request that is awaited: its number, and the row that it writes if it is a write.
-#[derive(Clone, Debug, Drop)]
+#[derive(Clone, Drop)]
 pub struct Awaited {
     pub number: u32,
     pub written: Option<Row>,
@@ -14,7 +14,7 @@ pub struct Awaited {
 /// What a call keeps of a site beside its row: the tag of the last row that was heard (none: there was no row),
 /// whether that row was overtaken since, whether the site is out for the call, its last row where it is, and the
 /// request that is awaited.
-#[derive(Clone, Debug, Drop)]
+#[derive(Clone, Drop)]
 pub struct Mark {
     pub etag: Option<Etag>,
     pub changed: bool,
@@ -26,7 +26,7 @@ pub struct Mark {
 /// The phase of a call. `Look` reads every site; `Fast` votes in the fast ballot of a version; `Prepare` asks for
 /// promises of a classic ballot, after it `found` a value to propose in the votes that were heard if the call has
 /// none of its own, and `Accept` votes in it for a value that the promises allow.
-#[derive(Debug, Drop)]
+#[derive(Drop)]
 pub enum Stage {
     Look,
     Fast {
@@ -57,34 +57,48 @@ impl Clone for Stage {
                 version,
                 ballot,
                 found,
-            } => {
-                let found = found.clone()?;
-                Ok(Stage::Prepare {
-                    version: *version,
-                    ballot: *ballot,
-                    found,
-                })
-            },
+            } => preparation(*version, *ballot, found),
             Stage::Accept {
                 version,
                 ballot,
                 value,
-            } => {
-                let value = value.clone()?;
-                Ok(Stage::Accept {
-                    version: *version,
-                    ballot: *ballot,
-                    value,
-                })
-            },
+            } => acceptance(*version, *ballot, value),
         }
     }
+}
+
+/// The phase that prepares a ballot, with a copy of what was found.
+fn preparation(
+    version: Version,
+    ballot: Ballot,
+    found: &Option<Value>,
+) -> Result<Stage, AllocError>
+    ensures { IfOk result (λ stage. stage ≡ Stage.Prepare version ballot found.now) }
+{
+    let found = found.clone()?;
+    Ok(Stage::Prepare {
+        version,
+        ballot,
+        found,
+    })
+}
+
+/// The phase that votes in a ballot for a copy of a value.
+fn acceptance(version: Version, ballot: Ballot, value: &Value) -> Result<Stage, AllocError>
+    ensures { IfOk result (λ stage. stage ≡ Stage.Accept version ballot value.now) }
+{
+    let value = value.clone()?;
+    Ok(Stage::Accept {
+        version,
+        ballot,
+        value,
+    })
 }
 
 /// A running call: its name, the object's key, the value that it writes if it writes one, the last row of each
 /// site that isn't out, what else it keeps of each site, how often it was overtaken, whether it voted for its
 /// value, the part that sent its last row write, the greatest round that its session promised, and its phase.
-#[derive(Clone, Debug, Drop)]
+#[derive(Clone, Drop)]
 pub struct Run {
     pub name: PutName,
     pub key: Key,

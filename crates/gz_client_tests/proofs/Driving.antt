@@ -4,7 +4,8 @@ use Rattle.std.specs.Prelude.{nat_lt}
 use Rattle.gz_core.specs.declared.requests.Turn.{Turn}
 use Rattle.gz_round.specs.History.{Asked, Moment, Tale, turned}
 use Rattle.gz_client.specs.declared.client.Client.{Client}
-use Rattle.gz_client.specs.Tales.{Holds, CanBeTold, Extends, IsHeld, live}
+use Rattle.gz_client.specs.Tales.{Holds, CanBeTold, Extends, live}
+use Rattle.gz_client_tests.specs.Holding.{IsHeld}
 use Rattle.gz_client.proofs.Holding.{can_be_told}
 use Rattle.gz_client.proofs.Live.{live_when}
 

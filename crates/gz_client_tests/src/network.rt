@@ -1,0 +1,243 @@
+//! Three sites, of which each stores a row, and the requests that were sent to them.
+ghost use Rattle.std.specs.Prelude.{◌+◌, ◌<◌, ◌≤◌, ◌≡◌, length, IfOk};
+
+use gz_accept::{fast_vote, promise};
+use gz_core::{
+    Answer, Ballot, Etag, Items, Op, Out, PutName, PutValue, Reply, Row, Session, Turn, Value,
+    Version,
+};
+use std::alloc::{AllocError, Global};
+use std::test::Fail;
+
+/// What happens next: a request is delivered to its site, a reply of one is handed to the client, both, the client
+/// is told that one failed, one is given up, or another session votes or promises a ballot at a site.
+#[derive(Clone, Copy)]
+pub enum Move {
+    Deliver(u32),
+    Reply(u32, usize),
+    Take(u32),
+    Fail(u32),
+    GiveUp(u32),
+    Vote(usize),
+    Promise(usize),
+}
+
+/// What the client is told of a request: a reply, or that none comes.
+#[derive(Drop)]
+pub struct Told {
+    pub number: u32,
+    pub reply: Option<Reply>,
+}
+
+/// A row that a site stores, and its tag.
+#[derive(Drop)]
+struct Stored {
+    etag: Etag,
+    row: Row,
+}
+
+/// A request that was sent, and its replies.
+#[derive(Drop)]
+struct Sent {
+    out: Out,
+    replies: Vec<Reply>,
+}
+
+/// What the sites store, and what was sent to them.
+#[derive(Drop)]
+pub struct Network {
+    rows: Vec<Option<Stored>>,
+    sent: Vec<Sent>,
+}
+
+impl Network {
+    /// Three sites without a row.
+    pub fn new(alloc: Global) -> Result<Network, AllocError> {
+        let mut rows = Vec::new(alloc);
+        for _ in 0..3 {
+            rows.push(None)?;
+        }
+        Ok(Network {
+            rows,
+            sent: Vec::new(alloc),
+        })
+    }
+
+    /// How many requests were sent.
+    pub fn count(&self) -> usize {
+        self.sent.len()
+    }
+
+    /// Sends the requests of an event.
+    pub fn send(&mut self, alloc: Global, turn: Turn) -> Result<Option<Answer>, AllocError> {
+        let Turn { send, answer } = turn;
+        for out in send.into_vec() {
+            self.sent.push(Sent {
+                out,
+                replies: Vec::new(alloc),
+            })?;
+        }
+        Ok(answer)
+    }
+
+    /// Makes a move, and says what the client is told at it.
+    pub fn make(&mut self, alloc: Global, next: Move) -> Result<Option<Told>, Fail> {
+        match next {
+            Move::Deliver(number) => self.deliver(number)?,
+            Move::Reply(number, which) => return self.replied(number, which),
+            Move::Take(number) => {
+                self.deliver(number)?;
+                return self.replied(number, 1);
+            },
+            Move::Fail(number) => {
+                let reply = Some(Reply::Failed);
+                return Ok(Some(Told { number, reply }));
+            },
+            Move::GiveUp(number) => {
+                let reply = None;
+                return Ok(Some(Told { number, reply }));
+            },
+            Move::Vote(site) => self.vote(alloc, site)?,
+            Move::Promise(site) => self.promise(site)?,
+        }
+        Ok(None)
+    }
+
+    /// The place of a request.
+    fn place(&self, number: u32) -> Result<usize, Fail>
+        ensures { IfOk result (λ at. at < length self.now.sent.items) }
+    {
+        let at = (number as usize).wrapping_sub(1);
+        if at < self.sent.len() {
+            Ok(at)
+        } else {
+            Err(Fail::from("no request"))
+        }
+    }
+
+    /// Delivers a request to its site.
+    fn deliver(&mut self, number: u32) -> Result<(), Fail> {
+        let at = self.place(number)?;
+        let site = self.sent[at].out.site.index();
+        if site >= self.rows.len() {
+            return Err(Fail::from("no site"));
+        }
+        let reply = perform(&mut self.rows[site], &self.sent[at].out.op)?;
+        self.sent[at].replies.push(reply)?;
+        Ok(())
+    }
+
+    /// A reply of a request, counted from 1.
+    fn replied(&self, number: u32, which: usize) -> Result<Option<Told>, Fail> {
+        let at = self.place(number)?;
+        if which == 0 || which > self.sent[at].replies.len() {
+            return Err(Fail::from("no reply"));
+        }
+        let reply = self.sent[at].replies[which - 1].clone()?;
+        Ok(Some(Told {
+            number,
+            reply: Some(reply),
+        }))
+    }
+
+    /// Has another session's put vote at a site that has no row.
+    fn vote(&mut self, alloc: Global, site: usize) -> Result<(), Fail> {
+        if site >= self.rows.len() {
+            return Err(Fail::from("no site"));
+        }
+        let row = voted_row(alloc)?;
+        let etag = Etag(1);
+        self.rows[site] = Some(Stored { etag, row });
+        Ok(())
+    }
+
+    /// Has another session's put promise its ballot at a site that has a row.
+    fn promise(&mut self, site: usize) -> Result<(), Fail> {
+        if site >= self.rows.len() {
+            return Err(Fail::from("no site"));
+        }
+        match &mut self.rows[site] {
+            None => Err(Fail::from("no row")),
+            Some(stored) => Ok(promise_in(stored)?),
+        }
+    }
+}
+
+/// The name of the first put of another session, which votes for the byte 7.
+pub fn name_of_another() -> PutName {
+    PutName {
+        session: Session(2),
+        seq: 1,
+    }
+}
+
+/// A row in which another session's put has voted at version 1.
+fn voted_row(alloc: Global) -> Result<Row, AllocError> {
+    let name = name_of_another();
+    let bytes = Items::from_slice(alloc, &[7])?;
+    let value = Value::Put(PutValue { name, bytes });
+    let mut row = Row::empty(alloc);
+    fast_vote(&mut row, Version(1), &value)?;
+    Ok(row)
+}
+
+/// Has another session promise its first ballot at version 1 of a row.
+fn promise_in(stored: &mut Stored) -> Result<(), AllocError> {
+    let ballot = Ballot {
+        round: 1,
+        session: 2,
+    };
+    promise(&mut stored.row, Version(1), ballot)?;
+    stored.etag = tag_after(Some(stored.etag));
+    Ok(())
+}
+
+/// What a site does.
+fn perform(stored: &mut Option<Stored>, op: &Op) -> Result<Reply, AllocError> {
+    match op {
+        Op::ReadRow { .. } => read(stored),
+        Op::WriteRow { expect, row, .. } => write(stored, *expect, row),
+    }
+}
+
+fn read(stored: &Option<Stored>) -> Result<Reply, AllocError> {
+    match stored {
+        None => Ok(Reply::NoRow),
+        Some(stored) => {
+            let row = stored.row.clone()?;
+            Ok(Reply::Row {
+                etag: stored.etag,
+                row,
+            })
+        },
+    }
+}
+
+fn write(
+    stored: &mut Option<Stored>,
+    expect: Option<Etag>,
+    row: &Row,
+) -> Result<Reply, AllocError> {
+    let tag = tag_of(stored);
+    if tag != expect {
+        return Ok(Reply::Changed);
+    }
+    let etag = tag_after(tag);
+    let row = row.clone()?;
+    *stored = Some(Stored { etag, row });
+    Ok(Reply::Written { etag })
+}
+
+fn tag_of(stored: &Option<Stored>) -> Option<Etag> {
+    match stored {
+        None => None,
+        Some(stored) => Some(stored.etag),
+    }
+}
+
+fn tag_after(tag: Option<Etag>) -> Etag {
+    match tag {
+        None => Etag(1),
+        Some(etag) => Etag(etag.number().wrapping_add(1)),
+    }
+}
