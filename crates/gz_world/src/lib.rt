@@ -12,8 +12,6 @@ pub mod opening;
 pub mod refusals;
 pub mod requests;
 pub mod sessions;
-#[cfg(test)]
-mod tests;
 pub mod turns;
 pub mod weights;
 pub mod world;

@@ -1,6 +1,7 @@
 //! Texts of schedules, read and refused.
-use super::*;
 use gz_core::{Call, Items, Key, Session, SiteId, TextError, Why};
+use gz_script::line::Line;
+use gz_script::read_schedule;
 use std::alloc::Global;
 use std::test::Fail;
 

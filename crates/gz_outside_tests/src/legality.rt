@@ -1,109 +1,18 @@
 //! Histories that are legal, and that break one rule.
-use super::*;
-use gz_core::{Answer, Call, Items, Key, Phase, PutName, Session, Version};
+use crate::records::Asked::{Delete, Get, Put};
+use crate::records::Told::{Absent, Contended, Gone, NoQuorum, Open, Placed, Read};
+use crate::records::{Brief, record_of};
+use gz_history::{is_history, legal};
 use std::alloc::Global;
 use std::test::Fail;
-
-/// What a call does: a put with its byte.
-#[derive(Clone, Copy)]
-enum Asked {
-    Put(u8),
-    Delete,
-    Get,
-}
-
-/// What a call was told: versions, the session that is named, the byte that was read.
-#[derive(Clone, Copy)]
-enum Told {
-    Open,
-    Placed(u64),
-    Read(u64, u32, u8),
-    Gone(u64, u32),
-    Absent,
-    NoQuorum,
-    Contended,
-}
-
-/// The first and only call of a session: its session, its key, what it does, its ticks, and what it was told.
-type Brief = (u32, u8, Asked, u32, u32, Told);
 
 /// The clause that is broken, with the sessions of its two calls; 0 where none is.
 type Judged = (u8, u32, u32);
 
-fn name_of(session: u32) -> Result<PutName, Fail> {
-    if session == 0 {
-        return Err(Fail::from("no session"));
-    }
-    Ok(PutName {
-        session: Session(session),
-        seq: 1,
-    })
-}
-
-fn version_of(version: u64) -> Result<Version, Fail> {
-    if version >= 1 << 63 {
-        return Err(Fail::from("no version"));
-    }
-    Ok(Version(version))
-}
-
-fn answer_of(alloc: Global, told: Told) -> Result<Option<Answer>, Fail> {
-    Ok(match told {
-        Told::Open => None,
-        Told::Absent => Some(Answer::Absent),
-        Told::NoQuorum => Some(Answer::NoQuorum {
-            phase: Phase::Look,
-            heard: 1,
-        }),
-        Told::Contended => Some(Answer::Contended { met: 1 }),
-        Told::Gone(version, session) => Some(Answer::Gone {
-            version: version_of(version)?,
-            name: name_of(session)?,
-        }),
-        Told::Placed(version) => Some(Answer::Ok {
-            version: version_of(version)?,
-        }),
-        Told::Read(version, session, byte) => Some(Answer::Bytes {
-            version: version_of(version)?,
-            name: name_of(session)?,
-            bytes: Items::from_slice(alloc, &[byte])?,
-        }),
-    })
-}
-
-fn call_of(alloc: Global, key: Key, asked: Asked) -> Result<Call, Fail> {
-    Ok(match asked {
-        Asked::Put(byte) => Call::Put {
-            key,
-            bytes: Items::from_slice(alloc, &[byte])?,
-        },
-        Asked::Delete => Call::Delete { key },
-        Asked::Get => Call::Get { key },
-    })
-}
-
-fn record_of(alloc: Global, brief: Brief) -> Result<CallRec, Fail> {
-    let (session, key, asked, begin, end, told) = brief;
-    let Some(key) = Key::new(Vec::from_slice(alloc, &[key])?) else {
-        return Err(Fail::from("no key"));
-    };
-    Ok(CallRec {
-        name: name_of(session)?,
-        call: call_of(alloc, key, asked)?,
-        begin,
-        end: if let Told::Open = told {
-            None
-        } else {
-            Some(end)
-        },
-        answer: answer_of(alloc, told)?,
-    })
-}
-
 fn judged(alloc: Global, briefs: &[Brief]) -> Result<Judged, Fail> {
     let mut calls = Vec::new(alloc);
     for brief in briefs {
-        calls.push(record_of(alloc, *brief)?)?;
+        calls.push(record_of(alloc, 1, *brief)?)?;
     }
     if !is_history(&calls) {
         return Err(Fail::from("no history"));
@@ -117,9 +26,6 @@ fn judged(alloc: Global, briefs: &[Brief]) -> Result<Judged, Fail> {
         ),
     })
 }
-
-use Asked::{Delete, Get, Put};
-use Told::{Absent, Contended, Gone, NoQuorum, Open, Placed, Read};
 
 const LEGAL: Judged = (0, 0, 0);
 

@@ -1,8 +1,9 @@
 //! Sites, shelves and sinks in memory.
-ghost use Rattle.std.specs.Prelude.{◌≡◌, length, IfOk};
-
-use super::*;
 use gz_core::{Etag, Key, Row};
+use gz_site::{
+    Failing, MemShelf, MemSink, MemSite, RowRead, RowWrite, Shelf, ShelfError, Sink, SinkError,
+    Site, SiteFault, read_at, write_all, write_at,
+};
 use std::alloc::{AllocError, Global};
 use std::collections::BTreeMap;
 use std::test::Fail;
@@ -46,17 +47,14 @@ fn a_row_is_written_by_its_tag(rt: HostRuntime) -> Result<(), Fail> {
     let key = key(alloc)?;
     let mut site = MemSite::new(alloc, Vec::new(alloc));
     assert!(rt; read(alloc, &mut site, &key) == Ok(None));
-    let answers = [
-        write(alloc, &mut site, &key, None),
-        write(alloc, &mut site, &key, None),
-        write(alloc, &mut site, &key, Some(Etag(1))),
+    let tries = [
+        (None, RowWrite::Written { etag: Etag(1) }),
+        (None, RowWrite::Changed),
+        (Some(Etag(1)), RowWrite::Written { etag: Etag(2) }),
     ];
-    let told = [
-        Ok(RowWrite::Written { etag: Etag(1) }),
-        Ok(RowWrite::Changed),
-        Ok(RowWrite::Written { etag: Etag(2) }),
-    ];
-    assert!(rt; answers == told);
+    for (expect, answer) in tries {
+        assert!(rt; write(alloc, &mut site, &key, expect) == Ok(answer));
+    }
     assert!(rt; read(alloc, &mut site, &key) == Ok(Some((Etag(2), 0, 0))));
     Ok(())
 }
@@ -85,9 +83,7 @@ fn a_failed_write_has_its_effect_or_none(rt: HostRuntime) -> Result<(), Fail> {
     Ok(())
 }
 
-fn two_sites(alloc: Global) -> Result<Vec<MemSite>, AllocError>
-    ensures { IfOk result (λ sites. length sites.items ≡ 2) }
-{
+fn two_sites(alloc: Global) -> Result<Vec<MemSite>, AllocError> {
     let mut sites = Vec::new(alloc);
     sites.push(MemSite::new(alloc, Vec::new(alloc)))?;
     sites.push(MemSite::new(alloc, Vec::new(alloc)))?;
@@ -98,6 +94,9 @@ fn two_sites(alloc: Global) -> Result<Vec<MemSite>, AllocError>
 fn after_write_at(alloc: Global) -> Result<[Option<(Etag, u64, usize)>; 2], Fail> {
     let key = key(alloc)?;
     let mut sites = two_sites(alloc)?;
+    if sites.len() != 2 {
+        return Err(Fail::from("not two sites"));
+    }
     write_at(alloc, &mut sites, 1, &key, None, &Row::empty(alloc))?;
     let first = read_at(alloc, &mut sites, 0, &key)?;
     let second = read_at(alloc, &mut sites, 1, &key)?;
