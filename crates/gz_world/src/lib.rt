@@ -6,7 +6,6 @@ pub mod audit;
 pub mod calls;
 pub mod delivery;
 pub mod events;
-pub mod laws;
 pub mod lookups;
 pub mod opening;
 pub mod refusals;
