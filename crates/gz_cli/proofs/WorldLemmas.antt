@@ -21,8 +21,8 @@ use Rattle.gz_world.specs.declared.world.Member.{Member}
 use Rattle.gz_world.specs.declared.world.World.{World}
 use Rattle.gz_world.proofs.Members.{numbered_suc}
 use Rattle.gz_world.proofs.Opened.{no_tales_yet, fits_opened}
-use Rattle.gz_world.proofs.Agreement.{agreement}
-use Rattle.gz_world.proofs.Legality.{legal}
+use Rattle.gz_laws.proofs.Agreement.{agreement}
+use Rattle.gz_laws.proofs.Legality.{legal}
 use Rattle.gz_cli.specs.Worlds.{default, AreFresh, AllTellAt, PlaysSome, IsPlayed, AgreesBy}
 use Rattle.gz_cli.proofs.PlayLemmas.{some_lines}
 use Rattle.gz_cli.proofs.TellLemmas.{step_tell}

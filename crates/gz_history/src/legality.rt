@@ -19,7 +19,7 @@ pub struct Broken {
 }
 
 /// A rule of each two calls of one object, in the order in which they began.
-#[derive(Clone, Copy, Debug)]
+#[derive(Clone, Copy)]
 enum Rule {
     Agreement,
     Once,

@@ -1,13 +1,9 @@
 //! The history of a run: its calls with their answers, the text of its log, and when a history is legal.
 #![tactic(auto)]
 
-#[cfg(test)]
-mod legal_tests;
 pub mod legality;
 pub mod log;
 pub mod record;
-#[cfg(test)]
-mod tests;
 mod text;
 
 pub use legality::{Broken, is_history, legal};

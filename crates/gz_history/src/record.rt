@@ -2,7 +2,7 @@
 use gz_core::{Answer, Call, PutName};
 
 /// A call with the ticks of its beginning and of its answer. It has an answer exactly where it has an end.
-#[derive(Clone, Debug, PartialEq, Eq, Drop)]
+#[derive(Debug, PartialEq, Eq, Drop)]
 pub struct CallRec {
     pub name: PutName,
     pub call: Call,

@@ -8,8 +8,6 @@ pub mod line;
 pub mod outboxes;
 pub mod playing;
 pub mod schedule;
-#[cfg(test)]
-mod tests;
 
 pub use line::Line;
 pub use playing::play;

@@ -2,7 +2,7 @@
 use gz_core::{Call, Items, Session, SiteId};
 
 /// What a line of a schedule asks for. Requests and replies count from 1.
-#[derive(Clone, Debug, PartialEq, Eq, Drop)]
+#[derive(Debug, PartialEq, Eq, Drop)]
 pub enum Line {
     /// A new session: 1, 2, 3, ..
     OpenSession,
@@ -45,7 +45,7 @@ pub enum Line {
 }
 
 /// What a line of a text reads as.
-#[derive(Debug, Drop)]
+#[derive(Drop)]
 pub enum Reading {
     /// An empty line, a line of blanks, or a comment.
     Skipped,

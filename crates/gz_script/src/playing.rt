@@ -10,9 +10,6 @@ ghost use Rattle.gz_script.specs.Outboxes.{AreListed};
 ghost use Rattle.gz_script.specs.Plays.{Happen, HappenInPart, taken, is_left_out, settled, Settles, SettlesInPart, drained, PlaysLine, PlaysLineInPart, Plays, PlaysInPart, ChangesBy};
 ghost use Rattle.gz_script.specs.Schedule.{IsBounded};
 
-#[cfg(test)]
-mod tests;
-
 use crate::line::Line;
 use crate::outboxes::{Outboxes, has_reply};
 use gz_core::{Call, Session, SiteId};

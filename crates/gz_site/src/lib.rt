@@ -8,8 +8,6 @@ pub mod memory_files;
 pub mod shelves;
 pub mod sinks;
 pub mod sites;
-#[cfg(test)]
-mod tests;
 
 pub use many::{read_at, write_at};
 pub use memory::{Failing, MemSite};

@@ -8,7 +8,7 @@ use gz_core::{Etag, Key, Row};
 use std::alloc::Global;
 
 /// What a read of a row gives.
-#[derive(Debug, Drop)]
+#[derive(Drop)]
 pub enum RowRead {
     /// The stored row and its tag.
     Row { etag: Etag, row: Row },

@@ -11,7 +11,7 @@ use std::collections::BTreeMap;
 
 /// The audit list. `list` has each vote once, in the order in which they were first seen; the index finds a vote:
 /// it has true at one in the list, and false at one that is only known, as of a row that is about to be written.
-#[derive(Debug, Drop)]
+#[derive(Drop)]
 pub struct Casts {
     pub list: Vec<Cast>,
     pub index: BTreeMap<Cast, bool>,

@@ -2,7 +2,7 @@
 use gz_core::{Answer, Call, PutName, Session};
 
 /// What may happen to the world. Requests and replies count from 1.
-#[derive(Clone, Debug, PartialEq, Eq, Drop)]
+#[derive(Drop)]
 pub enum Event {
     /// A new session opens: 1, 2, 3, ..
     OpenSession,
@@ -46,7 +46,7 @@ pub enum Outcome {
 
 /// What an event does beside the change of the world: whether it was done, the session that it opened or named or
 /// whose request it named, the first request that was sent and how many were ((0, 0): none), and an answer.
-#[derive(Debug, Drop)]
+#[derive(Drop)]
 pub struct Effect {
     pub outcome: Outcome,
     pub session: Option<Session>,
@@ -56,7 +56,7 @@ pub struct Effect {
 
 /// An event in the journal, with what was told of it: the session, its last call and its lowest live request after
 /// the event, and the first request that was sent and how many were ((0, 0): none).
-#[derive(Clone, Debug, PartialEq, Eq, Drop)]
+#[derive(Drop)]
 pub struct Entry {
     pub event: Event,
     pub outcome: Outcome,

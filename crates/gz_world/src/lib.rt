@@ -6,14 +6,11 @@ pub mod audit;
 pub mod calls;
 pub mod delivery;
 pub mod events;
-pub mod laws;
 pub mod lookups;
 pub mod opening;
 pub mod refusals;
 pub mod requests;
 pub mod sessions;
-#[cfg(test)]
-mod tests;
 pub mod turns;
 pub mod weights;
 pub mod world;

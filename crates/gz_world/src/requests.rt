@@ -8,7 +8,7 @@ use std::alloc::{AllocError, Global};
 /// A request: whose call sent it and at which tick, the site and the operation, and whether a reply was awaited when
 /// it was sent; the replies with their ticks; the tick at which a reply was handed to the client and that reply's
 /// number; and the tick at which the request was given up.
-#[derive(Debug, Drop)]
+#[derive(Drop)]
 pub struct Request {
     pub name: PutName,
     pub site: SiteId,

@@ -1,0 +1,235 @@
+-- Each step keeps the places of requests and the ticks of calls.
+use Rattle.std.proofs.Common.{◌≡◌, ℕ, zero, suc, ◌+◌, ◌<◌, ◌≤◌, ◌⊎◌, inl, inr, List, [], ◌∷◌, Some, None, length, refl, ap, sym, ◌∙◌, subst, arith, length-append}
+use Rattle.std.proofs.lemmas.Bool.{cases_eq}
+use Rattle.std.specs.Prelude.{Option, MatchOption, slice_get}
+use Rattle.gz_core.specs.Names.{Name}
+use Rattle.gz_core.specs.Configurations.{IsConfig}
+use Rattle.gz_core.specs.declared.calls.Answer.{Answer}
+use Rattle.gz_core.specs.declared.calls.Call.{Call}
+use Rattle.gz_config.specs.declared.Config.{Config}
+use Rattle.gz_core.specs.declared.requests.Out.{Out}
+use Rattle.gz_core.specs.declared.requests.Reply.{Reply}
+use Rattle.gz_core.specs.declared.requests.Turn.{Turn}
+use Rattle.gz_round.specs.History.{Asked, Moment, Sent, Handed, GaveUp, Caller, Tale, asked_of, sent_from, begun, turned}
+use Rattle.gz_round.specs.Sending.{AreAllowed}
+use Rattle.gz_history.specs.declared.record.CallRec.{CallRec}
+use Rattle.gz_world.specs.declared.events.Effect.{Effect}
+use Rattle.gz_world.specs.declared.events.Entry.{Entry}
+use Rattle.gz_world.specs.declared.events.Event.{Event}
+use Rattle.gz_world.specs.declared.events.Event.TheVariants as events
+use Rattle.gz_laws.specs.Placed.{IsOfCall, ArePlacedBy, ArePlaced}
+use Rattle.gz_world.specs.Reached.{IsOpening, IsReached, opened, stepped}
+use Rattle.gz_world.specs.Refusals.{refusal_of}
+use Rattle.gz_world.specs.States.{RequestAt, State, tick_of, next_of, numbered, with_reply, with_handed, with_given_up, sent_request, end_at}
+use Rattle.gz_world.specs.Steps.{SessionMoves, BeginsBy, DeliversBy, TurnBy, TakesTurn, Acts, Does, Skips, Step}
+use Rattle.gz_laws.proofs.Growing.{allowed_base}
+use Rattle.gz_laws.proofs.Listing.{tales_here, tales_there}
+use Rattle.gz_world.proofs.Members.{numbered_place}
+use Rattle.gz_world.proofs.Places.{get_of_two, get_one}
+use Rattle.gz_laws.proofs.RunBegins.{begin_net}
+use Rattle.gz_laws.proofs.RunSends.{NetFrom, closing_allowed, call_before}
+use Rattle.gz_laws.proofs.RunTools.{IsAlike, set_cases}
+use Rattle.gz_laws.proofs.RunTurns.{turn_net}
+
+-- no session lost a tale
+abbrev AreLonger : State → State → Type 0
+AreLonger old new = (n : ℕ) → length (old.tales n) ≤ length (new.tales n)
+
+of_call : (old new : State) (r q : RequestAt) → new.cfg ≡ old.cfg → AreLonger old new → q.site ≡ r.site → q.name ≡ r.name → IsOfCall old r → IsOfCall new q
+of_call old new r q cfg longer site name h = record {
+  site = subst (λ (c : Config). q.site < c.n) (sym cfg) (subst (λ s. s < old.cfg.n) (sym site) h.site);
+  call = subst (λ (x : Name). x.seq ≤ length (new.tales x.session)) (sym name) (let l = longer r.name.session in let k = h.call in omega (arith, l, k));
+}
+
+same_longer : (old new : State) → ((n : ℕ) → new.tales n ≡ old.tales n) → AreLonger old new
+same_longer old new tales = λ n. let e : length (new.tales n) ≡ length (old.tales n) = ap length (tales n) in omega (arith, e)
+
+moved_longer : (old new : State) (session : ℕ) (ts : List Tale) → SessionMoves old session ts new → length (old.tales session) ≤ length ts → AreLonger old new
+moved_longer old new session ts moves le = λ n. elim (cases_eq n session) [
+  | inl e ↦ (let a : length (old.tales n) ≡ length (old.tales session) = ap (λ k. length (old.tales k)) e in
+      let b : length (new.tales n) ≡ length ts = ap length (ap new.tales e ∙ tales_here old new session ts moves) in
+      omega (arith, a, b, le))
+  | inr ne ↦ (let b : length (new.tales n) ≡ length (old.tales n) = ap length (tales_there old new session n ts moves ne) in omega (arith, b))
+]
+
+-- nothing that is placed has changed, at a later tick perhaps
+placed_same : (ticks more : ℕ) (old new : State) → ticks ≤ more → new.cfg ≡ old.cfg → ((n : ℕ) → new.tales n ≡ old.tales n) → new.net ≡ old.net → new.calls ≡ old.calls → ArePlacedBy ticks old → ArePlacedBy more new
+placed_same ticks more old new le cfg tales net calls p = record {
+  config = subst IsConfig (sym cfg) p.config;
+  requests = λ n r h. of_call old new r r cfg (same_longer old new tales) refl refl (p.requests n r (subst (λ xs. numbered xs n ≡ Some r) net h));
+  began = λ i c h. let k = p.began i c (subst (λ xs. slice_get xs i ≡ Some c) calls h) in omega (arith, k, le);
+  over = λ i end c h e. let k = p.over i end c (subst (λ xs. slice_get xs i ≡ Some c) calls h) e in omega (arith, k, le);
+  apart = λ i j a b h k e. p.apart i j a b (subst (λ xs. slice_get xs i ≡ Some a) calls h) (subst (λ xs. slice_get xs j ≡ Some b) calls k) e;
+}
+
+-- each request that a call sends goes to a site
+sends_site : (c : Config) (w : Caller) (past : List Tale) (first : ℕ) (outs : List Out) (ms : List Moment) → AreAllowed c w past (sent_from first outs ms) → (j : ℕ) (o : Out) → slice_get outs j ≡ Some o → o.site < c.n
+sends_site c w past first [] ms allowed j o e = cc
+sends_site c w past first (out ∷ outs) ms allowed zero o e =
+    let same : out ≡ o = cc in
+    subst (λ (k : Out). k.site < c.n) same (allowed_base c w past (first + 1) outs (Sent (asked_of first out) ∷ ms) allowed).0.site
+sends_site c w past first (out ∷ outs) ms allowed (suc j) o e = sends_site c w past (first + 1) outs (Sent (asked_of first out) ∷ ms) allowed j o e
+
+-- the requests after a turn
+sent_placed : (old new : State) (w : Caller) (past : List Tale) (first tick : ℕ) (outs : List Out) (ms : List Moment) → new.cfg ≡ old.cfg → AreLonger old new → NetFrom old.net new.net w.name tick outs → AreAllowed old.cfg w past (sent_from first outs ms) → w.name.seq ≤ length (new.tales w.name.session)
+    → ((n : ℕ) (r : RequestAt) → numbered old.net n ≡ Some r → IsOfCall old r) → (n : ℕ) (q : RequestAt) → numbered new.net n ≡ Some q → IsOfCall new q
+sent_placed old new w past first tick outs ms cfg longer net allowed named all n q at = elim (net n q at) [
+  | inl k ↦ (let same = k.1.1.1 in of_call old new k.1.0 q cfg longer same.site same.name (all k.0 k.1.0 k.1.1.0))
+  | inr k ↦ (let one : IsOfCall new (sent_request w.name tick k.1.0) = record {
+    site = subst (λ (c : Config). k.1.0.site < c.n) (sym cfg) (sends_site old.cfg w past first outs ms allowed k.0 k.1.0 k.1.1.0);
+    call = named;
+  } in subst (IsOfCall new) k.1.1.1 one)
+]
+
+end_now : (tick end : ℕ) (o : Option Answer) → end_at tick o ≡ Some end → tick ≡ end
+end_now tick end None e = cc
+end_now tick end (Some answer) e = cc
+
+begin_placed : (old new : State) (session : ℕ) (call : Call) (turn : Turn) (effect : Effect) → BeginsBy old session call turn effect new → ArePlaced old → ArePlacedBy (tick_of old) new
+begin_placed old new session call turn effect b p =
+    let past = old.tales session in
+    let name : Name = record { session = session; seq = length past + 1 } in
+    let w : Caller = record { name = name; call = call } in
+    let t = begun session call (next_of old) turn past in
+    let tick = tick_of old in
+    let fresh : CallRec = record { name = name; call = call; begin = tick; end = end_at tick turn.answer; answer = turn.answer } in
+    let cases : (i : ℕ) (d : CallRec) → slice_get new.calls i ≡ Some d → (slice_get old.calls i ≡ Some d) ⊎ ((fresh ≡ d) × (i ≡ length old.calls))
+    = λ i d h. elim (get_of_two old.calls (fresh ∷ []) i d (subst (λ xs. slice_get xs i ≡ Some d) b.calls h)) [
+      | inl e ↦ inl e
+      | inr e ↦ (let k = get_one fresh d e.0 e.1.1 in let z = k.0 in let at = e.1.0 in inr (k.1, omega (arith, z, at)))
+    ] in
+    let late : (i : ℕ) (d : CallRec) → slice_get new.calls i ≡ Some d → d.begin ≤ tick
+    = λ i d h. elim (cases i d h) [ inl e ↦ (let k = p.began i d e in omega (arith, k)) | inr e ↦ subst (λ (c : CallRec). c.begin ≤ tick) e.0 (omega arith) ] in
+    let ends : (i end : ℕ) (d : CallRec) → slice_get new.calls i ≡ Some d → d.end ≡ Some end → end ≤ tick
+    = λ i end d h e. elim (cases i d h) [
+      | inl k ↦ (let l = p.over i end d k e in omega (arith, l))
+      | inr k ↦ (let now = end_now tick end turn.answer (ap (λ (c : CallRec). c.end) k.0 ∙ e) in omega (arith, now))
+    ] in
+    let here : new.tales session ≡ t ∷ past = tales_here old new session (t ∷ past) b.moves in
+    record {
+      config = subst IsConfig (sym b.frame.cfg) p.config;
+      requests = sent_placed old new w past (next_of old) tick turn.send [] b.frame.cfg (moved_longer old new session (t ∷ past) b.moves (omega arith)) (begin_net old new name tick turn.send b.net) b.moves.told.0.allowed
+          (let e : length (new.tales session) ≡ length (t ∷ past) = ap length here in omega (arith, e)) p.requests;
+      began = late;
+      over = ends;
+      apart = λ i j a d h k e. elim (cases i a h) [
+        | inl x ↦ elim (cases j d k) [
+          | inl y ↦ p.apart i j a d x y e
+          | inr y ↦ (let l = p.over i d.begin a x e in let now : tick ≡ d.begin = ap (λ (c : CallRec). c.begin) y.0 in absurd (omega (arith, l, now)))
+        ]
+        | inr x ↦ elim (cases j d k) [
+          | inl y ↦ (let now = end_now tick d.begin turn.answer (ap (λ (c : CallRec). c.end) x.0 ∙ e) in let l = p.began j d y in absurd (omega (arith, now, l)))
+          | inr y ↦ x.1 ∙ sym y.1
+        ]
+      ];
+    }
+
+turn_placed : (old new : State) (n : ℕ) (r marked : RequestAt) (moment : Asked → Moment) (by : TurnBy) (effect : Effect) → TakesTurn old n r moment by marked effect new → IsAlike r marked → ArePlaced old → ArePlacedBy (tick_of old) new
+turn_placed old new n r marked moment by effect t alike p =
+    let w = by.tale.caller in
+    let session = r.name.session in
+    let first = next_of old in
+    let tick = tick_of old in
+    let ms = moment by.asked ∷ by.tale.moments in
+    let after = turned first by.turn (moment by.asked) by.closing by.tale in
+    let ts = after ∷ by.earlier in
+    let told = t.moves.told in
+    let allowed = closing_allowed old.cfg w by.earlier by.closing (sent_from first by.turn.send ms) t.closing told.0.allowed in
+    let before = call_before old.calls new.calls w.name tick by.turn.answer t.calls in
+    let len : length (old.tales session) ≡ length (by.tale ∷ by.earlier) = ap length t.tales in
+    let seq : w.name.seq ≡ length by.earlier + 1 = ap (λ (x : Name). x.seq) told.1 in
+    let here : length (new.tales w.name.session) ≡ length ts = ap length (ap new.tales (ap (λ (x : Name). x.session) told.1) ∙ tales_here old new session ts t.moves) in
+    record {
+      config = subst IsConfig (sym t.frame.cfg) p.config;
+      requests = sent_placed old new w by.earlier first tick by.turn.send ms t.frame.cfg (moved_longer old new session ts t.moves (omega (arith, len))) (turn_net old new n r marked w.name tick by.turn.send t.request alike t.net) allowed (omega (arith, seq, here)) p.requests;
+      began = λ i d h. let b = before i d h in let k = p.began i b.0 b.1.0 in let e = b.1.1.begin_is in omega (arith, k, e);
+      over = λ i end d h e. let b = before i d h in elim b.1.1.end_is [
+        | inl same ↦ (let k = p.over i end b.0 b.1.0 (sym same.0 ∙ e) in omega (arith, k))
+        | inr now ↦ (let k : Some tick ≡ Some end = sym now ∙ e in let q : tick ≡ end = cc in omega (arith, q))
+      ];
+      apart = λ i j a d h k e.
+          let x = before i a h in
+          let y = before j d k in
+          elim x.1.1.end_is [
+            | inl same ↦ p.apart i j x.0 y.0 x.1.0 y.1.0 (sym same.0 ∙ e ∙ ap Some y.1.1.begin_is)
+            | inr now ↦ (let q : Some tick ≡ Some d.begin = sym now ∙ e in
+                let z : tick ≡ d.begin = cc in
+                let b = y.1.1.begin_is in
+                let l = p.began j y.0 y.1.0 in
+                absurd (omega (arith, z, b, l)))
+          ];
+    }
+
+deliver_placed : (old new : State) (n : ℕ) (r : RequestAt) (reply : Reply) (effect : Effect) → DeliversBy old n r reply effect new → ArePlaced old → ArePlacedBy (tick_of old) new
+deliver_placed old new n r reply effect d p = record {
+  config = subst IsConfig (sym d.frame.cfg) p.config;
+  requests = λ m q h. elim (set_cases old.net n m r (with_reply (tick_of old) reply r) q d.request (subst (λ xs. numbered xs m ≡ Some q) d.net h)) [
+    | inl e ↦ of_call old new r q d.frame.cfg (same_longer old new d.sessions.tales) (ap (λ (x : RequestAt). x.site) e) (ap (λ (x : RequestAt). x.name) e) (p.requests n r d.request)
+    | inr e ↦ of_call old new q q d.frame.cfg (same_longer old new d.sessions.tales) refl refl (p.requests m q e)
+  ];
+  began = λ i c h. let k = p.began i c (subst (λ xs. slice_get xs i ≡ Some c) d.sessions.calls h) in omega (arith, k);
+  over = λ i end c h e. let k = p.over i end c (subst (λ xs. slice_get xs i ≡ Some c) d.sessions.calls h) e in omega (arith, k);
+  apart = λ i j a b h k e. p.apart i j a b (subst (λ xs. slice_get xs i ≡ Some a) d.sessions.calls h) (subst (λ xs. slice_get xs j ≡ Some b) d.sessions.calls k) e;
+}
+
+pub handed_alike : (tick which : ℕ) (r : RequestAt) → IsAlike r (with_handed tick which r)
+handed_alike tick which r = record { name = refl; site = refl; op = refl; replies = refl }
+
+pub given_up_alike : (tick : ℕ) (r : RequestAt) → IsAlike r (with_given_up tick r)
+given_up_alike tick r = record { name = refl; site = refl; op = refl; replies = refl }
+
+does_placed : (old new : State) (event : Event) (effect : Effect) → Does old event effect new → ArePlaced old → ArePlacedBy (tick_of old) new
+does_placed old new events.OpenSession effect d p = placed_same (length old.journal) (tick_of old) old new (omega arith) d.frame.cfg d.tales d.net d.calls p
+does_placed old new (events.Begin session call) effect d p = begin_placed old new session call d.0 effect d.1 p
+does_placed old new (events.Deliver n) effect d p = deliver_placed old new n d.0 d.1.0 effect d.1.1 p
+does_placed old new (events.Reply n which) effect d p = turn_placed old new n d.0 (with_handed (tick_of old) which d.0) (λ a. Handed a d.1.0.1) d.1.1.0 effect d.1.1.1.1 (handed_alike (tick_of old) which d.0) p
+does_placed old new (events.GiveUp n) effect d p = turn_placed old new n d.0 (with_given_up (tick_of old) d.0) (λ a. GaveUp a) d.1.0 effect d.1.1 (given_up_alike (tick_of old) d.0) p
+does_placed old new (events.Crash session) effect d p = placed_same (length old.journal) (tick_of old) old new (omega arith) d.frame.cfg d.tales d.net d.calls p
+
+acts_placed : (old new : State) (event : Event) (effect : Effect) → Acts old event effect new → ArePlaced old → ArePlacedBy (tick_of old) new
+acts_placed old new event effect acts p =
+    elim (refusal_of old event) as (λ o. MatchOption o (Does old event effect new) (λ why. Skips old event why effect new) → ArePlacedBy (tick_of old) new) [
+      | None ↦ λ d. does_placed old new event effect d p
+      | Some why ↦ λ k. placed_same (length old.journal) (tick_of old) old new (omega arith) k.same.frame.cfg k.same.sessions.tales k.same.net k.same.sessions.calls p
+    ] acts
+
+does_journal : (old new : State) (event : Event) (effect : Effect) → Does old event effect new → new.journal ≡ old.journal
+does_journal old new events.OpenSession effect d = d.frame.journal
+does_journal old new (events.Begin session call) effect d = d.1.frame.journal
+does_journal old new (events.Deliver n) effect d = d.1.1.frame.journal
+does_journal old new (events.Reply n which) effect d = d.1.1.1.1.frame.journal
+does_journal old new (events.GiveUp n) effect d = d.1.1.frame.journal
+does_journal old new (events.Crash session) effect d = d.frame.journal
+
+acts_journal : (old new : State) (event : Event) (effect : Effect) → Acts old event effect new → new.journal ≡ old.journal
+acts_journal old new event effect acts =
+    elim (refusal_of old event) as (λ o. MatchOption o (Does old event effect new) (λ why. Skips old event why effect new) → new.journal ≡ old.journal) [
+      | None ↦ λ d. does_journal old new event effect d
+      | Some why ↦ λ k. k.same.frame.journal
+    ] acts
+
+step_placed : (old new : State) (event : Event) → Step old event new → ArePlaced old → ArePlaced new
+step_placed old new event step p =
+    let mid = step.1.0 in
+    let acts = step.1.1.1.0 in
+    let records = step.1.1.1.1 in
+    let grew : length new.journal ≡ length old.journal + 1 =
+    ap length records.journal ∙ length-append mid.journal (step.1.1.0 ∷ []) ∙ ap (λ (j : List Entry). length j + 1) (acts_journal old mid event step.0 acts) in
+    placed_same (tick_of old) (length new.journal) mid new (omega (arith, grew)) records.cfg records.sessions.tales records.net records.sessions.calls (acts_placed old mid event step.0 acts p)
+
+opening_placed : (s : State) → IsOpening s → ArePlaced s
+opening_placed s o = record {
+  config = o.config;
+  requests = λ n r h. let bad : numbered [] n ≡ Some r = subst (λ xs. numbered xs n ≡ Some r) o.net h in absurd (none_numbered n r bad);
+  began = λ i c h. let bad : slice_get [] i ≡ Some c = subst (λ xs. slice_get xs i ≡ Some c) o.calls h in cc;
+  over = λ i end c h e. let bad : slice_get [] i ≡ Some c = subst (λ xs. slice_get xs i ≡ Some c) o.calls h in cc;
+  apart = λ i j a b h k e. let bad : slice_get [] i ≡ Some a = subst (λ xs. slice_get xs i ≡ Some a) o.calls h in cc;
+}
+  where
+    none_numbered : (n : ℕ) (r : RequestAt) → numbered [] n ≡ Some r → ⊥
+    none_numbered n r h = let k = (numbered_place [] n r h).1 in cc
+
+-- in every world that is reached
+pub placed : (s : State) → IsReached s → ArePlaced s
+placed _ (opened s o) = opening_placed s o
+placed _ (stepped old new event h step) = step_placed old new event step (placed old h)

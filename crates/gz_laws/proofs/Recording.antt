@@ -1,0 +1,101 @@
+-- Each step keeps a call in the history for each tale.
+use Rattle.std.proofs.Common.{◌≡◌, ℕ, ◌+◌, inl, inr, List, [], ◌∷◌, ◌++◌, Some, None, length, refl, ap, sym, ◌∙◌, subst}
+use Rattle.std.proofs.lemmas.Bool.{cases_eq}
+use Rattle.std.specs.Prelude.{Option, MatchOption, slice_get}
+use Rattle.gz_core.specs.Names.{Name}
+use Rattle.gz_core.specs.declared.calls.Answer.{Answer}
+use Rattle.gz_core.specs.declared.calls.Call.{Call}
+use Rattle.gz_core.specs.declared.requests.Turn.{Turn}
+use Rattle.gz_round.specs.History.{Asked, Moment, Handed, GaveUp, Tale, begun, turned}
+use Rattle.gz_history.specs.declared.record.CallRec.{CallRec}
+use Rattle.gz_world.specs.declared.events.Effect.{Effect}
+use Rattle.gz_world.specs.declared.events.Event.{Event}
+use Rattle.gz_world.specs.declared.events.Event.TheVariants as events
+use Rattle.gz_laws.specs.Recorded.{IsNamedIn, TalesRecorded, AreRecorded}
+use Rattle.gz_world.specs.Reached.{IsReached, opened, stepped}
+use Rattle.gz_world.specs.Refusals.{refusal_of}
+use Rattle.gz_world.specs.States.{RequestAt, State, tick_of, next_of, end_at}
+use Rattle.gz_world.specs.Steps.{SessionMoves, BeginsBy, TurnBy, TakesTurn, CallEnds, answered, Acts, Does, Skips, Step}
+use Rattle.gz_laws.proofs.Listing.{tales_here, tales_there, answered_name}
+use Rattle.gz_world.proofs.Places.{get_append, get_last, get_set_same, get_set_other}
+
+-- no call lost its name
+AreNamed : List CallRec → List CallRec → Type 0
+AreNamed old new = (name : Name) → IsNamedIn old name → IsNamedIn new name
+
+named_same : (old new : List CallRec) → new ≡ old → AreNamed old new
+unfolding AreNamed
+named_same old new e = λ name h. subst (λ xs. IsNamedIn xs name) (sym e) h
+
+named_append : (old more : List CallRec) → AreNamed old (old ++ more)
+unfolding AreNamed
+named_append old more = λ name h. (h.0, h.1, get_append old more h.0 h.1 h.2, h.3)
+
+named_ends : (old new : List CallRec) (name : Name) (tick : ℕ) (o : Option Answer) → CallEnds old name tick o new → AreNamed old new
+unfolding AreNamed
+named_ends old new name tick o ends = λ x h.
+    let ended = answered tick o ends.1.0 in
+    subst (λ xs. IsNamedIn xs x) (sym ends.1.1.1.1) (elim (cases_eq h.0 ends.0) [
+      | inl e ↦ (let both : Some ends.1.0 ≡ Some h.1 = sym ends.1.1.0 ∙ sym (ap (slice_get old) e) ∙ h.2 in
+          let same : ends.1.0 ≡ h.1 = cc in
+          (ends.0, ended, get_set_same old ends.0 ends.1.0 ended ends.1.1.0, answered_name tick o ends.1.0 ∙ ap (λ (c : CallRec). c.name) same ∙ h.3))
+      | inr ne ↦ (h.0, h.1, get_set_other old ends.0 h.0 ended ne ∙ h.2, h.3)
+    ])
+
+tales_recorded : (old new : List CallRec) (ts : List Tale) → AreNamed old new → TalesRecorded old ts → TalesRecorded new ts
+unfolding AreNamed
+tales_recorded old new [] f h = tt
+tales_recorded old new (t ∷ ts) f h = (f t.caller.name h.0, tales_recorded old new ts f h.1)
+
+recorded_same : (old new : State) → ((n : ℕ) → new.tales n ≡ old.tales n) → new.calls ≡ old.calls → AreRecorded old → AreRecorded new
+recorded_same old new tales calls h = λ n. subst (TalesRecorded new.calls) (sym (tales n)) (subst (λ xs. TalesRecorded xs (old.tales n)) (sym calls) (h n))
+
+moved_recorded : (old new : State) (session : ℕ) (ts : List Tale) → SessionMoves old session ts new → AreNamed old.calls new.calls → TalesRecorded new.calls ts → AreRecorded old → AreRecorded new
+moved_recorded old new session ts moves f here h = λ n. elim (cases_eq n session) [
+  | inl e ↦ subst (TalesRecorded new.calls) (sym (ap new.tales e ∙ tales_here old new session ts moves)) here
+  | inr ne ↦ subst (TalesRecorded new.calls) (sym (tales_there old new session n ts moves ne)) (tales_recorded old.calls new.calls (old.tales n) f (h n))
+]
+
+named_then : (xs ys zs : List CallRec) → AreNamed xs ys → AreNamed ys zs → AreNamed xs zs
+unfolding AreNamed
+named_then xs ys zs f g = λ name k. g name (f name k)
+
+begin_recorded : (old new : State) (session : ℕ) (call : Call) (turn : Turn) (effect : Effect) → BeginsBy old session call turn effect new → AreRecorded old → AreRecorded new
+begin_recorded old new session call turn effect b h =
+    let past = old.tales session in
+    let fresh : CallRec = record { name = record { session = session; seq = length past + 1 }; call = call; begin = tick_of old; end = end_at (tick_of old) turn.answer; answer = turn.answer } in
+    let f : AreNamed old.calls new.calls = named_then old.calls (old.calls ++ fresh ∷ []) new.calls (named_append old.calls (fresh ∷ [])) (named_same (old.calls ++ fresh ∷ []) new.calls b.calls) in
+    moved_recorded old new session (begun session call (next_of old) turn past ∷ past) b.moves f
+    ((length old.calls, fresh, ap (λ xs. slice_get xs (length old.calls)) b.calls ∙ get_last old.calls fresh, refl), tales_recorded old.calls new.calls past f (h session)) h
+
+turn_recorded : (old new : State) (n : ℕ) (r marked : RequestAt) (moment : Asked → Moment) (by : TurnBy) (effect : Effect) → TakesTurn old n r moment by marked effect new → AreRecorded old → AreRecorded new
+turn_recorded old new n r marked moment by effect t h =
+    let session = r.name.session in
+    let before : TalesRecorded old.calls (by.tale ∷ by.earlier) = subst (TalesRecorded old.calls) t.tales (h session) in
+    let f = named_ends old.calls new.calls by.tale.caller.name (tick_of old) by.turn.answer t.calls in
+    moved_recorded old new session (turned (next_of old) by.turn (moment by.asked) by.closing by.tale ∷ by.earlier) t.moves f (tales_recorded old.calls new.calls (by.tale ∷ by.earlier) f before) h
+
+does_recorded : (old new : State) (event : Event) (effect : Effect) → Does old event effect new → AreRecorded old → AreRecorded new
+does_recorded old new events.OpenSession effect d h = recorded_same old new d.tales d.calls h
+does_recorded old new (events.Begin session call) effect d h = begin_recorded old new session call d.0 effect d.1 h
+does_recorded old new (events.Deliver n) effect d h = recorded_same old new d.1.1.sessions.tales d.1.1.sessions.calls h
+does_recorded old new (events.Reply n which) effect d h = turn_recorded old new n d.0 _ (λ a. Handed a d.1.0.1) d.1.1.0 effect d.1.1.1.1 h
+does_recorded old new (events.GiveUp n) effect d h = turn_recorded old new n d.0 _ (λ a. GaveUp a) d.1.0 effect d.1.1 h
+does_recorded old new (events.Crash session) effect d h = recorded_same old new d.tales d.calls h
+
+acts_recorded : (old new : State) (event : Event) (effect : Effect) → Acts old event effect new → AreRecorded old → AreRecorded new
+acts_recorded old new event effect acts h =
+    elim (refusal_of old event) as (λ o. MatchOption o (Does old event effect new) (λ why. Skips old event why effect new) → AreRecorded new) [
+      | None ↦ λ d. does_recorded old new event effect d h
+      | Some why ↦ λ k. recorded_same old new k.same.sessions.tales k.same.sessions.calls h
+    ] acts
+
+step_recorded : (old new : State) (event : Event) → Step old event new → AreRecorded old → AreRecorded new
+step_recorded old new event step h =
+    let records = step.1.1.1.1 in
+    recorded_same step.1.0 new records.sessions.tales records.sessions.calls (acts_recorded old step.1.0 event step.0 step.1.1.1.0 h)
+
+-- in every world that is reached
+pub recorded : (s : State) → IsReached s → AreRecorded s
+recorded _ (opened s o) = λ n. subst (TalesRecorded s.calls) (sym (o.tales n)) tt
+recorded _ (stepped old new event h step) = step_recorded old new event step (recorded old h)

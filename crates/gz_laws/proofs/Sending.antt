@@ -1,0 +1,84 @@
+-- What a client may send, by what its call heard, the machine of agreement may do.
+use Rattle.std.proofs.Common.{◌≡◌, ℕ, inl, inr, List, [], ◌∷◌, Some, None, true, refl, ap, sym, ◌∙◌, subst}
+use Rattle.gz_core.proofs.Ballots.{name_refl}
+use Rattle.std.proofs.lemmas.Bool.{eq-eqb, or_left, or_right}
+use Rattle.std.specs.Prelude.{◌==◌, if◌then◌else◌}
+use Rattle.gz_core.specs.Names.{Name, same_name}
+use Rattle.gz_core.specs.Values.{name_of}
+use Rattle.gz_core.specs.Calls.{own_value}
+use Rattle.gz_core.specs.Rows.{RowAt}
+use Rattle.gz_core.specs.Slots.{Act, VotesFast, Promises, VotesClassic, Decides, Trims, Makes, act_of, slots}
+use Rattle.gz_core.specs.declared.calls.Call.{Call}
+use Rattle.gz_core.specs.declared.calls.Call.TheVariants.{Put as PutCall, Delete as DeleteCall, Get as GetCall}
+use Rattle.gz_config.specs.declared.Config.{Config}
+use Rattle.gz_core.specs.declared.values.Value.{Value}
+use Rattle.gz_core.specs.declared.values.Value.TheVariants.{Tomb, Put as PutOf}
+use Rattle.gz_core.specs.declared.requests.RowStep.{RowStep}
+use Rattle.gz_core.specs.declared.requests.RowStep.TheVariants.{FastVote, Promise, ClassicVote, Decide, Trim}
+use Rattle.gz_core.specs.declared.requests.Op.{Op}
+use Rattle.gz_core.specs.declared.requests.Op.TheVariants.{ReadRow, WriteRow}
+use Rattle.gz_accept.specs.Steps.{fast_voted, promised, classic_voted, decided, trimmed_to}
+use Rattle.gz_accept.proofs.Making.{makes_fast, makes_promise, makes_classic, makes_decision, makes_trim, made}
+use Rattle.gz_round.specs.History.{Moment, Sent, Handed, GaveUp, Rested, GaveIn, Caller, Tale}
+use Rattle.gz_round.specs.Sent.{vote_by, of_step, passes_sent, voted_at}
+use Rattle.gz_round.specs.Shown.{IsClear as IsClearTo}
+use Rattle.gz_round.specs.Sending.{IsMade}
+use Rattle.gz_ledger.specs.Histories.{VotesFor}
+use Rattle.gz_ledger.specs.Guards.{IsClear}
+use Rattle.gz_ledger.specs.Deeds.{Store, writes_of}
+use Rattle.gz_laws.specs.Heard.{heard_of, IsStepOf, SentStep, Keeps}
+use Rattle.gz_laws.proofs.Hearing.{shown_heard}
+
+-- a step that was made on a row makes the acceptor's
+pub step_makes : (step : RowStep) (old new : RowAt) → IsMade step old new → Makes (act_of step) (slots old) (slots new)
+step_makes (FastVote v x) old new m = made (VotesFast v (name_of x)) old new (fast_voted old v x) (makes_fast old v x m.0) m.1
+step_makes (Promise v b) old new m = made (Promises v b) old new (promised old v b) (makes_promise old v b m.0) m.1
+step_makes (ClassicVote v b x) old new m = made (VotesClassic v b (name_of x)) old new (classic_voted old v b x) (makes_classic old v b x m.0) m.1
+step_makes (Decide v x) old new m = made (Decides v (name_of x)) old new (decided old v x) (makes_decision old v x m.0) m.1
+step_makes (Trim to x) old new m = made (Trims to (name_of x)) old new (trimmed_to old to x) (makes_trim old to x m.0) m.1
+
+votes_same : (y x : Name) (v u : ℕ) → (v ≡ u) × (y ≡ x) → passes_sent (λ q. q == u) (if same_name y x then Some v else None) ≡ true
+votes_same y x v u e =
+    let t : same_name y x ≡ true = subst (λ k. same_name y k ≡ true) e.1 (name_refl y) in
+    ap (λ b. passes_sent (λ q. q == u) (if b then Some v else None)) t ∙ subst (λ k. (v == k) ≡ true) e.0 (eq-eqb v v refl)
+
+votes_by : (step : RowStep) (u : ℕ) (x : Name) → VotesFor (act_of step) u x → passes_sent (λ q. q == u) (vote_by x step) ≡ true
+votes_by (FastVote v value) u x votes = votes_same (name_of value) x v u votes
+votes_by (Promise v b) u x votes = absurd votes
+votes_by (ClassicVote v b value) u x votes = votes_same (name_of value) x v u votes
+votes_by (Decide v value) u x votes = absurd votes
+votes_by (Trim to value) u x votes = absurd votes
+
+-- a step that votes for a value at a version
+step_votes : (step : RowStep) (act : Act) (u : ℕ) (x : Name) → act_of step ≡ act → VotesFor act u x → passes_sent (λ q. q == u) (vote_by x step) ≡ true
+step_votes step act u x e votes = votes_by step u x (subst (λ k. VotesFor k u x) (sym e) votes)
+
+-- a write that a call sent with a vote is counted as one
+op_votes : (op : Op) (act : Act) (u : ℕ) (x : Name) → IsStepOf op act → VotesFor act u x → passes_sent (λ q. q == u) (of_step (vote_by x) op) ≡ true
+op_votes (ReadRow key) act u x h votes = absurd h
+op_votes (WriteRow key expect step row) act u x h votes = step_votes step act u x h votes
+
+pub sent_votes : (ms : List Moment) (act : Act) (u : ℕ) (x : Name) → SentStep ms act → VotesFor act u x → voted_at x ms u ≡ true
+sent_votes [] act u x h votes = absurd h
+sent_votes (Sent a ∷ ms) act u x (inl h) votes = or_left (passes_sent (λ q. q == u) (of_step (vote_by x) a.op)) (voted_at x ms u) (op_votes a.op act u x h votes)
+sent_votes (Sent a ∷ ms) act u x (inr h) votes = or_right (passes_sent (λ q. q == u) (of_step (vote_by x) a.op)) (voted_at x ms u) (sent_votes ms act u x h votes)
+sent_votes (Handed a reply ∷ ms) act u x (inl h) votes = absurd h
+sent_votes (Handed a reply ∷ ms) act u x (inr h) votes = sent_votes ms act u x h votes
+sent_votes (GaveUp a ∷ ms) act u x (inl h) votes = absurd h
+sent_votes (GaveUp a ∷ ms) act u x (inr h) votes = sent_votes ms act u x h votes
+sent_votes (Rested ∷ ms) act u x (inl h) votes = absurd h
+sent_votes (Rested ∷ ms) act u x (inr h) votes = sent_votes ms act u x h votes
+sent_votes (GaveIn ∷ ms) act u x (inl h) votes = absurd h
+sent_votes (GaveIn ∷ ms) act u x (inr h) votes = sent_votes ms act u x h votes
+
+-- a call that is clear at a version is so by what it heard
+pub clear_heard : (c : Config) (w : Caller) (past : List Tale) (ms : List Moment) (st : Store) (v : ℕ) → Keeps w.name past ms st → IsClearTo c w.name ms v → IsClear c (heard_of ms) (writes_of st.asked) w.name v
+clear_heard c w past ms st v keeps clear = λ q u found own votes apart.
+    let k = clear u apart (sent_votes ms q.act u w.name (keeps.own q found own) votes) in
+    (k.0, k.1, shown_heard c st ms u k.0 keeps.stands k.2)
+
+-- the own value of a call has its name
+pub own_named : (name : Name) (call : Call) (x : Value) → own_value name call ≡ Some x → name_of x ≡ name
+own_named name (PutCall key bytes) x e = let k : PutOf (record { name = name; bytes = bytes }) ≡ x = cc in sym (ap name_of k)
+own_named name (DeleteCall key) x e = let k : Tomb name ≡ x = cc in sym (ap name_of k)
+own_named name (GetCall key) x e = cc

@@ -1,0 +1,90 @@
+-- What happens to one object in a world is a run of the machine of agreement: deeds at sites that keep tagged rows.
+use Rattle.std.specs.Prelude.{ℕ, ◌≡◌, ◌⊎◌, List, [], ◌∷◌, ◌++◌, Option, Some, None, slice_get}
+use Rattle.gz_core.specs.Names.{Name, BallotAt}
+use Rattle.gz_core.specs.Calls.{key_of}
+use Rattle.gz_core.specs.Rows.{RowAt}
+use Rattle.gz_core.specs.Slots.{Act, slots}
+use Rattle.gz_config.specs.declared.Config.{Config}
+use Rattle.gz_core.specs.declared.requests.Op.{Op}
+use Rattle.gz_core.specs.declared.requests.Op.TheVariants.{ReadRow, WriteRow}
+use Rattle.gz_core.specs.declared.requests.Reply.{Reply}
+use Rattle.gz_round.specs.History.{Tale}
+use Rattle.gz_round.specs.declared.hearing.Seen.{Seen as SeenRow}
+use Rattle.gz_round.specs.Sites.{seen_in, written_by}
+use Rattle.gz_site.specs.Told.{Told}
+use Rattle.gz_history.specs.Answers.{shows, IsWrite}
+use Rattle.gz_history.specs.Legal.{IsBefore}
+use Rattle.gz_history.specs.declared.record.CallRec.{CallRec}
+use Rattle.gz_model.specs.Casts.{has_cast}
+use Rattle.gz_ledger.specs.Histories.{Seen, Write, IsIn, IsShown, VotesFor, cast}
+use Rattle.gz_ledger.specs.Deeds.{Store, Stored, Deed, after_deeds, AreDeeds, late_rows, seen_after, sent_after, AreCurrentDeeds}
+use Rattle.gz_world.specs.States.{RequestAt, State, numbered}
+use Rattle.gz_laws.specs.Heard.{unused, IsClean, SeenStands, SentStep, AskedHere, CleanOp}
+
+-- the row that a site keeps of the object, and its tag
+abbrev pub stored_of : Option (ℕ × RowAt) → Option Stored
+stored_of None = None
+stored_of (Some kept) = Some (record { etag = kept.0; row = slots kept.1 })
+
+abbrev pub IsCleanStored : Option (ℕ × RowAt) → Type 0
+IsCleanStored None = Unit {0}
+IsCleanStored (Some kept) = IsClean kept.1
+
+-- what a site tells of the object is what the store has at its place
+pub record SiteStands (key : List ℕ) (told : Told) (st : Store) (i : ℕ) : Type 0 where
+  pub stored : st.stored i ≡ stored_of (told.rows key)
+  pub used : st.used i ≡ told.top
+  pub clean : IsCleanStored (told.rows key)
+
+-- the object that a request is about
+abbrev pub key_asked : Op → List ℕ
+key_asked (ReadRow key) = key
+key_asked (WriteRow key expect step row) = key
+
+-- a request of the object is asked of the store, and its replies are the store's
+pub record RequestStands (st : Store) (r : RequestAt) : Type 0 where
+  pub asked : AskedHere r.name r.site r.op st
+  pub clean : CleanOp r.op
+  pub replies : (i tick : ℕ) (reply : Reply) → slice_get r.replies i ≡ Some (tick, reply) → SeenStands st r.site (seen_in (written_by r.op) reply)
+
+-- the call of this name is one of the object and sent this step, and where that voted for its own value, it is a write
+pub record IsSender (key : List ℕ) (name : Name) (act : Act) (t : Tale) : Type 0 where
+  pub name_is : t.caller.name ≡ name
+  pub key_is : key_of t.caller.call ≡ key
+  pub sent : SentStep t.moments act
+  pub write : (v : ℕ) → VotesFor act v name → IsWrite t.caller.call
+
+abbrev pub IsSentBy : List ℕ → Name → Act → List Tale → Type 0
+IsSentBy key name act [] = ⊥
+IsSentBy key name act (t ∷ ts) = IsSender key name act t ⊎ IsSentBy key name act ts
+
+-- a value is shown at the version, or there is no such version
+abbrev pub IsShownAt : Config → List Deed → ℕ → Type 0
+IsShownAt cfg ds v = (v ≡ 0) ⊎ ((x : Name) × IsShown cfg (seen_after unused ds) v x)
+
+-- the row that a reply shows is among these
+abbrev pub IsRowIn : ℕ → Option SeenRow → List Seen → Type 0
+IsRowIn s None rows = Unit {0}
+IsRowIn s (Some seen) rows = let e : Seen = record { site = s; row = slots seen.row } in IsIn e rows
+
+-- the deeds that were done before a call began, and those since: the call sent nothing before, its first votes for its
+-- own value were sent where rows read since are current, what it hears was read since, and what calls that had ended
+-- show was shown before
+pub record IsSince (s : State) (key : List ℕ) (ds : List Deed) (b : CallRec) : Type 0 where
+  pub early : List Deed
+  pub late : List Deed
+  pub split : ds ≡ late ++ early
+  pub unsent : (q : Write) → IsIn q (sent_after unused early) → q.call ≡ b.name → ⊥
+  pub current : AreCurrentDeeds s.cfg unused b.name late early
+  pub heard : (n i tick : ℕ) (r : RequestAt) (reply : Reply) → numbered s.net n ≡ Some r → key_asked r.op ≡ key → r.name ≡ b.name → slice_get r.replies i ≡ Some (tick, reply)
+      → IsRowIn r.site (seen_in (written_by r.op) reply) (late_rows unused late early)
+  pub ended : (i v : ℕ) (a : CallRec) → slice_get s.calls i ≡ Some a → key_of a.call ≡ key → IsBefore a.end b.begin → shows a.answer ≡ Some v → IsShownAt s.cfg early v
+
+-- these deeds are what has happened to the object
+pub record IsRun (key : List ℕ) (s : State) (ds : List Deed) : Type 0 where
+  pub deeds : AreDeeds s.cfg unused ds
+  pub sites : (i : ℕ) (told : Told) → s.sites i ≡ Some told → SiteStands key told (after_deeds unused ds) i
+  pub requests : (n : ℕ) (r : RequestAt) → numbered s.net n ≡ Some r → key_asked r.op ≡ key → RequestStands (after_deeds unused ds) r
+  pub casts : (v : ℕ) (b : BallotAt) (x : Name) (i : ℕ) → has_cast s.casts key v b x i ≡ cast (seen_after unused ds) v b x i
+  pub sent : (q : Write) → IsIn q (sent_after unused ds) → IsSentBy key q.call q.act (s.tales q.call.session)
+  pub calls : (i : ℕ) (b : CallRec) → slice_get s.calls i ≡ Some b → key_of b.call ≡ key → IsSince s key ds b

@@ -1,0 +1,51 @@
+//! What holds in every world that is reached.
+ghost use Rattle.gz_world.specs.States.{State};
+ghost use Rattle.std.specs.Prelude.{List, ℕ};
+ghost use Rattle.gz_ledger.specs.Deeds.{Deed};
+ghost use Rattle.gz_world.specs.Reached.{IsReached, AllTell};
+ghost use Rattle.gz_laws.specs.Runs.{IsRun};
+ghost use Rattle.gz_laws.specs.Listed.{AreListed};
+ghost use Rattle.gz_laws.specs.Carried.{AreCarried};
+ghost use Rattle.gz_laws.specs.Placed.{ArePlaced};
+ghost use Rattle.gz_laws.specs.Recorded.{AreRecorded};
+ghost use Rattle.gz_laws.specs.Valued.{AreValued};
+ghost use Rattle.gz_laws.specs.Agreed.{AreAgreed};
+ghost use Rattle.gz_history.specs.Legal.{IsLegal};
+
+/// Of every world that is reached: the names of the calls differ, each call is that of a tale of its session, each
+/// moment of a tale was allowed when it came, and its answer, which is the call's, has its cause in what the call was
+/// handed; what the call was handed are replies, in the world, to requests that the call sent; each tale is that of a
+/// call; and requests and calls are of sites, sessions and ticks that there are.
+pub fn world_laws()
+    ensures listed { (s : State) → IsReached s → AreListed s }
+    ensures carried { (s : State) → IsReached s → AreCarried s }
+    ensures placed { (s : State) → IsReached s → ArePlaced s }
+    ensures recorded { (s : State) → IsReached s → AreRecorded s }
+{}
+
+/// What has happened to an object, in a world that is reached and whose sites tell what they hold, is a run of the
+/// machine of agreement.
+pub fn object_runs()
+    ensures { (key : List ℕ) (s : State) → IsReached s → AllTell s → (ds : List Deed) × IsRun key s ds }
+{}
+
+/// Agreement on each object, in a world that is reached and whose sites tell what they hold: each classic vote is
+/// safe, a vote at a version tells that a value is chosen at the one before, one value is chosen at a version, and a
+/// value at one version; what is shown to a call is chosen, and what is chosen is backed by the rows of a quorum.
+pub fn agreement()
+    ensures { (key : List ℕ) (s : State) → IsReached s → AllTell s → AreAgreed key s }
+{}
+
+/// In a world that is reached and whose sites tell what they hold, every value that a row has is one that a call of
+/// the history writes: the bytes that a put was given, or the tombstone of a delete.
+pub fn values_are_given()
+    ensures { (s : State) → IsReached s → AllTell s → AreValued s }
+{}
+
+/// The history of a world that is reached and whose sites tell what they hold is legal: two answers that name one
+/// version of an object name one put or delete, each of these is at one version, the versions keep the order of calls
+/// that ended before others began, and a call that reads returns the bytes that the put of its version was given, or
+/// that the object is gone where a delete wrote the version.
+pub fn legal()
+    ensures { (s : State) → IsReached s → AllTell s → IsLegal s.calls }
+{}

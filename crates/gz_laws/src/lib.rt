@@ -1,0 +1,4 @@
+//! The laws of the worlds that events reach.
+#![tactic(auto)]
+
+pub mod laws;

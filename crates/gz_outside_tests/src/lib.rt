@@ -1,0 +1,11 @@
+//! Tests of what lies outside the world: its sites, shelves and sinks, the text of its log, and its history's judge.
+#![tactic(auto)]
+
+#[cfg(test)]
+mod legality;
+#[cfg(test)]
+mod logs;
+#[cfg(test)]
+mod records;
+#[cfg(test)]
+mod sites;
