@@ -68,25 +68,3 @@ pub fn product_is_remainder()
 pub fn powers_of_two_reach_all()
     ensures { AllPowersOfTwo }
 {}
-
-#[cfg(test)]
-mod tests {
-    use super::*;
-
-    #[test]
-    fn products_and_inverses(rt: HostRuntime) {
-        assert_eq!(rt; add(0x53, 0xca), 0x99);
-        for (a, b, product) in [
-            (2, 0x80, 0x1d),
-            (3, 2, 6),
-            (2, 0x8e, 1),
-            (0x80, 0x80, 0x13),
-            (0, 7, 0),
-            (1, 0xff, 0xff),
-        ] {
-            assert_eq!(rt; mul(a, b), product, "{a} times {b}");
-        }
-        assert_eq!(rt; inv(1), 1);
-        assert_eq!(rt; inv(2), 0x8e);
-    }
-}
