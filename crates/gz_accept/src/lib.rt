@@ -6,8 +6,6 @@ pub mod answers;
 mod columns;
 mod laws;
 mod steps;
-#[cfg(test)]
-mod tests;
 
 pub use answers::{Step, classic_step, decide_step, fast_step, promise_step, trim_step};
 pub use laws::acceptor_laws;

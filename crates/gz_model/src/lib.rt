@@ -5,8 +5,6 @@
 pub mod casts;
 pub mod laws;
 pub mod sites;
-#[cfg(test)]
-mod tests;
 
 pub use casts::{Cast, chosen};
 pub use laws::{allowed_is_safe, one_chosen, one_forced, quorums_meet};

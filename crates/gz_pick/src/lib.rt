@@ -6,8 +6,6 @@ pub mod choices;
 pub mod evidences;
 pub mod heard;
 pub mod looks;
-#[cfg(test)]
-mod tests;
 pub mod tops;
 mod votes;
 
