@@ -1,7 +1,10 @@
 //! How calls end where requests are delivered late, twice or never, and another session comes between.
+ghost use Rattle.gz_client_tests.specs.Holding.{IsHeld};
+
 use crate::driver::{Driver, Kind};
 use crate::network::Move::{self, Deliver, GiveUp, Promise, Reply, Take, Vote};
 use crate::network::name_of_another;
+use gz_client::Client;
 use gz_core::{Answer, Items, Phase, PutName, Session, UnsureWhy, Version};
 use std::alloc::{AllocError, Global};
 use std::test::Fail;
@@ -18,11 +21,39 @@ struct Scene {
 /// How a call ended: its answer, how many requests were sent, and how many are still awaited.
 type End = (Option<Answer>, usize, u32);
 
+impl Driver {
+    /// How a call ends.
+    fn end_of(&mut self, alloc: Global, kind: Kind, moves: &[Move]) -> Result<End, Fail>
+        requires { IsHeld self.old.client self.old.calls self.old.first }
+    {
+        let answer = self.run(alloc, kind, moves)?;
+        Ok((answer, self.network.count(), self.client.live_count()))
+    }
+
+    /// The answers of a call that is chosen once three sites have voted for it, and of a get after it.
+    fn write_and_read(&mut self, alloc: Global, kind: Kind) -> Result<[Option<Answer>; 2], Fail>
+        requires { IsHeld self.old.client self.old.calls self.old.first }
+    {
+        let moves = [Take(1), Take(2), Take(3), Take(4), Take(5), Take(6)];
+        let written = self.run(alloc, kind, &moves)?;
+        let later = [Take(10), Take(11), Take(12)];
+        let read = self.run(alloc, Kind::Get, &later)?;
+        Ok([written, read])
+    }
+
+    /// Which requests a get awaits once the second of three was answered, as a copy of its client tells it.
+    fn awaited_by_a_get(&mut self, alloc: Global) -> Result<Awaited, Fail>
+        requires { IsHeld self.old.client self.old.calls self.old.first }
+    {
+        let _ = self.run(alloc, Kind::Get, &[Take(2)])?;
+        Ok(awaited_by(&self.client.copy()?))
+    }
+}
+
 /// How a call over sites without a row ends.
 fn end_of(alloc: Global, kind: Kind, tries: u32, moves: &[Move]) -> Result<End, Fail> {
     let mut driver = Driver::new(alloc, tries)?;
-    let answer = driver.run(alloc, kind, moves)?;
-    Ok((answer, driver.network.count(), driver.client.live_count()))
+    driver.end_of(alloc, kind, moves)
 }
 
 /// Puts that are chosen, each at the version beside it.
@@ -319,14 +350,10 @@ fn gets_that_repair(rt: HostRuntime) -> Result<(), Fail> {
     Ok(())
 }
 
-/// The answer of a call that is chosen once three sites have voted for it, and that of a get after it.
-fn then_get(alloc: Global, kind: Kind) -> Result<(Option<Answer>, Option<Answer>), Fail> {
+/// The answers of a call of a kind and of a get after it.
+fn then_get(alloc: Global, kind: Kind) -> Result<[Option<Answer>; 2], Fail> {
     let mut driver = Driver::new(alloc, 8)?;
-    let moves = [Take(1), Take(2), Take(3), Take(4), Take(5), Take(6)];
-    let written = driver.run(alloc, kind, &moves)?;
-    let later = [Take(10), Take(11), Take(12)];
-    let read = driver.run(alloc, Kind::Get, &later)?;
-    Ok((written, read))
+    driver.write_and_read(alloc, kind)
 }
 
 /// The answer with the bytes of the first put of session 1.
@@ -349,30 +376,28 @@ fn a_get_after_a_write(rt: HostRuntime) -> Result<(), Fail> {
     };
     let bytes = bytes_of_own(rt.alloc(), name)?;
     let told = then_get(rt.alloc(), Kind::Put)?;
-    assert_eq!(rt; told, (Some(Answer::Ok { version }), Some(bytes)));
+    assert_eq!(rt; told, [Some(Answer::Ok { version }), Some(bytes)]);
     let gone = Answer::Gone { version, name };
     let told = then_get(rt.alloc(), Kind::Delete)?;
-    assert_eq!(rt; told, (Some(Answer::Ok { version }), Some(gone)));
+    assert_eq!(rt; told, [Some(Answer::Ok { version }), Some(gone)]);
     Ok(())
 }
 
-/// Which requests a get awaits once the second of three was answered, as a copy of its client tells it: whether it
-/// runs, how many they are, the first two, and which of the three they are.
+/// What a client tells of the requests that it awaits: whether a call runs, how many they are, the first two, and
+/// which of the first three they are.
 type Awaited = (bool, u32, [Option<u32>; 2], [bool; 3]);
 
-fn awaited_by_a_get(alloc: Global) -> Result<Awaited, Fail> {
-    let mut driver = Driver::new(alloc, 8)?;
-    let _ = driver.run(alloc, Kind::Get, &[Take(2)])?;
-    let client = driver.client.copy()?;
+fn awaited_by(client: &Client) -> Awaited {
     let lowest = [client.lowest_live(), client.live_at(1)];
     let awaits = [client.awaits(1), client.awaits(2), client.awaits(3)];
-    Ok((client.runs(), client.live_count(), lowest, awaits))
+    (client.runs(), client.live_count(), lowest, awaits)
 }
 
 /// An answered request isn't awaited any more.
 #[test]
 fn awaited_requests(rt: HostRuntime) -> Result<(), Fail> {
-    let told = awaited_by_a_get(rt.alloc())?;
+    let mut driver = Driver::new(rt.alloc(), 8)?;
+    let told = driver.awaited_by_a_get(rt.alloc())?;
     assert_eq!(rt; told, (true, 2, [Some(1), Some(3)], [true, false, true]));
     Ok(())
 }
