@@ -1,111 +1,142 @@
 //! Texts of schedules, read and refused.
-use gz_core::{Call, Items, Key, Session, SiteId, TextError, Why};
+use gz_core::{Call, Key, SiteId, TextError, Why};
 use gz_script::line::Line;
 use gz_script::read_schedule;
 use std::alloc::Global;
 use std::test::Fail;
 
-fn key(alloc: Global) -> Result<Key, Fail> {
-    match Key::new(Vec::from_slice(alloc, b"a")?) {
-        Some(key) => Ok(key),
-        None => Err(Fail::from("no key")),
+/// A line in brief: its word, its session or number, the second number or the byte of its key, and its bytes or sites.
+type Brief = (&'static str, u32, u32, u64);
+
+/// Bytes as the digits of one number, below the digit 1.
+fn number_of(bytes: &[u8]) -> u64 {
+    let mut number = 1u64;
+    for byte in bytes {
+        number = number.saturating_mul(256).saturating_add(*byte as u64);
+    }
+    number
+}
+
+/// Sites as the digits of one number, below the digit 1.
+fn number_of_sites(sites: &[SiteId]) -> u64 {
+    let mut number = 1u64;
+    for site in sites {
+        number = number
+            .saturating_mul(256)
+            .saturating_add(site.index() as u64);
+    }
+    number
+}
+
+/// The byte of a key that has one byte.
+fn byte_of(key: &Key) -> u32 {
+    match key.as_bytes() {
+        [byte] => *byte as u32,
+        _ => 0,
     }
 }
 
-/// A session that writes these bytes, reads them and deletes the object.
-fn schedule(alloc: Global, bytes: &[u8]) -> Result<[Line; 6], Fail> {
-    let session = Session(1);
-    let put = Call::Put {
-        key: key(alloc)?,
-        bytes: Items::from_slice(alloc, bytes)?,
-    };
-    let get = Call::Get { key: key(alloc)? };
-    let delete = Call::Delete { key: key(alloc)? };
-    Ok([
-        Line::OpenSession,
-        Line::Begin { session, call: put },
-        Line::Settle {
-            session,
-            without: Items::new(alloc),
-        },
-        Line::Begin { session, call: get },
-        Line::Settle {
-            session,
-            without: Items::new(alloc),
-        },
-        Line::Begin {
-            session,
-            call: delete,
-        },
-    ])
+fn brief_of_call(session: u32, call: &Call) -> Brief {
+    let key = byte_of(call.key());
+    match call {
+        Call::Put { bytes, .. } => ("put", session, key, number_of(bytes.as_slice())),
+        Call::Delete { .. } => ("delete", session, key, 1),
+        Call::Get { .. } => ("get", session, key, 1),
+    }
+}
+
+fn brief_of(line: &Line) -> Brief {
+    match line {
+        Line::OpenSession => ("session", 0, 0, 1),
+        Line::Begin { session, call } => brief_of_call(session.number(), call),
+        Line::Deliver { n } => ("deliver", *n, 0, 1),
+        Line::Reply { n, which } => ("reply", *n, *which, 1),
+        Line::GiveUp { n } => ("giveup", *n, 0, 1),
+        Line::Crash { session } => ("crash", session.number(), 0, 1),
+        Line::Take { n } => ("take", *n, 0, 1),
+        Line::Settle { session, without } => {
+            (
+                "settle",
+                session.number(),
+                0,
+                number_of_sites(without.as_slice()),
+            )
+        }
+        Line::Drain { session } => ("drain", session.number(), 0, 1),
+    }
+}
+
+/// The lines of a short text.
+fn read(alloc: Global, text: &str) -> Result<Vec<Brief>, Fail> {
+    if text.len() >= 200 {
+        return Err(Fail::from("too long"));
+    }
+    let mut briefs = Vec::new(alloc);
+    for line in &read_schedule(alloc, text.as_bytes())? {
+        briefs.push(brief_of(line))?;
+    }
+    Ok(briefs)
 }
 
 #[test]
 fn schedules_are_read(rt: HostRuntime) -> Result<(), Fail> {
-    let cases: [(&[u8], &[u8]); 4] = [
+    let cases = [
         (
-            b"session\nput 1 a x:0102\nsettle 1\nget 1 a\nsettle 1\ndelete 1 a\n",
-            &[1, 2],
+            "session\nput 1 a x:0102\nsettle 1\nget 1 a\nsettle 1\ndelete 1 a\n",
+            0x10102,
         ),
         (
-            b"session\r\nput 1 a x:0102\r\nsettle 1\r\nget 1 a\r\nsettle 1\r\ndelete 1 a\r\n",
-            &[1, 2],
+            "session\r\nput 1 a x:0102\r\nsettle 1\r\nget 1 a\r\nsettle 1\r\ndelete 1 a\r\n",
+            0x10102,
         ),
         (
-            b"session\nput 1 a x:AbcD\nsettle 1\nget 1 a\nsettle 1\ndelete 1 a",
-            &[0xab, 0xcd],
+            "session\nput 1 a x:AbcD\nsettle 1\nget 1 a\nsettle 1\ndelete 1 a",
+            0x1abcd,
         ),
         (
-            b"# c\n\nsession\nput 1 a x:\n  \nsettle 1\nget 1 a\n# d\nsettle 1\n delete  1 a \n",
-            &[],
+            "# c\n\nsession\nput 1 a x:\n  \nsettle 1\nget 1 a\n# d\nsettle 1\n delete  1 a \n",
+            1,
         ),
     ];
     for (text, bytes) in cases {
-        assert!(rt; text.len() < 100);
-        let lines = schedule(rt.alloc(), bytes)?;
-        let read = read_schedule(rt.alloc(), text)?;
-        assert_eq!(rt; read.as_slice(), lines.as_slice());
+        let lines = [
+            ("session", 0, 0, 1),
+            ("put", 1, 0x61, bytes),
+            ("settle", 1, 0, 1),
+            ("get", 1, 0x61, 1),
+            ("settle", 1, 0, 1),
+            ("delete", 1, 0x61, 1),
+        ];
+        assert!(rt; read(rt.alloc(), text)?.as_slice() == lines.as_slice());
     }
     Ok(())
-}
-
-/// A line of each kind but those of calls.
-fn other_lines(alloc: Global) -> Result<[Line; 9], Fail> {
-    let session = Session(2);
-    let without = Items::from_slice(alloc, &[SiteId(0), SiteId(15), SiteId(15)])?;
-    Ok([
-        Line::Deliver { n: 0 },
-        Line::Reply { n: 7, which: 0 },
-        Line::GiveUp { n: 4_294_967_295 },
-        Line::Crash { session },
-        Line::Take { n: 10 },
-        Line::Drain { session },
-        Line::Settle { session, without },
-        Line::Settle {
-            session,
-            without: Items::from_slice(alloc, &[SiteId(3)])?,
-        },
-        Line::OpenSession,
-    ])
 }
 
 #[test]
 fn each_other_line_is_read(rt: HostRuntime) -> Result<(), Fail> {
-    let text: &[u8] =
-        b"deliver 0\n reply  7 0 \ngiveup 4294967295\ncrash 2\n#\ntake 10\ndrain 2\nsettle 2 without 0,15,15\nsettle 2 without 3\nsession";
-    assert!(rt; text.len() < 200);
-    let lines = other_lines(rt.alloc())?;
-    let read = read_schedule(rt.alloc(), text)?;
-    assert_eq!(rt; read.as_slice(), lines.as_slice());
+    let text =
+        "deliver 0\n reply  7 0 \ngiveup 4294967295\ncrash 2\n#\ntake 10\ndrain 2\nsettle 2 without 0,15,15\nsettle 2 without 3\nsession";
+    let lines = [
+        ("deliver", 0, 0, 1),
+        ("reply", 7, 0, 1),
+        ("giveup", 4_294_967_295, 0, 1),
+        ("crash", 2, 0, 1),
+        ("take", 10, 0, 1),
+        ("drain", 2, 0, 1),
+        ("settle", 2, 0, 0x1000f0f),
+        ("settle", 2, 0, 0x103),
+        ("session", 0, 0, 1),
+    ];
+    assert!(rt; read(rt.alloc(), text)?.as_slice() == lines.as_slice());
     Ok(())
 }
 
 /// The line that a text is refused at, if it is.
-fn refused_at(alloc: Global, text: &[u8]) -> Option<u32> {
+fn refused_at(alloc: Global, text: &str) -> Option<u32> {
     if text.len() >= 100 {
         return None;
     }
-    match read_schedule(alloc, text) {
+    match read_schedule(alloc, text.as_bytes()) {
         Err(
             TextError::Bad {
                 line,
@@ -118,30 +149,30 @@ fn refused_at(alloc: Global, text: &[u8]) -> Option<u32> {
 
 #[test]
 fn the_first_line_that_is_not_built_is_told(rt: HostRuntime) {
-    let cases: [(&[u8], u32); 23] = [
-        (b"session\ngetat 1 a 1\n", 2),
-        (b"session\npat 1 a\n", 2),
-        (b"# c\n\nsession\nput 1 a x:0\nsettle 1\n", 4),
-        (b"session\nput 01 a x:01\nsettle 1\n", 2),
-        (b"deliver 1\ndeliver 01\n", 2),
-        (b"deliver 4294967296\n", 1),
-        (b"deliver\n", 1),
-        (b"take 1\ntake -1\n", 2),
-        (b"delete 1\n", 1),
-        (b"delete 0 a\n", 1),
-        (b"session\ndelete 1 a x:01\n", 2),
-        (b"giveup 1 2\n", 1),
-        (b"crash 1\ncrash 0\n", 2),
-        (b"drain x\n", 1),
-        (b"reply 1\n", 1),
-        (b"reply 1 1\nreply 1 1 1\n", 2),
-        (b"settle 0\n", 1),
-        (b"settle 1 without\n", 1),
-        (b"settle 1 with 1\n", 1),
-        (b"settle 1 without 16\n", 1),
-        (b"settle 1 without 1,\n", 1),
-        (b"settle 1 without 1, 2\n", 1),
-        (b"settle 1 without ,1\n", 1),
+    let cases: [(&str, u32); 23] = [
+        ("session\ngetat 1 a 1\n", 2),
+        ("session\npat 1 a\n", 2),
+        ("# c\n\nsession\nput 1 a x:0\nsettle 1\n", 4),
+        ("session\nput 01 a x:01\nsettle 1\n", 2),
+        ("deliver 1\ndeliver 01\n", 2),
+        ("deliver 4294967296\n", 1),
+        ("deliver\n", 1),
+        ("take 1\ntake -1\n", 2),
+        ("delete 1\n", 1),
+        ("delete 0 a\n", 1),
+        ("session\ndelete 1 a x:01\n", 2),
+        ("giveup 1 2\n", 1),
+        ("crash 1\ncrash 0\n", 2),
+        ("drain x\n", 1),
+        ("reply 1\n", 1),
+        ("reply 1 1\nreply 1 1 1\n", 2),
+        ("settle 0\n", 1),
+        ("settle 1 without\n", 1),
+        ("settle 1 with 1\n", 1),
+        ("settle 1 without 16\n", 1),
+        ("settle 1 without 1,\n", 1),
+        ("settle 1 without 1, 2\n", 1),
+        ("settle 1 without ,1\n", 1),
     ];
     for (text, line) in cases {
         assert_eq!(rt; refused_at(rt.alloc(), text), Some(line), "line {line}");
@@ -150,7 +181,7 @@ fn the_first_line_that_is_not_built_is_told(rt: HostRuntime) {
 
 #[test]
 fn calls_need_no_session_above_and_no_line_below(rt: HostRuntime) {
-    assert_eq!(rt; refused_at(rt.alloc(), b"put 1 a x:01\nget 2 a\n"), None);
+    assert_eq!(rt; refused_at(rt.alloc(), "put 1 a x:01\nget 2 a\n"), None);
     assert!(rt; read_schedule(rt.alloc(), b"put 1 a x:01\nget 2 a\n").is_ok());
     assert!(rt; read_schedule(rt.alloc(), b"").is_ok());
 }

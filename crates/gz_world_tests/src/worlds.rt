@@ -1,6 +1,5 @@
 //! Worlds to which events are applied one by one.
 ghost use Rattle.std.specs.Prelude.{IfOk};
-ghost use Rattle.gz_round.specs.Starting.{IsWithin};
 ghost use Rattle.gz_world.specs.Fits.{IsFitting, IsBounded};
 
 use crate::opened::{empty_sites, opened};
@@ -75,24 +74,54 @@ fn event(alloc: Global, step: Step) -> Result<Event, Fail>
         Step::Opens => Event::OpenSession,
         Step::Gets => Event::Begin {
             session,
-            call: get(alloc)?,
+            call: Call::Get { key: key(alloc)? },
         },
         Step::GivesUp(n) => Event::GiveUp { n },
         Step::Crashes => Event::Crash { session },
     })
 }
 
-fn get(alloc: Global) -> Result<Call, Fail>
-    ensures { IfOk result (λ call. IsWithin call) }
-{
+fn key(alloc: Global) -> Result<Key, Fail> {
     match Key::new(Vec::from_slice(alloc, b"a")?) {
-        Some(key) => Ok(Call::Get { key }),
+        Some(key) => Ok(key),
         None => Err(Fail::from("no key")),
     }
 }
 
+/// What is told of an event: its tick and outcome, the session and its last call, its lowest live request, the requests
+/// that were sent, and of an answer for want of sites how many were heard.
+type Told = (
+    (u32, Outcome),
+    (Option<Session>, Option<PutName>),
+    Option<u32>,
+    (u32, u32),
+    Option<u32>,
+);
+
+fn heard(answer: &Option<Answer>) -> Option<u32> {
+    match answer {
+        Some(
+            Answer::NoQuorum {
+                phase: Phase::Look,
+                heard,
+            },
+        ) => Some(*heard),
+        _ => None,
+    }
+}
+
+fn told_of(applied: &Applied) -> Told {
+    (
+        (applied.tick, applied.outcome),
+        (applied.session, applied.call),
+        applied.live,
+        applied.sent,
+        heard(&applied.answer),
+    )
+}
+
 /// What each step is told.
-fn told(world: &mut World<MemSite>, steps: &[Step]) -> Result<Vec<Applied>, Fail>
+fn told(world: &mut World<MemSite>, steps: &[Step]) -> Result<Vec<Told>, Fail>
     requires { IsFitting world.old }
     ensures { IsFitting world.new }
 {
@@ -100,22 +129,27 @@ fn told(world: &mut World<MemSite>, steps: &[Step]) -> Result<Vec<Applied>, Fail
     let mut told = Vec::new(alloc);
     for step in steps {
         let event = event(alloc, *step)?;
-        told.push(apply(world, event)?)?;
+        let applied = apply(world, event)?;
+        told.push(told_of(&applied))?;
     }
     Ok(told)
 }
 
-/// What is told of an event of the first session that was done, after which so many of its requests are live.
-fn done(tick: u32, call: Option<PutName>, live: Option<u32>) -> Applied {
-    Applied {
-        tick,
-        outcome: Outcome::Done,
-        session: Some(SESSION),
-        call,
-        live,
-        sent: (0, 0),
-        answer: None,
-    }
+const GET: PutName = PutName {
+    session: SESSION,
+    seq: 1,
+};
+
+/// What is told of an event of the session, after it began the get.
+fn of_get(
+    tick: u32,
+    outcome: Outcome,
+    live: Option<u32>,
+    sent: (u32, u32),
+    heard: Option<u32>,
+) -> Told {
+    let own = (Some(SESSION), Some(GET));
+    ((tick, outcome), own, live, sent, heard)
 }
 
 #[test]
@@ -130,31 +164,22 @@ fn a_call_whose_requests_are_given_up(rt: HostRuntime) -> Result<(), Fail> {
         Step::Crashes,
     ];
     let told = told(&mut world, &steps)?;
-    let get = Some(PutName {
-        session: SESSION,
-        seq: 1,
-    });
+    let opened = (Some(SESSION), None);
     let expected = [
-        done(1, None, None),
-        Applied {
-            sent: (1, 3),
-            ..done(2, get, Some(1))
-        },
-        done(3, get, Some(2)),
-        Applied {
-            answer: Some(Answer::NoQuorum {
-                phase: Phase::Look,
-                heard: 0,
-            }),
-            ..done(4, get, None)
-        },
-        done(5, get, None),
-        Applied {
-            outcome: Outcome::Skipped { why: Skip::Crashed },
-            ..done(6, get, None)
-        },
+        ((1, Outcome::Done), opened, None, (0, 0), None),
+        of_get(2, Outcome::Done, Some(1), (1, 3), None),
+        of_get(3, Outcome::Done, Some(2), (0, 0), None),
+        of_get(4, Outcome::Done, None, (0, 0), Some(0)),
+        of_get(5, Outcome::Done, None, (0, 0), None),
+        of_get(
+            6,
+            Outcome::Skipped { why: Skip::Crashed },
+            None,
+            (0, 0),
+            None,
+        ),
     ];
-    assert_eq!(rt; told.as_slice(), expected.as_slice());
+    assert!(rt; told.as_slice() == expected.as_slice());
     assert_eq!(rt; world.into_sites().len(), 3);
     Ok(())
 }
@@ -163,11 +188,7 @@ fn a_call_whose_requests_are_given_up(rt: HostRuntime) -> Result<(), Fail> {
 fn what_is_awaited_of_a_get(rt: HostRuntime) -> Result<(), Fail> {
     let mut world = opened(rt.alloc(), Config::DEFAULT)?;
     told(&mut world, &[Step::Opens, Step::Gets, Step::GivesUp(2)])?;
-    let name = PutName {
-        session: SESSION,
-        seq: 1,
-    };
-    assert_eq!(rt; world.last_call(SESSION), Some(name));
+    assert_eq!(rt; world.last_call(SESSION), Some(GET));
     assert_eq!(rt; world.lowest_live(SESSION), Some(1));
     assert_eq!(rt; world.live_count(SESSION), 2);
     assert_eq!(rt; world.live_at(SESSION, 1), Some(3));

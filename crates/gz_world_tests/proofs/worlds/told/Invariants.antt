@@ -1,5 +1,5 @@
 use Rattle.gz_world.specs.Fits.{IsFitting}
 use Rattle.gz_world_tests.proofs.worlds.told.Given as goal
 
-abbrev pub invariant-loop : goal.invariant-loop
-invariant-loop l = IsFitting l.world
+abbrev pub invariant-loop-step : goal.invariant-loop-step
+invariant-loop-step l = IsFitting l.world
