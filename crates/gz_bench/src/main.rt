@@ -32,36 +32,36 @@ impl Job {
     }
 }
 
-/// The time in nanoseconds of the fastest round of `split`, or of its plain body.
+/// The time in nanoseconds of the fastest round of `split`, or of its plain body. The pieces of a round are dropped before the next one, as
+/// zfec's are.
 fn best_split(rt: &HostRuntime, job: &Job, object: &[u8], plainly: bool) -> Result<u128> {
     let mut best = u128::MAX;
-    let mut last = Vec::new(rt.alloc());
+    let mut pieces = Vec::new(rt.alloc());
     for _ in 0..job.rounds {
+        pieces.clear();
         let start = Instant::now(rt)?;
-        let pieces = if plainly {
+        pieces = if plainly {
             split_plainly(rt.alloc(), job.k, job.m, object)?
         } else {
             split(rt.alloc(), job.k, job.m, object)?
         };
         best = best.min(start.elapsed(rt)?.as_nanos());
-        last = pieces;
     }
-    drop(last);
     Ok(best)
 }
 
-/// The time in nanoseconds of the fastest round of `join` from the last k pieces.
+/// The time in nanoseconds of the fastest round of `join` from the last k pieces, each object dropped before the next round.
 fn best_join(rt: &HostRuntime, job: &Job, object: &[u8]) -> Result<u128> {
     let pieces = last_pieces(rt.alloc(), split(rt.alloc(), job.k, job.m, object)?, job.k)?;
     let mut best = u128::MAX;
-    let mut last = Vec::new(rt.alloc());
+    let mut joined = Vec::new(rt.alloc());
     for _ in 0..job.rounds {
+        joined = Vec::new(rt.alloc());
         let start = Instant::now(rt)?;
-        let joined = join(rt.alloc(), job.k, job.m, object.len(), &pieces)?;
+        joined = join(rt.alloc(), job.k, job.m, object.len(), &pieces)?;
         best = best.min(start.elapsed(rt)?.as_nanos());
-        last = joined;
     }
-    ensure!(last.as_slice() == object, "the object does not come back");
+    ensure!(joined.as_slice() == object, "the object does not come back");
     Ok(best)
 }
 

@@ -33,10 +33,12 @@ pub fn last_pieces(
 ) -> Result<Vec<(usize, Vec<u8>)>, AllocError> {
     let skipped = pieces.len().saturating_sub(count);
     let mut last = Vec::new(alloc);
-    for (index, piece) in pieces.into_iter().enumerate() {
+    let mut index = 0usize;
+    for piece in pieces {
         if index >= skipped {
             last.push((index, piece))?;
         }
+        index = index.saturating_add(1);
     }
     Ok(last)
 }

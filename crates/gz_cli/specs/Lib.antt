@@ -2,3 +2,4 @@ pub mod Words
 pub mod Codes
 pub mod Worlds
 pub mod Runs
+pub mod Statuses

@@ -1,4 +1,7 @@
 //! How a run ends.
+ghost use Rattle.std.specs.Prelude.{◌≡◌};
+ghost use Rattle.gz_cli.specs.Statuses.{exit_number};
+
 use gz_core::{Why, Word};
 use std::fmt;
 
@@ -24,7 +27,9 @@ pub enum Status {
 
 impl Status {
     /// The number with which the program ends.
-    pub fn number(&self) -> u8 {
+    pub fn number(&self) -> u8
+        ensures { result ≡ exit_number self.now }
+    {
         match self {
             Status::Done => 0,
             Status::Usage => 2,

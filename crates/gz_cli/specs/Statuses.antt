@@ -1,0 +1,16 @@
+-- The number with which the program ends.
+use Rattle.std.specs.Prelude.{ℕ}
+use Rattle.gz_cli.specs.declared.status.Status.{Status}
+use Rattle.gz_cli.specs.declared.status.Status.TheVariants.{Done, Usage, ShelfFault, NoFile, FileTooLarge, BadText, Full, SinkFault, NoMemory}
+
+-- the program's exit status, by how a run ends
+abbrev pub exit_number : Status → ℕ
+exit_number Done = 0
+exit_number Usage = 2
+exit_number (ShelfFault name) = 3
+exit_number (NoFile name) = 4
+exit_number (FileTooLarge name) = 5
+exit_number (BadText line why) = 7
+exit_number (Full events held) = 9
+exit_number SinkFault = 11
+exit_number NoMemory = 12
