@@ -11,7 +11,7 @@ use gz_site::Site;
 use std::alloc::Global;
 
 /// A session: its client, whether it has crashed, and the place of its last call among the world's calls.
-#[derive(Debug, Drop)]
+#[derive(Drop)]
 pub struct Member {
     pub client: Client,
     pub crashed: bool,
