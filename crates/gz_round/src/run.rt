@@ -68,11 +68,7 @@ impl Clone for Stage {
 }
 
 /// The phase that prepares a ballot, with a copy of what was found.
-fn preparation(
-    version: Version,
-    ballot: Ballot,
-    found: &Option<Value>,
-) -> Result<Stage, AllocError>
+fn preparation(version: Version, ballot: Ballot, found: &Option<Value>) -> Result<Stage, AllocError>
     ensures { IfOk result (λ stage. stage ≡ Stage.Prepare version ballot found.now) }
 {
     let found = found.clone()?;
