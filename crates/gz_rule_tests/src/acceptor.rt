@@ -1,57 +1,83 @@
 //! The steps of the acceptor on small rows.
-use crate::acts::{Act, FIRST, row_by, take};
-use crate::samples::{HIGH, LOW, ONE, TWO, tomb};
+use crate::acts::{Act, FIRST, row_by, take_named};
+use crate::samples::{HIGH, LOW, ONE, TWO};
 use gz_accept::{Step, classic_step, decide_step, fast_step, promise_step, trim_step};
 use gz_core::{PutName, Row};
+use std::alloc::{AllocError, Global};
 use std::test::Fail;
 
 const BELOW: Step = Step::Below { promised: HIGH };
 
 const TRIMMED: Step = Step::Trimmed { floor: FIRST };
 
-/// Steps one after another on the empty row, each with the name of its value and its answer.
-const RUNS: [[(Act, PutName, Step); 4]; 5] = [
-    [
-        (Act::PromiseHigh, ONE, Step::Done),
-        (Act::PromiseHigh, ONE, Step::Already),
-        (Act::PromiseLow, ONE, BELOW),
-        (Act::FastVote, ONE, BELOW),
-    ],
-    [
-        (Act::FastVote, ONE, Step::Done),
-        (Act::FastVote, TWO, Step::Already),
-        (Act::VoteLow, TWO, Step::Done),
-        (Act::Decide, TWO, Step::Done),
-    ],
-    [
-        (Act::VoteHigh, ONE, Step::Done),
-        (Act::VoteHigh, ONE, Step::Already),
-        (Act::VoteLow, TWO, BELOW),
-        (Act::Trim, ONE, Step::Done),
-    ],
-    [
-        (Act::Trim, ONE, Step::Done),
-        (Act::Trim, ONE, Step::Already),
-        (Act::FastVote, ONE, TRIMMED),
-        (Act::DecideSecond, ONE, Step::Settled),
-    ],
-    [
-        (Act::DecideSecond, ONE, Step::Done),
-        (Act::DecideSecond, ONE, Step::Settled),
-        (Act::Trim, TWO, Step::Settled),
-        (Act::Trim, ONE, Step::Done),
-    ],
+/// A step, with the name of its value.
+type Named = (Act, PutName);
+
+/// Steps one after another on the empty row, and their answers.
+const RUNS: [([Named; 4], [Step; 4]); 5] = [
+    (
+        [
+            (Act::PromiseHigh, ONE),
+            (Act::PromiseHigh, ONE),
+            (Act::PromiseLow, ONE),
+            (Act::FastVote, ONE),
+        ],
+        [Step::Done, Step::Already, BELOW, BELOW],
+    ),
+    (
+        [
+            (Act::FastVote, ONE),
+            (Act::FastVote, TWO),
+            (Act::VoteLow, TWO),
+            (Act::Decide, TWO),
+        ],
+        [Step::Done, Step::Already, Step::Done, Step::Done],
+    ),
+    (
+        [
+            (Act::VoteHigh, ONE),
+            (Act::VoteHigh, ONE),
+            (Act::VoteLow, TWO),
+            (Act::Trim, ONE),
+        ],
+        [Step::Done, Step::Already, BELOW, Step::Done],
+    ),
+    (
+        [
+            (Act::Trim, ONE),
+            (Act::Trim, ONE),
+            (Act::FastVote, ONE),
+            (Act::DecideSecond, ONE),
+        ],
+        [Step::Done, Step::Already, TRIMMED, Step::Settled],
+    ),
+    (
+        [
+            (Act::DecideSecond, ONE),
+            (Act::DecideSecond, ONE),
+            (Act::Trim, TWO),
+            (Act::Trim, ONE),
+        ],
+        [Step::Done, Step::Settled, Step::Settled, Step::Done],
+    ),
 ];
+
+fn steps_of(alloc: Global, acts: &[Named]) -> Result<Vec<Step>, AllocError> {
+    let mut row = Row::empty(alloc);
+    let mut steps = Vec::new(alloc);
+    for (act, name) in acts {
+        let step = take_named(&mut row, *act, *name)?;
+        steps.push(step)?;
+    }
+    Ok(steps)
+}
 
 #[test]
 fn steps_on_the_empty_row(rt: HostRuntime) -> Result<(), Fail> {
     let runs = RUNS;
-    for run in runs.as_slice() {
-        let mut row = Row::empty(rt.alloc());
-        for (act, name, wanted) in run.as_slice() {
-            let value = tomb(*name);
-            assert_eq!(rt; take(&mut row, *act, &value)?, *wanted);
-        }
+    for (acts, steps) in runs.as_slice() {
+        let told = steps_of(rt.alloc(), acts.as_slice())?;
+        assert_eq!(rt; told.as_slice(), steps.as_slice());
     }
     Ok(())
 }

@@ -21,8 +21,8 @@ pub enum Act {
     Trim,
 }
 
-/// Takes the step on a row.
-pub fn take(row: &mut Row, act: Act, x: &Value) -> Result<Step, AllocError> {
+/// Takes the step on a row, for the value `x`.
+fn take(row: &mut Row, act: Act, x: &Value) -> Result<Step, AllocError> {
     match act {
         Act::FastVote => fast_vote(row, FIRST, x),
         Act::PromiseLow => promise(row, FIRST, LOW),
@@ -35,9 +35,15 @@ pub fn take(row: &mut Row, act: Act, x: &Value) -> Result<Step, AllocError> {
     }
 }
 
+/// Takes the step, for a value of this name.
+pub fn take_named(row: &mut Row, act: Act, name: PutName) -> Result<Step, AllocError> {
+    let value = tomb(name);
+    take(row, act, &value)
+}
+
 /// The row that a step makes of the empty one.
 pub fn row_by(alloc: Global, act: Act, name: PutName) -> Result<Row, AllocError> {
     let mut row = Row::empty(alloc);
-    take(&mut row, act, &tomb(name))?;
+    take_named(&mut row, act, name)?;
     Ok(row)
 }

@@ -1,5 +1,5 @@
 //! What a row holds, and what it shows of a version.
-use crate::acts::{Act, FIRST, SECOND, row_by, take};
+use crate::acts::{Act, FIRST, SECOND, row_by, take_named};
 use crate::samples::{LOW, ONE, TWO, tomb};
 use gz_core::{Ballot, Column, PutName, Row, Version, Vote};
 use gz_pick::looks::later_of;
@@ -11,9 +11,8 @@ const THIRD: Version = Version(3);
 
 /// The first version has a vote, and the second is decided.
 fn sample(alloc: Global) -> Result<Row, AllocError> {
-    let value = tomb(ONE);
     let mut row = row_by(alloc, Act::VoteLow, TWO)?;
-    take(&mut row, Act::DecideSecond, &value)?;
+    take_named(&mut row, Act::DecideSecond, ONE)?;
     Ok(row)
 }
 
