@@ -37,7 +37,9 @@ fn main(rt: HostRuntime) -> ExitCode {
 // The words of the command line, without the program's own name.
 fn arguments(rt: &HostRuntime) -> io::Result<Vec<Word>> {
     let mut words = Vec::new(rt.alloc());
-    for word in env::args(rt)?.skip(1) {
+    let mut arguments = env::args(rt)?;
+    let _program = arguments.next();
+    for word in arguments {
         words.push(Word(word))?;
     }
     Ok(words)

@@ -365,27 +365,15 @@ fn a_real_file(rt: HostRuntime) -> Result<(), Fail> {
     let path = format!(in alloc; "{folder}/giza-shelf-test")?;
     fs::write(&rt, path.as_str(), "four")?;
     let mut shelf = FileShelf::new(&rt);
-    assert_eq!(rt;
-        shelf
-            .read(alloc, path.as_str(), 4)
-            .ok()
-            .ok_or("four bytes")?
-            .as_slice(),
-        b"four".as_slice()
-    );
-    assert_eq!(rt;
-        shelf.read(alloc, path.as_str(), 3).err(),
-        Some(ShelfError::TooLarge)
-    );
+    let four = shelf.read(alloc, path.as_str(), 4).ok();
+    let long = shelf.read(alloc, path.as_str(), 3).err();
     fs::remove_file(&rt, path.as_str())?;
-    assert_eq!(rt;
-        shelf.read(alloc, path.as_str(), 4).err(),
-        Some(ShelfError::NoSuch)
-    );
-    assert_eq!(rt;
-        shelf.read(alloc, folder, 4).err(),
-        Some(ShelfError::Failed)
-    );
+    let gone = shelf.read(alloc, path.as_str(), 4).err();
+    let failed = shelf.read(alloc, folder, 4).err();
+    assert_eq!(rt; four.ok_or("four bytes")?.as_slice(), b"four".as_slice());
+    assert_eq!(rt; long, Some(ShelfError::TooLarge));
+    assert_eq!(rt; gone, Some(ShelfError::NoSuch));
+    assert_eq!(rt; failed, Some(ShelfError::Failed));
     Ok(())
 }
 
