@@ -64,17 +64,23 @@ fn line_of_one(alloc: Global, verb: &[u8], field: &[u8]) -> Option<Line>
     ensures { result ≡ line_of_one verb.now field.now }
 {
     if verb == b"deliver".as_slice() {
-        fields::number(field).map(|n| Line::Deliver { n })
+        let n = fields::number(field)?;
+        Some(Line::Deliver { n })
     } else if verb == b"giveup".as_slice() {
-        fields::number(field).map(|n| Line::GiveUp { n })
+        let n = fields::number(field)?;
+        Some(Line::GiveUp { n })
     } else if verb == b"take".as_slice() {
-        fields::number(field).map(|n| Line::Take { n })
+        let n = fields::number(field)?;
+        Some(Line::Take { n })
     } else if verb == b"crash".as_slice() {
-        fields::session(field).map(|session| Line::Crash { session })
+        let session = fields::session(field)?;
+        Some(Line::Crash { session })
     } else if verb == b"drain".as_slice() {
-        fields::session(field).map(|session| Line::Drain { session })
+        let session = fields::session(field)?;
+        Some(Line::Drain { session })
     } else if verb == b"settle".as_slice() {
-        fields::session(field).map(|session| Line::Settle {
+        let session = fields::session(field)?;
+        Some(Line::Settle {
             session,
             without: Items::new(alloc),
         })
