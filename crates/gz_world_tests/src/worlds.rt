@@ -4,9 +4,10 @@ ghost use Rattle.gz_world.specs.Fits.{IsFitting, IsBounded};
 
 use crate::opened::{empty_sites, opened};
 use gz_core::{Answer, Call, Config, Key, Phase, PutName, Session};
+use gz_script::outboxes::{Outboxes, has_reply};
 use gz_site::MemSite;
-use gz_world::{Applied, ApplyError, Event, OpenWhy, Outcome, Skip, World};
-use std::alloc::Global;
+use gz_world::{Applied, ApplyError, Event, OpenWhy, Outcome, Request, Skip, World};
+use std::alloc::{AllocError, Global};
 use std::test::Fail;
 
 /// Applies an event, which must be taken.
@@ -62,6 +63,7 @@ const SESSION: Session = Session(1);
 enum Step {
     Opens,
     Gets,
+    Delivers(u32),
     GivesUp(u32),
     Crashes,
 }
@@ -76,6 +78,7 @@ fn event(alloc: Global, step: Step) -> Result<Event, Fail>
             session,
             call: Call::Get { key: key(alloc)? },
         },
+        Step::Delivers(n) => Event::Deliver { n },
         Step::GivesUp(n) => Event::GiveUp { n },
         Step::Crashes => Event::Crash { session },
     })
@@ -193,5 +196,22 @@ fn what_is_awaited_of_a_get(rt: HostRuntime) -> Result<(), Fail> {
     assert_eq!(rt; world.live_count(SESSION), 2);
     assert_eq!(rt; world.live_at(SESSION, 1), Some(3));
     assert!(rt; !world.is_full());
+    Ok(())
+}
+
+/// The requests of the first session that are listed.
+fn listed(alloc: Global, net: &[Request]) -> Result<Vec<u32>, AllocError> {
+    let mut outboxes = Outboxes::new(alloc);
+    outboxes.look(net, SESSION)?;
+    Vec::from_slice(alloc, outboxes.of(SESSION))
+}
+
+#[test]
+fn requests_that_have_no_reply(rt: HostRuntime) -> Result<(), Fail> {
+    let mut world = opened(rt.alloc(), Config::DEFAULT)?;
+    told(&mut world, &[Step::Opens, Step::Gets, Step::Delivers(2)])?;
+    let net = world.net.as_slice();
+    assert_eq!(rt; [has_reply(net, 1), has_reply(net, 2)], [false, true]);
+    assert_eq!(rt; listed(rt.alloc(), net)?.as_slice(), [1, 3].as_slice());
     Ok(())
 }
