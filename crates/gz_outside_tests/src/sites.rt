@@ -1,5 +1,6 @@
 //! Sites, shelves and sinks in memory.
-use gz_core::{Etag, Key, Row};
+use crate::records::key_of;
+use gz_core::{Etag, Key, Row, Version};
 use gz_site::{
     Failing, MemShelf, MemSink, MemSite, RowRead, RowWrite, Shelf, ShelfError, Sink, SinkError,
     Site, SiteFault, read_at, write_all, write_at,
@@ -8,105 +9,74 @@ use std::alloc::{AllocError, Global};
 use std::collections::BTreeMap;
 use std::test::Fail;
 
-fn key(alloc: Global) -> Result<Key, Fail> {
-    match Key::new(Vec::from_slice(alloc, b"a")?) {
-        Some(key) => Ok(key),
-        None => Err(Fail::from("no key")),
-    }
-}
-
-/// What a read shows: the tag, the floor and the number of columns.
-fn shown(read: RowRead) -> Option<(Etag, u64, usize)> {
+/// Whether a read shows the empty row under this tag, none standing for no row.
+fn shows(read: &RowRead, expect: Option<Etag>) -> bool {
     match read {
-        RowRead::Row { etag, row } => Some((etag, row.floor().number(), row.columns().len())),
-        RowRead::NoRow => None,
+        RowRead::Row { etag, row } => {
+            Some(*etag) == expect && row.floor() == Version::none() && row.columns().is_empty()
+        }
+        RowRead::NoRow => expect.is_none(),
     }
-}
-
-fn read(
-    alloc: Global,
-    site: &mut MemSite,
-    key: &Key,
-) -> Result<Option<(Etag, u64, usize)>, SiteFault> {
-    Ok(shown(site.read_row(alloc, key)?))
-}
-
-/// Writes the empty row.
-fn write(
-    alloc: Global,
-    site: &mut MemSite,
-    key: &Key,
-    expect: Option<Etag>,
-) -> Result<RowWrite, SiteFault> {
-    site.write_row_if(alloc, key, expect, &Row::empty(alloc))
 }
 
 #[test]
 fn a_row_is_written_by_its_tag(rt: HostRuntime) -> Result<(), Fail> {
     let alloc = rt.alloc();
-    let key = key(alloc)?;
+    let key = key_of(alloc, b'a')?;
+    let row = Row::empty(alloc);
     let mut site = MemSite::new(alloc, Vec::new(alloc));
-    assert!(rt; read(alloc, &mut site, &key) == Ok(None));
+    assert!(rt; shows(&site.read_row(alloc, &key)?, None));
     let tries = [
         (None, RowWrite::Written { etag: Etag(1) }),
         (None, RowWrite::Changed),
         (Some(Etag(1)), RowWrite::Written { etag: Etag(2) }),
     ];
-    for (expect, answer) in tries {
-        assert!(rt; write(alloc, &mut site, &key, expect) == Ok(answer));
+    for (expect, answer) in tries.iter() {
+        assert!(rt; site.write_row_if(alloc, &key, *expect, &row) == Ok(*answer));
     }
-    assert!(rt; read(alloc, &mut site, &key) == Ok(Some((Etag(2), 0, 0))));
+    assert!(rt; shows(&site.read_row(alloc, &key)?, Some(Etag(2))));
     Ok(())
 }
 
-/// A site that fails its first call.
-fn failing_first(alloc: Global, effect: bool) -> Result<MemSite, AllocError> {
+/// Whether a site's first write fails, and the read after it shows this tag.
+fn fails_first(alloc: Global, key: &Key, effect: bool, tag: Option<Etag>) -> Result<bool, Fail> {
     let failing = vec![in alloc; Failing { call: 1, effect }]?;
-    Ok(MemSite::new(alloc, failing))
-}
-
-/// A write that fails, and the read after it.
-fn after_failure(alloc: Global, effect: bool) -> Result<Option<(Etag, u64, usize)>, Fail> {
-    let key = key(alloc)?;
-    let mut site = failing_first(alloc, effect)?;
-    if write(alloc, &mut site, &key, None) != Err(SiteFault::Failed) {
-        return Err(Fail::from("not failed"));
-    }
-    Ok(read(alloc, &mut site, &key)?)
+    let mut site = MemSite::new(alloc, failing);
+    let failed = site.write_row_if(alloc, key, None, &Row::empty(alloc)) == Err(SiteFault::Failed);
+    Ok(failed && shows(&site.read_row(alloc, key)?, tag))
 }
 
 #[test]
 fn a_failed_write_has_its_effect_or_none(rt: HostRuntime) -> Result<(), Fail> {
-    let without = after_failure(rt.alloc(), false)?;
-    let with = after_failure(rt.alloc(), true)?;
-    assert!(rt; without == None && with == Some((Etag(1), 0, 0)));
+    let key = key_of(rt.alloc(), b'a')?;
+    assert!(rt; fails_first(rt.alloc(), &key, false, None)?);
+    assert!(rt; fails_first(rt.alloc(), &key, true, Some(Etag(1)))?);
     Ok(())
 }
 
-fn two_sites(alloc: Global) -> Result<Vec<MemSite>, AllocError> {
-    let mut sites = Vec::new(alloc);
-    sites.push(MemSite::new(alloc, Vec::new(alloc)))?;
-    sites.push(MemSite::new(alloc, Vec::new(alloc)))?;
-    Ok(sites)
-}
-
-/// A write at the second of two sites, and what each shows then.
-fn after_write_at(alloc: Global) -> Result<[Option<(Etag, u64, usize)>; 2], Fail> {
-    let key = key(alloc)?;
-    let mut sites = two_sites(alloc)?;
+/// Whether a write at the second of two sites is told its tag, and shown there alone.
+fn is_written_at_second(alloc: Global, sites: &mut Vec<MemSite>, key: &Key) -> Result<bool, Fail> {
     if sites.len() != 2 {
         return Err(Fail::from("not two sites"));
     }
-    write_at(alloc, &mut sites, 1, &key, None, &Row::empty(alloc))?;
-    let first = read_at(alloc, &mut sites, 0, &key)?;
-    let second = read_at(alloc, &mut sites, 1, &key)?;
-    Ok([shown(first), shown(second)])
+    let written = write_at(alloc, sites, 1, key, None, &Row::empty(alloc));
+    let first = read_at(alloc, sites, 0, key)?;
+    let second = read_at(alloc, sites, 1, key)?;
+    Ok(
+        written == Ok(RowWrite::Written { etag: Etag(1) })
+            && shows(&first, None)
+            && shows(&second, Some(Etag(1))),
+    )
 }
 
 #[test]
 fn sites_by_their_places(rt: HostRuntime) -> Result<(), Fail> {
-    let reads = after_write_at(rt.alloc())?;
-    assert!(rt; reads == [None, Some((Etag(1), 0, 0))]);
+    let alloc = rt.alloc();
+    let key = key_of(alloc, b'a')?;
+    let mut sites = Vec::new(alloc);
+    sites.push(MemSite::new(alloc, Vec::new(alloc)))?;
+    sites.push(MemSite::new(alloc, Vec::new(alloc)))?;
+    assert!(rt; is_written_at_second(alloc, &mut sites, &key)?);
     Ok(())
 }
 
