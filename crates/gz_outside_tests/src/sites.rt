@@ -1,6 +1,6 @@
 //! Sites, shelves and sinks in memory.
 use crate::records::key_of;
-use gz_core::{Etag, Key, Row, Version};
+use gz_core::{Etag, Key, Row};
 use gz_site::{
     Failing, MemShelf, MemSink, MemSite, RowRead, RowWrite, Shelf, ShelfError, Sink, SinkError,
     Site, SiteFault, read_at, write_all, write_at,
@@ -10,31 +10,48 @@ use std::collections::BTreeMap;
 use std::test::Fail;
 
 /// Whether a read shows the empty row under this tag, none standing for no row.
-fn shows(read: &RowRead, expect: Option<Etag>) -> bool {
-    match read {
-        RowRead::Row { etag, row } => {
-            Some(*etag) == expect && row.floor() == Version::none() && row.columns().is_empty()
+fn shows(read: &RowRead, tag: Option<Etag>) -> bool {
+    match (read, tag) {
+        (RowRead::Row { etag, row }, Some(tag)) => {
+            etag.number() == tag.number() && row.floor().number() == 0 && row.columns().is_empty()
         }
-        RowRead::NoRow => expect.is_none(),
+        (RowRead::NoRow, None) => true,
+        _ => false,
     }
+}
+
+/// Writes the empty row.
+fn write(
+    alloc: Global,
+    site: &mut MemSite,
+    key: &Key,
+    expect: Option<Etag>,
+) -> Result<RowWrite, SiteFault> {
+    site.write_row_if(alloc, key, expect, &Row::empty(alloc))
+}
+
+/// Whether an empty site shows no row, then gives tags 1 and 2 to the writes that name the stored tag, refuses the one
+/// between them that does not, and shows the second.
+fn is_written_by_its_tag(alloc: Global, site: &mut MemSite, key: &Key) -> Result<bool, SiteFault> {
+    let before = shows(&site.read_row(alloc, key)?, None);
+    let first = write(alloc, site, key, None);
+    let between = write(alloc, site, key, None);
+    let second = write(alloc, site, key, Some(Etag(1)));
+    let after = shows(&site.read_row(alloc, key)?, Some(Etag(2)));
+    Ok(
+        before
+            && first == Ok(RowWrite::Written { etag: Etag(1) })
+            && between == Ok(RowWrite::Changed)
+            && second == Ok(RowWrite::Written { etag: Etag(2) })
+            && after,
+    )
 }
 
 #[test]
 fn a_row_is_written_by_its_tag(rt: HostRuntime) -> Result<(), Fail> {
-    let alloc = rt.alloc();
-    let key = key_of(alloc, b'a')?;
-    let row = Row::empty(alloc);
-    let mut site = MemSite::new(alloc, Vec::new(alloc));
-    assert!(rt; shows(&site.read_row(alloc, &key)?, None));
-    let tries = [
-        (None, RowWrite::Written { etag: Etag(1) }),
-        (None, RowWrite::Changed),
-        (Some(Etag(1)), RowWrite::Written { etag: Etag(2) }),
-    ];
-    for (expect, answer) in tries.iter() {
-        assert!(rt; site.write_row_if(alloc, &key, *expect, &row) == Ok(*answer));
-    }
-    assert!(rt; shows(&site.read_row(alloc, &key)?, Some(Etag(2))));
+    let key = key_of(rt.alloc(), b'a')?;
+    let mut site = MemSite::new(rt.alloc(), Vec::new(rt.alloc()));
+    assert!(rt; is_written_by_its_tag(rt.alloc(), &mut site, &key)?);
     Ok(())
 }
 
@@ -42,7 +59,7 @@ fn a_row_is_written_by_its_tag(rt: HostRuntime) -> Result<(), Fail> {
 fn fails_first(alloc: Global, key: &Key, effect: bool, tag: Option<Etag>) -> Result<bool, Fail> {
     let failing = vec![in alloc; Failing { call: 1, effect }]?;
     let mut site = MemSite::new(alloc, failing);
-    let failed = site.write_row_if(alloc, key, None, &Row::empty(alloc)) == Err(SiteFault::Failed);
+    let failed = write(alloc, &mut site, key, None) == Err(SiteFault::Failed);
     Ok(failed && shows(&site.read_row(alloc, key)?, tag))
 }
 
@@ -69,14 +86,17 @@ fn is_written_at_second(alloc: Global, sites: &mut Vec<MemSite>, key: &Key) -> R
     )
 }
 
+fn two_sites(alloc: Global) -> Result<Vec<MemSite>, AllocError> {
+    let first = MemSite::new(alloc, Vec::new(alloc));
+    let second = MemSite::new(alloc, Vec::new(alloc));
+    Ok(vec![in alloc; first, second]?)
+}
+
 #[test]
 fn sites_by_their_places(rt: HostRuntime) -> Result<(), Fail> {
-    let alloc = rt.alloc();
-    let key = key_of(alloc, b'a')?;
-    let mut sites = Vec::new(alloc);
-    sites.push(MemSite::new(alloc, Vec::new(alloc)))?;
-    sites.push(MemSite::new(alloc, Vec::new(alloc)))?;
-    assert!(rt; is_written_at_second(alloc, &mut sites, &key)?);
+    let key = key_of(rt.alloc(), b'a')?;
+    let mut sites = two_sites(rt.alloc())?;
+    assert!(rt; is_written_at_second(rt.alloc(), &mut sites, &key)?);
     Ok(())
 }
 
