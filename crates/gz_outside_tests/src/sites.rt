@@ -20,6 +20,16 @@ fn shows(read: &RowRead, tag: Option<Etag>) -> bool {
     }
 }
 
+/// Whether a site is read, and shows the empty row under this tag or no row.
+fn reads(
+    alloc: Global,
+    site: &mut MemSite,
+    key: &Key,
+    tag: Option<Etag>,
+) -> Result<bool, SiteFault> {
+    Ok(shows(&site.read_row(alloc, key)?, tag))
+}
+
 /// Writes the empty row.
 fn write(
     alloc: Global,
@@ -33,11 +43,11 @@ fn write(
 /// Whether an empty site shows no row, then gives tags 1 and 2 to the writes that name the stored tag, refuses the one
 /// between them that does not, and shows the second.
 fn is_written_by_its_tag(alloc: Global, site: &mut MemSite, key: &Key) -> Result<bool, SiteFault> {
-    let before = shows(&site.read_row(alloc, key)?, None);
+    let before = reads(alloc, site, key, None)?;
     let first = write(alloc, site, key, None);
     let between = write(alloc, site, key, None);
     let second = write(alloc, site, key, Some(Etag(1)));
-    let after = shows(&site.read_row(alloc, key)?, Some(Etag(2)));
+    let after = reads(alloc, site, key, Some(Etag(2)))?;
     Ok(
         before
             && first == Ok(RowWrite::Written { etag: Etag(1) })
@@ -60,7 +70,7 @@ fn fails_first(alloc: Global, key: &Key, effect: bool, tag: Option<Etag>) -> Res
     let failing = vec![in alloc; Failing { call: 1, effect }]?;
     let mut site = MemSite::new(alloc, failing);
     let failed = write(alloc, &mut site, key, None) == Err(SiteFault::Failed);
-    Ok(failed && shows(&site.read_row(alloc, key)?, tag))
+    Ok(failed && reads(alloc, &mut site, key, tag)?)
 }
 
 #[test]
@@ -87,9 +97,11 @@ fn is_written_at_second(alloc: Global, sites: &mut Vec<MemSite>, key: &Key) -> R
 }
 
 fn two_sites(alloc: Global) -> Result<Vec<MemSite>, AllocError> {
-    let first = MemSite::new(alloc, Vec::new(alloc));
-    let second = MemSite::new(alloc, Vec::new(alloc));
-    Ok(vec![in alloc; first, second]?)
+    let mut sites = Vec::new(alloc);
+    for _ in 0..2 {
+        sites.push(MemSite::new(alloc, Vec::new(alloc)))?;
+    }
+    Ok(sites)
 }
 
 #[test]
