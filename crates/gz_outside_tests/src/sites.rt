@@ -116,8 +116,8 @@ fn sites_by_their_places(rt: HostRuntime) -> Result<(), Fail> {
 fn shelf(alloc: Global) -> Result<MemShelf, AllocError> {
     let mut files = BTreeMap::new(alloc);
     let name = String::from_str(alloc, "file")?;
-    files.insert(name, vec![in alloc; 1, 2, 3]?)?;
-    Ok(MemShelf::new(files, vec![in alloc; 4]?))
+    files.insert(name, Vec::from_slice(alloc, &[1, 2, 3])?)?;
+    Ok(MemShelf::new(files, Vec::from_slice(alloc, &[4])?))
 }
 
 #[test]
@@ -139,8 +139,7 @@ fn a_shelf_gives_its_files(rt: HostRuntime) -> Result<(), Fail> {
 
 /// A sink that fails its third call.
 fn sink(alloc: Global) -> Result<MemSink, AllocError> {
-    let failing = vec![in alloc; 3]?;
-    Ok(MemSink::new(alloc, failing))
+    Ok(MemSink::new(alloc, Vec::from_slice(alloc, &[3])?))
 }
 
 #[test]
