@@ -29,6 +29,19 @@ fn judged(alloc: Global, briefs: &[Brief]) -> Result<Judged, Fail> {
 
 const LEGAL: Judged = (0, 0, 0);
 
+/// A history, and how it is judged.
+type Case = (&'static [Brief], Judged);
+
+/// The place of the first history that is judged otherwise.
+fn judged_otherwise(alloc: Global, cases: &[Case]) -> Result<Option<usize>, Fail> {
+    for (place, (briefs, told)) in cases.iter().enumerate() {
+        if judged(alloc, briefs)? != *told {
+            return Ok(Some(place));
+        }
+    }
+    Ok(None)
+}
+
 const PUT: Brief = (1, b'a', Put(1), 2, 14, Placed(1));
 
 const DELETE: Brief = (2, b'a', Delete, 15, 27, Placed(2));
@@ -69,248 +82,243 @@ fn histories_that_are_legal(rt: HostRuntime) -> Result<(), Fail> {
     Ok(())
 }
 
+const AGREEMENT_AND_EFFECT: [Case; 6] = [
+    // two writes at one version, by their own answers or by what is read
+    (&[PUT, (2, b'a', Put(2), 3, 15, Placed(1))], (1, 1, 2)),
+    (&[PUT, (2, b'a', Delete, 3, 15, Placed(1))], (1, 1, 2)),
+    (
+        &[
+            PUT,
+            (2, b'a', Delete, 3, 0, Open),
+            (3, b'a', Get, 4, 10, Gone(1, 2)),
+        ],
+        (1, 1, 3),
+    ),
+    // one write at two versions
+    (&[PUT, (2, b'a', Get, 3, 9, Read(2, 1, 1))], (2, 1, 2)),
+    (
+        &[
+            (1, b'a', Delete, 2, 14, Placed(1)),
+            (2, b'a', Get, 3, 9, Gone(2, 1)),
+        ],
+        (2, 1, 2),
+    ),
+    (
+        &[
+            (1, b'a', Delete, 2, 0, Open),
+            (2, b'a', Get, 3, 20, Gone(1, 1)),
+            (3, b'a', Get, 4, 19, Gone(2, 1)),
+        ],
+        (2, 2, 3),
+    ),
+];
+
 #[test]
 fn histories_that_break_agreement_or_effect_at_most_once(rt: HostRuntime) -> Result<(), Fail> {
-    let cases: [(&[Brief], Judged); 6] = [
-        // two writes at one version, by their own answers or by what is read
-        (&[PUT, (2, b'a', Put(2), 3, 15, Placed(1))], (1, 1, 2)),
-        (&[PUT, (2, b'a', Delete, 3, 15, Placed(1))], (1, 1, 2)),
-        (
-            &[
-                PUT,
-                (2, b'a', Delete, 3, 0, Open),
-                (3, b'a', Get, 4, 10, Gone(1, 2)),
-            ],
-            (1, 1, 3),
-        ),
-        // one write at two versions
-        (&[PUT, (2, b'a', Get, 3, 9, Read(2, 1, 1))], (2, 1, 2)),
-        (
-            &[
-                (1, b'a', Delete, 2, 14, Placed(1)),
-                (2, b'a', Get, 3, 9, Gone(2, 1)),
-            ],
-            (2, 1, 2),
-        ),
-        (
-            &[
-                (1, b'a', Delete, 2, 0, Open),
-                (2, b'a', Get, 3, 20, Gone(1, 1)),
-                (3, b'a', Get, 4, 19, Gone(2, 1)),
-            ],
-            (2, 2, 3),
-        ),
-    ];
-    for (briefs, told) in cases {
-        assert_eq!(rt; judged(rt.alloc(), briefs)?, told);
-    }
+    assert_eq!(rt; judged_otherwise(rt.alloc(), &AGREEMENT_AND_EFFECT)?, None);
     Ok(())
 }
+
+const ORDER: [Case; 7] = [
+    (&[PUT, (2, b'a', Get, 15, 21, Absent)], (3, 1, 2)),
+    // a read of what a delete took away
+    (
+        &[PUT, DELETE, (3, b'a', Get, 28, 34, Read(1, 1, 1))],
+        (3, 2, 3),
+    ),
+    (
+        &[
+            (1, b'a', Delete, 2, 14, Placed(1)),
+            (2, b'a', Get, 15, 19, Absent),
+        ],
+        (3, 1, 2),
+    ),
+    // a write below one that had ended
+    (
+        &[
+            (1, b'a', Put(1), 2, 14, Placed(2)),
+            (2, b'a', Delete, 15, 27, Placed(1)),
+        ],
+        (3, 1, 2),
+    ),
+    // a write at what was read before it began
+    (
+        &[
+            (1, b'a', Get, 2, 6, Absent),
+            (2, b'a', Put(2), 7, 19, Placed(0)),
+        ],
+        (3, 1, 2),
+    ),
+    (
+        &[
+            (1, b'a', Get, 2, 6, Absent),
+            (2, b'a', Delete, 7, 19, Placed(0)),
+        ],
+        (3, 1, 2),
+    ),
+    (
+        &[
+            (1, b'a', Get, 2, 8, Gone(1, 2)),
+            (2, b'a', Delete, 9, 20, Placed(1)),
+        ],
+        (3, 1, 2),
+    ),
+];
 
 #[test]
 fn histories_that_break_the_order(rt: HostRuntime) -> Result<(), Fail> {
-    let cases: [(&[Brief], Judged); 7] = [
-        (&[PUT, (2, b'a', Get, 15, 21, Absent)], (3, 1, 2)),
-        // a read of what a delete took away
-        (
-            &[PUT, DELETE, (3, b'a', Get, 28, 34, Read(1, 1, 1))],
-            (3, 2, 3),
-        ),
-        (
-            &[
-                (1, b'a', Delete, 2, 14, Placed(1)),
-                (2, b'a', Get, 15, 19, Absent),
-            ],
-            (3, 1, 2),
-        ),
-        // a write below one that had ended
-        (
-            &[
-                (1, b'a', Put(1), 2, 14, Placed(2)),
-                (2, b'a', Delete, 15, 27, Placed(1)),
-            ],
-            (3, 1, 2),
-        ),
-        // a write at what was read before it began
-        (
-            &[
-                (1, b'a', Get, 2, 6, Absent),
-                (2, b'a', Put(2), 7, 19, Placed(0)),
-            ],
-            (3, 1, 2),
-        ),
-        (
-            &[
-                (1, b'a', Get, 2, 6, Absent),
-                (2, b'a', Delete, 7, 19, Placed(0)),
-            ],
-            (3, 1, 2),
-        ),
-        (
-            &[
-                (1, b'a', Get, 2, 8, Gone(1, 2)),
-                (2, b'a', Delete, 9, 20, Placed(1)),
-            ],
-            (3, 1, 2),
-        ),
-    ];
-    for (briefs, told) in cases {
-        assert_eq!(rt; judged(rt.alloc(), briefs)?, told);
-    }
+    assert_eq!(rt; judged_otherwise(rt.alloc(), &ORDER)?, None);
     Ok(())
 }
+
+const SOURCES_AND_VALUES: [Case; 11] = [
+    // no such call, the read itself, a call of another object
+    (&[(1, b'a', Get, 2, 8, Read(1, 9, 1))], (4, 1, 9)),
+    (&[(1, b'a', Get, 2, 8, Gone(1, 9))], (4, 1, 9)),
+    (&[(1, b'a', Get, 2, 8, Read(1, 1, 1))], (4, 1, 1)),
+    (&[PUT, (2, b'b', Get, 15, 21, Read(1, 1, 1))], (4, 2, 1)),
+    // bytes of a delete, and a put by which the object is gone
+    (
+        &[PUT, DELETE, (3, b'a', Get, 28, 34, Read(2, 2, 1))],
+        (4, 3, 2),
+    ),
+    (&[PUT, (2, b'a', Get, 15, 21, Gone(1, 1))], (4, 2, 1)),
+    // a write that began after the read had ended
+    (
+        &[
+            (1, b'a', Get, 2, 8, Read(2, 2, 2)),
+            (2, b'a', Put(2), 9, 0, Open),
+        ],
+        (4, 1, 2),
+    ),
+    (
+        &[
+            (1, b'a', Get, 2, 8, Gone(2, 2)),
+            (2, b'a', Delete, 9, 0, Open),
+        ],
+        (4, 1, 2),
+    ),
+    // a write that took no effect
+    (
+        &[
+            (1, b'a', Put(1), 2, 8, NoQuorum),
+            (2, b'a', Get, 9, 15, Read(1, 1, 1)),
+        ],
+        (4, 2, 1),
+    ),
+    (
+        &[
+            (1, b'a', Delete, 2, 8, Contended),
+            (2, b'a', Get, 9, 15, Gone(1, 1)),
+        ],
+        (4, 2, 1),
+    ),
+    (&[PUT, (2, b'a', Get, 15, 21, Read(1, 1, 3))], (5, 2, 1)),
+];
 
 #[test]
 fn histories_that_break_the_sources_or_the_values(rt: HostRuntime) -> Result<(), Fail> {
-    let cases: [(&[Brief], Judged); 11] = [
-        // no such call, the read itself, a call of another object
-        (&[(1, b'a', Get, 2, 8, Read(1, 9, 1))], (4, 1, 9)),
-        (&[(1, b'a', Get, 2, 8, Gone(1, 9))], (4, 1, 9)),
-        (&[(1, b'a', Get, 2, 8, Read(1, 1, 1))], (4, 1, 1)),
-        (&[PUT, (2, b'b', Get, 15, 21, Read(1, 1, 1))], (4, 2, 1)),
-        // bytes of a delete, and a put by which the object is gone
-        (
-            &[PUT, DELETE, (3, b'a', Get, 28, 34, Read(2, 2, 1))],
-            (4, 3, 2),
-        ),
-        (&[PUT, (2, b'a', Get, 15, 21, Gone(1, 1))], (4, 2, 1)),
-        // a write that began after the read had ended
-        (
-            &[
-                (1, b'a', Get, 2, 8, Read(2, 2, 2)),
-                (2, b'a', Put(2), 9, 0, Open),
-            ],
-            (4, 1, 2),
-        ),
-        (
-            &[
-                (1, b'a', Get, 2, 8, Gone(2, 2)),
-                (2, b'a', Delete, 9, 0, Open),
-            ],
-            (4, 1, 2),
-        ),
-        // a write that took no effect
-        (
-            &[
-                (1, b'a', Put(1), 2, 8, NoQuorum),
-                (2, b'a', Get, 9, 15, Read(1, 1, 1)),
-            ],
-            (4, 2, 1),
-        ),
-        (
-            &[
-                (1, b'a', Delete, 2, 8, Contended),
-                (2, b'a', Get, 9, 15, Gone(1, 1)),
-            ],
-            (4, 2, 1),
-        ),
-        (&[PUT, (2, b'a', Get, 15, 21, Read(1, 1, 3))], (5, 2, 1)),
-    ];
-    for (briefs, told) in cases {
-        assert_eq!(rt; judged(rt.alloc(), briefs)?, told);
-    }
+    assert_eq!(rt; judged_otherwise(rt.alloc(), &SOURCES_AND_VALUES)?, None);
     Ok(())
 }
+
+const FIRST_RULES: [Case; 4] = [
+    // agreement, though an earlier call has a write at two versions
+    (
+        &[
+            (1, b'a', Put(1), 2, 40, Placed(1)),
+            (2, b'a', Get, 3, 39, Read(2, 1, 1)),
+            (3, b'a', Put(3), 4, 38, Placed(3)),
+            (4, b'a', Delete, 5, 37, Placed(3)),
+        ],
+        (1, 3, 4),
+    ),
+    // effect at most once, though earlier calls break the order
+    (
+        &[
+            PUT,
+            (2, b'a', Get, 15, 19, Absent),
+            (3, b'a', Delete, 20, 40, Placed(2)),
+            (4, b'a', Get, 21, 39, Gone(3, 3)),
+        ],
+        (2, 3, 4),
+    ),
+    // the order, though an earlier call reads from nowhere
+    (
+        &[
+            (1, b'a', Get, 2, 6, Gone(1, 9)),
+            (2, b'a', Delete, 7, 19, Placed(2)),
+            (3, b'a', Get, 20, 24, Absent),
+        ],
+        (3, 1, 3),
+    ),
+    // the sources, though an earlier call returns other bytes
+    (
+        &[
+            PUT,
+            (2, b'a', Get, 15, 21, Read(1, 1, 3)),
+            (3, b'a', Get, 22, 28, Gone(2, 9)),
+        ],
+        (4, 3, 9),
+    ),
+];
 
 #[test]
 fn the_first_rule_is_told(rt: HostRuntime) -> Result<(), Fail> {
-    let cases: [(&[Brief], Judged); 4] = [
-        // agreement, though an earlier call has a write at two versions
-        (
-            &[
-                (1, b'a', Put(1), 2, 40, Placed(1)),
-                (2, b'a', Get, 3, 39, Read(2, 1, 1)),
-                (3, b'a', Put(3), 4, 38, Placed(3)),
-                (4, b'a', Delete, 5, 37, Placed(3)),
-            ],
-            (1, 3, 4),
-        ),
-        // effect at most once, though earlier calls break the order
-        (
-            &[
-                PUT,
-                (2, b'a', Get, 15, 19, Absent),
-                (3, b'a', Delete, 20, 40, Placed(2)),
-                (4, b'a', Get, 21, 39, Gone(3, 3)),
-            ],
-            (2, 3, 4),
-        ),
-        // the order, though an earlier call reads from nowhere
-        (
-            &[
-                (1, b'a', Get, 2, 6, Gone(1, 9)),
-                (2, b'a', Delete, 7, 19, Placed(2)),
-                (3, b'a', Get, 20, 24, Absent),
-            ],
-            (3, 1, 3),
-        ),
-        // the sources, though an earlier call returns other bytes
-        (
-            &[
-                PUT,
-                (2, b'a', Get, 15, 21, Read(1, 1, 3)),
-                (3, b'a', Get, 22, 28, Gone(2, 9)),
-            ],
-            (4, 3, 9),
-        ),
-    ];
-    for (briefs, told) in cases {
-        assert_eq!(rt; judged(rt.alloc(), briefs)?, told);
-    }
+    assert_eq!(rt; judged_otherwise(rt.alloc(), &FIRST_RULES)?, None);
     Ok(())
 }
 
+const FIRST_CALLS: [Case; 5] = [
+    // the first call, then the first one with it
+    (
+        &[
+            PUT,
+            (2, b'a', Get, 15, 19, Absent),
+            (3, b'a', Get, 20, 24, Absent),
+        ],
+        (3, 1, 2),
+    ),
+    (
+        &[
+            (1, b'a', Get, 2, 6, Absent),
+            (2, b'a', Delete, 7, 19, Placed(1)),
+            (3, b'a', Get, 20, 26, Gone(1, 2)),
+            (4, b'a', Get, 27, 31, Absent),
+            (5, b'a', Get, 32, 36, Absent),
+        ],
+        (3, 2, 4),
+    ),
+    (
+        &[
+            PUT,
+            (2, b'a', Put(2), 3, 15, Placed(2)),
+            (3, b'a', Put(3), 4, 16, Placed(2)),
+            (4, b'a', Delete, 5, 17, Placed(1)),
+        ],
+        (1, 1, 4),
+    ),
+    // the first read
+    (
+        &[
+            PUT,
+            (2, b'a', Get, 15, 21, Gone(1, 1)),
+            (3, b'a', Get, 22, 28, Read(2, 9, 1)),
+        ],
+        (4, 2, 1),
+    ),
+    (
+        &[
+            PUT,
+            (2, b'a', Get, 15, 21, Read(1, 1, 3)),
+            (3, b'a', Get, 22, 28, Read(1, 1, 4)),
+        ],
+        (5, 2, 1),
+    ),
+];
+
 #[test]
 fn the_first_calls_are_told(rt: HostRuntime) -> Result<(), Fail> {
-    let cases: [(&[Brief], Judged); 5] = [
-        // the first call, then the first one with it
-        (
-            &[
-                PUT,
-                (2, b'a', Get, 15, 19, Absent),
-                (3, b'a', Get, 20, 24, Absent),
-            ],
-            (3, 1, 2),
-        ),
-        (
-            &[
-                (1, b'a', Get, 2, 6, Absent),
-                (2, b'a', Delete, 7, 19, Placed(1)),
-                (3, b'a', Get, 20, 26, Gone(1, 2)),
-                (4, b'a', Get, 27, 31, Absent),
-                (5, b'a', Get, 32, 36, Absent),
-            ],
-            (3, 2, 4),
-        ),
-        (
-            &[
-                PUT,
-                (2, b'a', Put(2), 3, 15, Placed(2)),
-                (3, b'a', Put(3), 4, 16, Placed(2)),
-                (4, b'a', Delete, 5, 17, Placed(1)),
-            ],
-            (1, 1, 4),
-        ),
-        // the first read
-        (
-            &[
-                PUT,
-                (2, b'a', Get, 15, 21, Gone(1, 1)),
-                (3, b'a', Get, 22, 28, Read(2, 9, 1)),
-            ],
-            (4, 2, 1),
-        ),
-        (
-            &[
-                PUT,
-                (2, b'a', Get, 15, 21, Read(1, 1, 3)),
-                (3, b'a', Get, 22, 28, Read(1, 1, 4)),
-            ],
-            (5, 2, 1),
-        ),
-    ];
-    for (briefs, told) in cases {
-        assert_eq!(rt; judged(rt.alloc(), briefs)?, told);
-    }
+    assert_eq!(rt; judged_otherwise(rt.alloc(), &FIRST_CALLS)?, None);
     Ok(())
 }

@@ -99,15 +99,20 @@ fn call_of(alloc: Global, key: Key, asked: Asked) -> Result<Call, Fail> {
     })
 }
 
+/// The key of one byte.
+pub fn key_of(alloc: Global, byte: u8) -> Result<Key, Fail> {
+    let Some(key) = Key::new(Vec::from_slice(alloc, &[byte])?) else {
+        return Err(Fail::from("no key"));
+    };
+    Ok(key)
+}
+
 /// The record of a call, the how-many-eth of its session.
 pub fn record_of(alloc: Global, seq: u32, brief: Brief) -> Result<CallRec, Fail> {
     let (session, key, asked, begin, end, told) = brief;
-    let Some(key) = Key::new(Vec::from_slice(alloc, &[key])?) else {
-        return Err(Fail::from("no key"));
-    };
     Ok(CallRec {
         name: name_of(session, seq)?,
-        call: call_of(alloc, key, asked)?,
+        call: call_of(alloc, key_of(alloc, key)?, asked)?,
         begin,
         end: if let Told::Open = told {
             None

@@ -1,4 +1,5 @@
 //! Sites, shelves and sinks in memory.
+use crate::records::key_of;
 use gz_core::{Etag, Key, Row};
 use gz_site::{
     Failing, MemShelf, MemSink, MemSite, RowRead, RowWrite, Shelf, ShelfError, Sink, SinkError,
@@ -8,27 +9,25 @@ use std::alloc::{AllocError, Global};
 use std::collections::BTreeMap;
 use std::test::Fail;
 
-fn key(alloc: Global) -> Result<Key, Fail> {
-    match Key::new(Vec::from_slice(alloc, b"a")?) {
-        Some(key) => Ok(key),
-        None => Err(Fail::from("no key")),
+/// Whether a read shows the empty row under this tag, none standing for no row.
+fn shows(read: &RowRead, tag: Option<Etag>) -> bool {
+    match (read, tag) {
+        (RowRead::Row { etag, row }, Some(tag)) => {
+            etag.number() == tag.number() && row.floor().number() == 0 && row.columns().is_empty()
+        }
+        (RowRead::NoRow, None) => true,
+        _ => false,
     }
 }
 
-/// What a read shows: the tag, the floor and the number of columns.
-fn shown(read: RowRead) -> Option<(Etag, u64, usize)> {
-    match read {
-        RowRead::Row { etag, row } => Some((etag, row.floor().number(), row.columns().len())),
-        RowRead::NoRow => None,
-    }
-}
-
-fn read(
+/// Whether a site is read, and shows the empty row under this tag or no row.
+fn reads(
     alloc: Global,
     site: &mut MemSite,
     key: &Key,
-) -> Result<Option<(Etag, u64, usize)>, SiteFault> {
-    Ok(shown(site.read_row(alloc, key)?))
+    tag: Option<Etag>,
+) -> Result<bool, SiteFault> {
+    Ok(shows(&site.read_row(alloc, key)?, tag))
 }
 
 /// Writes the empty row.
@@ -41,72 +40,75 @@ fn write(
     site.write_row_if(alloc, key, expect, &Row::empty(alloc))
 }
 
+/// Whether an empty site shows no row, then gives tags 1 and 2 to the writes that name the stored tag, refuses the one
+/// between them that does not, and shows the second.
+fn is_written_by_its_tag(alloc: Global, site: &mut MemSite, key: &Key) -> Result<bool, SiteFault> {
+    let before = reads(alloc, site, key, None)?;
+    let first = write(alloc, site, key, None);
+    let between = write(alloc, site, key, None);
+    let second = write(alloc, site, key, Some(Etag(1)));
+    let after = reads(alloc, site, key, Some(Etag(2)))?;
+    Ok(
+        before
+            && first == Ok(RowWrite::Written { etag: Etag(1) })
+            && between == Ok(RowWrite::Changed)
+            && second == Ok(RowWrite::Written { etag: Etag(2) })
+            && after,
+    )
+}
+
 #[test]
 fn a_row_is_written_by_its_tag(rt: HostRuntime) -> Result<(), Fail> {
-    let alloc = rt.alloc();
-    let key = key(alloc)?;
-    let mut site = MemSite::new(alloc, Vec::new(alloc));
-    assert!(rt; read(alloc, &mut site, &key) == Ok(None));
-    let tries = [
-        (None, RowWrite::Written { etag: Etag(1) }),
-        (None, RowWrite::Changed),
-        (Some(Etag(1)), RowWrite::Written { etag: Etag(2) }),
-    ];
-    for (expect, answer) in tries {
-        assert!(rt; write(alloc, &mut site, &key, expect) == Ok(answer));
-    }
-    assert!(rt; read(alloc, &mut site, &key) == Ok(Some((Etag(2), 0, 0))));
+    let key = key_of(rt.alloc(), b'a')?;
+    let mut site = MemSite::new(rt.alloc(), Vec::new(rt.alloc()));
+    assert!(rt; is_written_by_its_tag(rt.alloc(), &mut site, &key)?);
     Ok(())
 }
 
-/// A site that fails its first call.
-fn failing_first(alloc: Global, effect: bool) -> Result<MemSite, AllocError> {
+/// Whether a site's first write fails, and the read after it shows this tag.
+fn fails_first(alloc: Global, key: &Key, effect: bool, tag: Option<Etag>) -> Result<bool, Fail> {
     let failing = vec![in alloc; Failing { call: 1, effect }]?;
-    Ok(MemSite::new(alloc, failing))
-}
-
-/// A write that fails, and the read after it.
-fn after_failure(alloc: Global, effect: bool) -> Result<Option<(Etag, u64, usize)>, Fail> {
-    let key = key(alloc)?;
-    let mut site = failing_first(alloc, effect)?;
-    if write(alloc, &mut site, &key, None) != Err(SiteFault::Failed) {
-        return Err(Fail::from("not failed"));
-    }
-    Ok(read(alloc, &mut site, &key)?)
+    let mut site = MemSite::new(alloc, failing);
+    let failed = write(alloc, &mut site, key, None) == Err(SiteFault::Failed);
+    Ok(failed && reads(alloc, &mut site, key, tag)?)
 }
 
 #[test]
 fn a_failed_write_has_its_effect_or_none(rt: HostRuntime) -> Result<(), Fail> {
-    let without = after_failure(rt.alloc(), false)?;
-    let with = after_failure(rt.alloc(), true)?;
-    assert!(rt; without == None && with == Some((Etag(1), 0, 0)));
+    let key = key_of(rt.alloc(), b'a')?;
+    assert!(rt; fails_first(rt.alloc(), &key, false, None)?);
+    assert!(rt; fails_first(rt.alloc(), &key, true, Some(Etag(1)))?);
     Ok(())
+}
+
+/// Whether a write at the second of two sites is told its tag, and shown there alone.
+fn is_written_at_second(alloc: Global, sites: &mut Vec<MemSite>, key: &Key) -> Result<bool, Fail> {
+    if sites.len() != 2 {
+        return Err(Fail::from("not two sites"));
+    }
+    let written = write_at(alloc, sites, 1, key, None, &Row::empty(alloc));
+    let first = read_at(alloc, sites, 0, key)?;
+    let second = read_at(alloc, sites, 1, key)?;
+    Ok(
+        written == Ok(RowWrite::Written { etag: Etag(1) })
+            && shows(&first, None)
+            && shows(&second, Some(Etag(1))),
+    )
 }
 
 fn two_sites(alloc: Global) -> Result<Vec<MemSite>, AllocError> {
     let mut sites = Vec::new(alloc);
-    sites.push(MemSite::new(alloc, Vec::new(alloc)))?;
-    sites.push(MemSite::new(alloc, Vec::new(alloc)))?;
-    Ok(sites)
-}
-
-/// A write at the second of two sites, and what each shows then.
-fn after_write_at(alloc: Global) -> Result<[Option<(Etag, u64, usize)>; 2], Fail> {
-    let key = key(alloc)?;
-    let mut sites = two_sites(alloc)?;
-    if sites.len() != 2 {
-        return Err(Fail::from("not two sites"));
+    for _ in 0..2 {
+        sites.push(MemSite::new(alloc, Vec::new(alloc)))?;
     }
-    write_at(alloc, &mut sites, 1, &key, None, &Row::empty(alloc))?;
-    let first = read_at(alloc, &mut sites, 0, &key)?;
-    let second = read_at(alloc, &mut sites, 1, &key)?;
-    Ok([shown(first), shown(second)])
+    Ok(sites)
 }
 
 #[test]
 fn sites_by_their_places(rt: HostRuntime) -> Result<(), Fail> {
-    let reads = after_write_at(rt.alloc())?;
-    assert!(rt; reads == [None, Some((Etag(1), 0, 0))]);
+    let key = key_of(rt.alloc(), b'a')?;
+    let mut sites = two_sites(rt.alloc())?;
+    assert!(rt; is_written_at_second(rt.alloc(), &mut sites, &key)?);
     Ok(())
 }
 
@@ -114,8 +116,8 @@ fn sites_by_their_places(rt: HostRuntime) -> Result<(), Fail> {
 fn shelf(alloc: Global) -> Result<MemShelf, AllocError> {
     let mut files = BTreeMap::new(alloc);
     let name = String::from_str(alloc, "file")?;
-    files.insert(name, vec![in alloc; 1, 2, 3]?)?;
-    Ok(MemShelf::new(files, vec![in alloc; 4]?))
+    files.insert(name, Vec::from_slice(alloc, &[1, 2, 3])?)?;
+    Ok(MemShelf::new(files, Vec::from_slice(alloc, &[4])?))
 }
 
 #[test]
@@ -137,8 +139,7 @@ fn a_shelf_gives_its_files(rt: HostRuntime) -> Result<(), Fail> {
 
 /// A sink that fails its third call.
 fn sink(alloc: Global) -> Result<MemSink, AllocError> {
-    let failing = vec![in alloc; 3]?;
-    Ok(MemSink::new(alloc, failing))
+    Ok(MemSink::new(alloc, Vec::from_slice(alloc, &[3])?))
 }
 
 #[test]
