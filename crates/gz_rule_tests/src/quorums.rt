@@ -126,8 +126,7 @@ fn casts_of(alloc: Global, key: &Key, votes: &[Option<Vote>]) -> Result<Vec<Cast
 fn values_chosen(rt: HostRuntime) -> Result<(), Fail> {
     let key = key_of(rt.alloc(), b"a")?;
     let other = key_of(rt.alloc(), b"b")?;
-    let table = CHOSEN;
-    for (votes, wanted) in table.as_slice() {
+    for (votes, wanted) in CHOSEN.as_slice() {
         let casts = casts_of(rt.alloc(), &key, votes.as_slice())?;
         let told = [
             chosen(&Config::DEFAULT, casts.as_slice(), &key, FIRST),
