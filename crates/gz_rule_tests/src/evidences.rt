@@ -82,13 +82,22 @@ const SHOWN: [([Option<Named>; 5], Option<SiteId>, Version); 5] = [
     ),
 ];
 
+/// The site that shows the first version's value to be chosen by these rows, and the greatest version shown.
+fn told(alloc: Global, steps: &[Option<Named>]) -> Result<(Option<SiteId>, Version), Fail> {
+    let rows = rows_of(alloc, steps)?;
+    if rows.len() != 5 {
+        return Err(Fail::from("not a row for each site"));
+    }
+    Ok((
+        evidence(&FIVE, rows.as_slice(), FIRST),
+        highest(rows.as_slice()),
+    ))
+}
+
 #[test]
 fn evidence_is_at_the_lowest_site(rt: HostRuntime) -> Result<(), Fail> {
     for (steps, site, top) in SHOWN.as_slice() {
-        let rows = rows_of(rt.alloc(), steps.as_slice())?;
-        assert!(rt; rows.len() == 5);
-        let told = evidence(&FIVE, rows.as_slice(), FIRST);
-        assert_eq!(rt; (told, highest(rows.as_slice())), (*site, *top));
+        assert_eq!(rt; told(rt.alloc(), steps.as_slice())?, (*site, *top));
     }
     Ok(())
 }
