@@ -74,8 +74,7 @@ fn steps_of(alloc: Global, acts: &[Named]) -> Result<Vec<Step>, AllocError> {
 
 #[test]
 fn steps_on_the_empty_row(rt: HostRuntime) -> Result<(), Fail> {
-    let runs = RUNS;
-    for (acts, steps) in runs.as_slice() {
+    for (acts, steps) in RUNS.as_slice() {
         let told = steps_of(rt.alloc(), acts.as_slice())?;
         assert_eq!(rt; told.as_slice(), steps.as_slice());
     }

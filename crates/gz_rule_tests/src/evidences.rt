@@ -9,17 +9,15 @@ use std::test::Fail;
 /// A step, with the name of its value.
 type Named = (Act, PutName);
 
-fn row_of(alloc: Global, step: Option<Named>) -> Result<Option<Row>, AllocError> {
-    match step {
-        None => Ok(None),
-        Some((act, name)) => Ok(Some(row_by(alloc, act, name)?)),
-    }
-}
-
+/// The rows that the steps make of the empty one, none where there is no step.
 fn rows_of(alloc: Global, steps: &[Option<Named>]) -> Result<Vec<Option<Row>>, AllocError> {
     let mut rows = Vec::new(alloc);
     for step in steps {
-        rows.push(row_of(alloc, *step)?)?;
+        let row = match step {
+            None => None,
+            Some((act, name)) => Some(row_by(alloc, *act, *name)?),
+        };
+        rows.push(row)?;
     }
     Ok(rows)
 }
@@ -84,14 +82,22 @@ const SHOWN: [([Option<Named>; 5], Option<SiteId>, Version); 5] = [
     ),
 ];
 
+/// The site that shows the first version's value to be chosen by these rows, and the greatest version shown.
+fn told(alloc: Global, steps: &[Option<Named>]) -> Result<(Option<SiteId>, Version), Fail> {
+    let rows = rows_of(alloc, steps)?;
+    if rows.len() != 5 {
+        return Err(Fail::from("not a row for each site"));
+    }
+    Ok((
+        evidence(&FIVE, rows.as_slice(), FIRST),
+        highest(rows.as_slice()),
+    ))
+}
+
 #[test]
 fn evidence_is_at_the_lowest_site(rt: HostRuntime) -> Result<(), Fail> {
-    let table = SHOWN;
-    for (steps, site, top) in table.as_slice() {
-        let rows = rows_of(rt.alloc(), steps.as_slice())?;
-        assert!(rt; rows.len() == 5);
-        let told = evidence(&FIVE, rows.as_slice(), FIRST);
-        assert_eq!(rt; (told, highest(rows.as_slice())), (*site, *top));
+    for (steps, site, top) in SHOWN.as_slice() {
+        assert_eq!(rt; told(rt.alloc(), steps.as_slice())?, (*site, *top));
     }
     Ok(())
 }

@@ -3,77 +3,40 @@ use gz_core::Items;
 use std::alloc::{AllocError, Global};
 use std::test::Fail;
 
-/// A way to make a list, or to change the list of 1, 2 and 3.
-#[derive(Clone, Copy)]
-enum Way {
-    Push,
-    Insert,
-    Set,
-    Replace,
-    Retain,
-    Through,
-}
-
-/// The list that comes of each way.
-const LISTS: [(Way, &'static [u8]); 6] = [
-    (Way::Push, &[1, 2, 3, 9]),
-    (Way::Insert, &[1, 9, 2, 3]),
-    (Way::Set, &[1, 9, 3]),
-    (Way::Replace, &[1, 9, 3, 2]),
-    (Way::Retain, &[1, 3]),
-    (Way::Through, &[1, 2, 3]),
-];
-
-fn pushed(mut items: Items<u8>) -> Result<Items<u8>, AllocError> {
-    items.push(9)?;
-    Ok(items)
-}
-
-fn inserted(mut items: Items<u8>) -> Result<Items<u8>, AllocError> {
+fn insert_second(items: &mut Items<u8>) -> Result<(), AllocError> {
     if !items.is_empty() {
-        items.insert(1, 9)?;
+        items.insert(1, 8)?;
     }
-    Ok(items)
+    Ok(())
 }
 
-fn set(mut items: Items<u8>) -> Items<u8> {
-    if items.len() > 1 {
-        items.set(1, 9);
-    }
-    items
-}
-
-/// The element that stood at the place comes last.
-fn replaced(mut items: Items<u8>) -> Result<Items<u8>, AllocError> {
-    if items.len() > 1 {
-        let was = items.replace(1, 9);
-        items.push(was)?;
-    }
-    Ok(items)
-}
-
-fn retained(mut items: Items<u8>) -> Items<u8> {
-    items.retain(|item| *item != 2);
-    items
-}
-
-fn list_by(alloc: Global, way: Way) -> Result<Items<u8>, AllocError> {
-    let items = Items::from_slice(alloc, &[1, 2, 3])?;
-    match way {
-        Way::Push => pushed(items),
-        Way::Insert => inserted(items),
-        Way::Set => Ok(set(items)),
-        Way::Replace => replaced(items),
-        Way::Retain => Ok(retained(items)),
-        Way::Through => Ok(Items::from_vec(items.into_vec())),
+fn set_first(items: &mut Items<u8>) {
+    if !items.is_empty() {
+        items.set(0, 7);
     }
 }
 
+/// The element that stood third, if there was one.
+fn replace_third(items: &mut Items<u8>) -> Option<u8> {
+    if items.len() > 2 {
+        Some(items.replace(2, 6))
+    } else {
+        None
+    }
+}
+
+/// Each change leaves its own mark in the list: 9 pushed, 8 inserted, 7 set, 6 in place of 2, and no 3 retained.
 #[test]
 fn lists_made_and_changed(rt: HostRuntime) -> Result<(), Fail> {
-    for (way, wanted) in LISTS {
-        assert_eq!(rt; list_by(rt.alloc(), way)?.as_slice(), wanted);
-    }
+    let mut items = Items::from_slice(rt.alloc(), &[1, 2, 3])?;
+    items.push(9)?;
+    insert_second(&mut items)?;
+    set_first(&mut items);
+    let was = replace_third(&mut items);
+    items.retain(|item| *item != 3);
+    let items = Items::from_vec(items.into_vec());
+    let wanted: &[u8] = &[7, 8, 6, 9];
+    assert_eq!(rt; (was, items.as_slice()), (Some(2), wanted));
     Ok(())
 }
 

@@ -122,18 +122,21 @@ fn casts_of(alloc: Global, key: &Key, votes: &[Option<Vote>]) -> Result<Vec<Cast
     Ok(casts)
 }
 
+/// The value chosen of the object that the votes are of, and of another one.
+fn told(alloc: Global, votes: &[Option<Vote>]) -> Result<[Option<PutName>; 2], Fail> {
+    let key = key_of(alloc, b"a")?;
+    let other = key_of(alloc, b"b")?;
+    let casts = casts_of(alloc, &key, votes)?;
+    Ok([
+        chosen(&Config::DEFAULT, casts.as_slice(), &key, FIRST),
+        chosen(&Config::DEFAULT, casts.as_slice(), &other, FIRST),
+    ])
+}
+
 #[test]
 fn values_chosen(rt: HostRuntime) -> Result<(), Fail> {
-    let key = key_of(rt.alloc(), b"a")?;
-    let other = key_of(rt.alloc(), b"b")?;
-    let table = CHOSEN;
-    for (votes, wanted) in table.as_slice() {
-        let casts = casts_of(rt.alloc(), &key, votes.as_slice())?;
-        let told = [
-            chosen(&Config::DEFAULT, casts.as_slice(), &key, FIRST),
-            chosen(&Config::DEFAULT, casts.as_slice(), &other, FIRST),
-        ];
-        assert_eq!(rt; told, [*wanted, None]);
+    for (votes, wanted) in CHOSEN.as_slice() {
+        assert_eq!(rt; told(rt.alloc(), votes.as_slice())?, [*wanted, None]);
     }
     Ok(())
 }
