@@ -12,13 +12,24 @@ use gz_round::Run;
 use std::alloc::{AllocError, Global};
 
 /// The client of one session, and the greatest round that it promised: at most one call of it runs.
-#[derive(Drop)]
 pub struct Client {
     config: Config,
     session: Session,
     calls: u32,
     round: u32,
     run: Option<Run>,
+}
+
+impl Drop for Client {
+    fn drop(self) {
+        let Client {
+            config: _,
+            session: _,
+            calls: _,
+            round: _,
+            run: _,
+        } = self;
+    }
 }
 
 impl Client {

@@ -7,13 +7,25 @@ ghost use Rattle.gz_model.specs.Casts.{is_at, is_vote, has_cast, has_enough, is_
 use gz_core::{Ballot, Config, Key, PutName, SiteId, Version};
 
 /// A vote that a site cast: for the value of this name, in this ballot, at this version of the object of this key.
-#[derive(Clone, Debug, PartialEq, Eq, PartialOrd, Ord, Drop)]
+#[derive(Clone, Debug, PartialEq, Eq, PartialOrd, Ord)]
 pub struct Cast {
     pub site: SiteId,
     pub key: Key,
     pub version: Version,
     pub ballot: Ballot,
     pub name: PutName,
+}
+
+impl Drop for Cast {
+    fn drop(self) {
+        let Cast {
+            site: _,
+            key: _,
+            version: _,
+            ballot: _,
+            name: _,
+        } = self;
+    }
 }
 
 /// The value that is chosen at this version of the object: the least name, by session and then by number, for

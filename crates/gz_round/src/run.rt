@@ -5,16 +5,25 @@ use gz_core::{Ballot, Etag, Items, Key, Phase, PutName, Row, Value, Version};
 use std::alloc::AllocError;
 
 /// A row request that is awaited: its number, and the row that it writes if it is a write.
-#[derive(Clone, Drop)]
+#[derive(Clone)]
 pub struct Awaited {
     pub number: u32,
     pub written: Option<Row>,
 }
 
+impl Drop for Awaited {
+    fn drop(self) {
+        let Awaited {
+            number: _,
+            written: _,
+        } = self;
+    }
+}
+
 /// What a call keeps of a site beside its row: the tag of the last row that was heard (none: there was no row),
 /// whether that row was overtaken since, whether the site is out for the call, its last row where it is, and the
 /// request that is awaited.
-#[derive(Clone, Drop)]
+#[derive(Clone)]
 pub struct Mark {
     pub etag: Option<Etag>,
     pub changed: bool,
@@ -23,10 +32,21 @@ pub struct Mark {
     pub awaited: Option<Awaited>,
 }
 
+impl Drop for Mark {
+    fn drop(self) {
+        let Mark {
+            etag: _,
+            changed: _,
+            out: _,
+            left: _,
+            awaited: _,
+        } = self;
+    }
+}
+
 /// The phase of a call. `Look` reads every site; `Fast` votes in the fast ballot of a version; `Prepare` asks for
 /// promises of a classic ballot, after it `found` a value to propose in the votes that were heard if the call has
 /// none of its own, and `Accept` votes in it for a value that the promises allow.
-#[derive(Drop)]
 pub enum Stage {
     Look,
     Fast {
@@ -42,6 +62,25 @@ pub enum Stage {
         ballot: Ballot,
         value: Value,
     },
+}
+
+impl Drop for Stage {
+    fn drop(self) {
+        match self {
+            Stage::Look => {},
+            Stage::Fast { version: _ } => {},
+            Stage::Prepare {
+                version: _,
+                ballot: _,
+                found: _,
+            } => {},
+            Stage::Accept {
+                version: _,
+                ballot: _,
+                value: _,
+            } => {},
+        }
+    }
 }
 
 impl Clone for Stage {
@@ -94,7 +133,7 @@ fn acceptance(version: Version, ballot: Ballot, value: &Value) -> Result<Stage, 
 /// A running call: its name, the object's key, the value that it writes if it writes one, the last row of each
 /// site that isn't out, what else it keeps of each site, how often it was overtaken, whether it voted for its
 /// value, the part that sent its last row write, the greatest round that its session promised, and its phase.
-#[derive(Clone, Drop)]
+#[derive(Clone)]
 pub struct Run {
     pub name: PutName,
     pub key: Key,
@@ -106,6 +145,23 @@ pub struct Run {
     pub wrote: Phase,
     pub round: u32,
     pub stage: Stage,
+}
+
+impl Drop for Run {
+    fn drop(self) {
+        let Run {
+            name: _,
+            key: _,
+            own: _,
+            rows: _,
+            marks: _,
+            met: _,
+            voted: _,
+            wrote: _,
+            round: _,
+            stage: _,
+        } = self;
+    }
 }
 
 impl Run {
