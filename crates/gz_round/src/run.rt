@@ -23,7 +23,6 @@ impl Drop for Awaited {
 /// What a call keeps of a site beside its row: the tag of the last row that was heard (none: there was no row),
 /// whether that row was overtaken since, whether the site is out for the call, its last row where it is, and the
 /// request that is awaited.
-#[derive(Clone)]
 pub struct Mark {
     pub etag: Option<Etag>,
     pub changed: bool,
@@ -41,6 +40,24 @@ impl Drop for Mark {
             left: _,
             awaited: _,
         } = self;
+    }
+}
+
+impl Clone for Mark {
+    ghost use Rattle.std.specs.Prelude.{◌≡◌};
+
+    ghost is_clone = { λ a b. b ≡ a };
+
+    fn clone(&self) -> Result<Mark, AllocError> {
+        let left = self.left.clone()?;
+        let awaited = self.awaited.clone()?;
+        Ok(Mark {
+            etag: self.etag,
+            changed: self.changed,
+            out: self.out,
+            left,
+            awaited,
+        })
     }
 }
 
@@ -106,11 +123,28 @@ impl Clone for Stage {
     }
 }
 
+/// A copy of a value.
+pub fn copy_of(value: &Value) -> Result<Value, AllocError>
+    ensures { IfOk result (λ copy. copy ≡ value.now) }
+{
+    value.clone()
+}
+
+/// A copy of a value, if there is one.
+pub fn copy_if_some(value: &Option<Value>) -> Result<Option<Value>, AllocError>
+    ensures { IfOk result (λ copy. copy ≡ value.now) }
+{
+    match value {
+        None => Ok(None),
+        Some(value) => Ok(Some(copy_of(value)?)),
+    }
+}
+
 /// The phase that prepares a ballot, with a copy of what was found.
 fn preparation(version: Version, ballot: Ballot, found: &Option<Value>) -> Result<Stage, AllocError>
     ensures { IfOk result (λ stage. stage ≡ Stage.Prepare version ballot found.now) }
 {
-    let found = found.clone()?;
+    let found = copy_if_some(found)?;
     Ok(Stage::Prepare {
         version,
         ballot,
@@ -122,7 +156,7 @@ fn preparation(version: Version, ballot: Ballot, found: &Option<Value>) -> Resul
 fn acceptance(version: Version, ballot: Ballot, value: &Value) -> Result<Stage, AllocError>
     ensures { IfOk result (λ stage. stage ≡ Stage.Accept version ballot value.now) }
 {
-    let value = value.clone()?;
+    let value = copy_of(value)?;
     Ok(Stage::Accept {
         version,
         ballot,
@@ -133,7 +167,6 @@ fn acceptance(version: Version, ballot: Ballot, value: &Value) -> Result<Stage, 
 /// A running call: its name, the object's key, the value that it writes if it writes one, the last row of each
 /// site that isn't out, what else it keeps of each site, how often it was overtaken, whether it voted for its
 /// value, the part that sent its last row write, the greatest round that its session promised, and its phase.
-#[derive(Clone)]
 pub struct Run {
     pub name: PutName,
     pub key: Key,
@@ -169,6 +202,40 @@ impl Run {
     pub fn copy(&self) -> Result<Run, AllocError>
         ensures { IfOk result (λ run. run ≡ self.now) }
     {
-        self.clone()
+        let (key, own) = self.copy_aim()?;
+        let (rows, marks) = self.copy_sites()?;
+        let stage = self.stage.clone()?;
+        Ok(Run {
+            name: self.name,
+            key,
+            own,
+            rows,
+            marks,
+            met: self.met,
+            voted: self.voted,
+            wrote: self.wrote,
+            round: self.round,
+            stage,
+        })
+    }
+
+    /// A copy of the object's key and of the value that the call writes.
+    fn copy_aim(&self) -> Result<(Key, Option<Value>), AllocError>
+        ensures key { IfOk result (λ aim. aim.0 ≡ self.now.key) }
+        ensures own { IfOk result (λ aim. aim.1 ≡ self.now.own) }
+    {
+        let key = self.key.clone()?;
+        let own = copy_if_some(&self.own)?;
+        Ok((key, own))
+    }
+
+    /// A copy of what the call keeps of each site.
+    fn copy_sites(&self) -> Result<(Items<Option<Row>>, Items<Mark>), AllocError>
+        ensures rows { IfOk result (λ sites. sites.0 ≡ self.now.rows) }
+        ensures marks { IfOk result (λ sites. sites.1 ≡ self.now.marks) }
+    {
+        let rows = self.rows.clone()?;
+        let marks = self.marks.clone()?;
+        Ok((rows, marks))
     }
 }
