@@ -1,9 +1,10 @@
 -- Lists with a place for each site: what a write changes, and counts over them.
-use Rattle.std.proofs.Common.{◌≡◌, ◌≢◌, ℕ, zero, suc, ◌+◌, ◌<◌, Bool, true, false, cond, List, [], ◌∷◌, ◌++◌, length, Some, refl, sym, ap, ◌∙◌, subst, inl, inr, arith}
+use Rattle.std.proofs.Common.{◌≡◌, ◌≢◌, ℕ, zero, suc, ◌+◌, ◌<◌, ◌≤◌, Bool, true, false, cond, List, [], ◌∷◌, ◌++◌, length, take, Some, refl, sym, ap, ◌∙◌, subst, inl, inr, arith}
 use Rattle.std.proofs.Math.ListN.{set}
+use Rattle.std.proofs.Math.Seq.{take-length}
 use Rattle.std.specs.List.{slice_get, count_by, list_any, list_all}
 use Rattle.std.proofs.lemmas.Bool.{cases_eq, or_cases, or_left, or_right, and_parts}
-use Rattle.std.proofs.lemmas.Option.{same_Some}
+use Rattle.std.proofs.lemmas.Option.{same_Some, none-some}
 use Rattle.std.proofs.lemmas.List.Sums.{sum_by-cons}
 use Rattle.gz_core.specs.Counts.{count_sites}
 
@@ -76,6 +77,44 @@ count_told {A = A} p (suc n) (x ∷ xs) f len told =
     let weight : A → ℕ = λ y. cond (p y) 1 0 in
     let first : weight x ≡ weight (f 0) = ap weight here in
     omega (arith, count_first n (λ s. p (f s)), rest, first, sum_by-cons weight x xs)
+
+weight_most : (b : Bool) → cond b 1 0 ≤ 1
+weight_most true = omega arith
+weight_most false = omega arith
+
+-- a count over the first places, with one more that passes or does not
+count_next : {A : Type 0} (p : A → Bool) (xs : List A) (i : ℕ) (x : A) → slice_get xs i ≡ Some x → count_by p (take (suc i) xs) ≡ cond (p x) 1 0 + count_by p (take i xs)
+count_next p [] i x e = absurd (none-some x e)
+count_next {A = A} p (y ∷ ys) zero x e =
+    let weight : A → ℕ = λ z. cond (p z) 1 0 in
+    let same : weight y ≡ weight x = ap weight (same_Some y x e) in
+    omega (arith, sum_by-cons weight y [], same)
+count_next {A = A} p (y ∷ ys) (suc i) x e =
+    let weight : A → ℕ = λ z. cond (p z) 1 0 in
+    omega (arith, count_next p ys i x e, sum_by-cons weight y (take (suc i) ys), sum_by-cons weight y (take i ys))
+
+pub count_more : {A : Type 0} (p : A → Bool) (xs : List A) (i : ℕ) (x : A) → slice_get xs i ≡ Some x → p x ≡ true → count_by p (take (i + 1) xs) ≡ count_by p (take i xs) + 1
+count_more p xs i x e h =
+    let more : suc i ≡ i + 1 = omega arith in
+    let passes : ◌≡◌ {A = ℕ} (cond (p x) 1 0) 1 = ap (λ b. cond b 1 0) h in
+    subst (λ k. count_by p (take k xs) ≡ count_by p (take i xs) + 1) more (omega (arith, count_next p xs i x e, passes))
+
+pub count_skip : {A : Type 0} (p : A → Bool) (xs : List A) (i : ℕ) (x : A) → slice_get xs i ≡ Some x → p x ≡ false → count_by p (take (i + 1) xs) ≡ count_by p (take i xs)
+count_skip p xs i x e h =
+    let more : suc i ≡ i + 1 = omega arith in
+    let fails : ◌≡◌ {A = ℕ} (cond (p x) 1 0) 0 = ap (λ b. cond b 1 0) h in
+    subst (λ k. count_by p (take k xs) ≡ count_by p (take i xs)) more (omega (arith, count_next p xs i x e, fails))
+
+-- it is no more than their number
+pub count_within : {A : Type 0} (p : A → Bool) (xs : List A) (i : ℕ) → i ≤ length xs → count_by p (take i xs) ≤ i
+count_within p xs zero l = omega arith
+count_within p [] (suc i) l = absurd (omega arith)
+count_within {A = A} p (y ∷ ys) (suc i) l =
+    let weight : A → ℕ = λ z. cond (p z) 1 0 in
+    omega (arith, count_within p ys i (omega arith), weight_most (p y), sum_by-cons weight y (take i ys))
+
+pub count_whole : {A : Type 0} (p : A → Bool) (xs : List A) (i : ℕ) → i ≡ length xs → count_by p (take i xs) ≡ count_by p xs
+count_whole p xs i e = ap (count_by p) (ap (λ n. take n xs) e ∙ take-length xs)
 
 -- some element passes where a site does
 pub any_told : {A : Type 0} (p : A → Bool) (xs : List A) (s : ℕ) (x : A) → slice_get xs s ≡ Some x → p x ≡ true → list_any p xs ≡ true
