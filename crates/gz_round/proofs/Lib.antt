@@ -18,7 +18,6 @@ pub mod Opens
 pub mod Arms
 pub mod Proposals
 pub mod Replies
-mod Copies
 pub mod Starts
 pub mod Numbers
 pub mod Least

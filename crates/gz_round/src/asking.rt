@@ -92,9 +92,23 @@ impl Run {
         requires site { at < 16 }
         ensures { IfOk result (λ out. out ≡ write_out self.now at expect step.now (Some row)) }
     {
-        let awaited = !is_notice(step);
-        let key = self.copy_key()?;
         let step = copy_of(step)?;
+        self.write_made(at, expect, step, row)
+    }
+
+    /// The write of a row, with the step that made it.
+    fn write_made(
+        &self,
+        at: usize,
+        expect: Option<Etag>,
+        step: RowStep,
+        row: Row,
+    ) -> Result<Option<Out>, AllocError>
+        requires site { at < 16 }
+        ensures { IfOk result (λ out. out ≡ write_out self.now at expect step (Some row)) }
+    {
+        let awaited = !is_notice(&step);
+        let key = self.copy_key()?;
         Ok(Some(Out {
             site: SiteId(at as u8),
             op: Op::WriteRow {

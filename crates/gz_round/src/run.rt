@@ -202,9 +202,31 @@ impl Run {
     pub fn copy(&self) -> Result<Run, AllocError>
         ensures { IfOk result (λ run. run ≡ self.now) }
     {
-        let (key, own) = self.copy_aim()?;
-        let (rows, marks) = self.copy_sites()?;
         let stage = self.stage.clone()?;
+        let own = copy_if_some(&self.own)?;
+        self.copy_with(own, stage)
+    }
+
+    /// A copy of all else that the call keeps, with this value of its own and this phase.
+    fn copy_with(&self, own: Option<Value>, stage: Stage) -> Result<Run, AllocError>
+        ensures { IfOk result (λ run. run ≡ record self.now { own = own; stage = stage }) }
+    {
+        let key = self.key.clone()?;
+        let rows = self.rows.clone()?;
+        self.copy_marks(key, own, rows, stage)
+    }
+
+    /// A copy of the marks and counts, with these parts beside them.
+    fn copy_marks(
+        &self,
+        key: Key,
+        own: Option<Value>,
+        rows: Items<Option<Row>>,
+        stage: Stage,
+    ) -> Result<Run, AllocError>
+        ensures { IfOk result (λ run. run ≡ record self.now { key = key; own = own; rows = rows; stage = stage }) }
+    {
+        let marks = self.marks.clone()?;
         Ok(Run {
             name: self.name,
             key,
@@ -217,25 +239,5 @@ impl Run {
             round: self.round,
             stage,
         })
-    }
-
-    /// A copy of the object's key and of the value that the call writes.
-    fn copy_aim(&self) -> Result<(Key, Option<Value>), AllocError>
-        ensures key { IfOk result (λ aim. aim.0 ≡ self.now.key) }
-        ensures own { IfOk result (λ aim. aim.1 ≡ self.now.own) }
-    {
-        let key = self.key.clone()?;
-        let own = copy_if_some(&self.own)?;
-        Ok((key, own))
-    }
-
-    /// A copy of what the call keeps of each site.
-    fn copy_sites(&self) -> Result<(Items<Option<Row>>, Items<Mark>), AllocError>
-        ensures rows { IfOk result (λ sites. sites.0 ≡ self.now.rows) }
-        ensures marks { IfOk result (λ sites. sites.1 ≡ self.now.marks) }
-    {
-        let rows = self.rows.clone()?;
-        let marks = self.marks.clone()?;
-        Ok((rows, marks))
     }
 }
