@@ -1,5 +1,5 @@
 -- The client stands for its session's tales after an event.
-use Rattle.std.proofs.Common.{◌≡◌, ◌==◌, ℕ, ◌+◌, ◌<◌, ◌≤◌, max, true, false, List, [], ◌∷◌, ◌++◌, length, Option, Some, None, option_map, refl, sym, ap, ◌∙◌, subst, arith}
+use Rattle.std.proofs.Common.{◌≡◌, ◌==◌, ℕ, ◌+◌, ◌<◌, ◌≤◌, ◌^◌, max, true, false, List, [], ◌∷◌, ◌++◌, length, Option, Some, None, IsSome, option_map, refl, sym, ap, ◌∙◌, subst, arith}
 use Rattle.std.proofs.lemmas.Bool.{eqb-true, eq-eqb, false≢true}
 use Rattle.std.proofs.lemmas.Option.{same_Some, none-some, slice_get_within}
 use Rattle.gz_core.specs.Configurations.{IsConfig}
@@ -23,7 +23,7 @@ use Rattle.gz_round.specs.Sent.{top_round}
 use Rattle.gz_round.specs.Following.{Ready, Turned, HasTurned}
 use Rattle.gz_round.proofs.Numbers.{numbered_sent, numbered_none, numbered_closed}
 use Rattle.gz_client.specs.declared.client.Client.{Client}
-use Rattle.gz_client.specs.Tales.{Holds, HoldsRun, AreTold, AreOver, IsAwaited, CanBeTold, IsLive, IsLiveAtIn, IsLiveAtWhile, going_on}
+use Rattle.gz_client.specs.Tales.{Holds, HoldsRun, AreTold, AreOver, IsAwaited, CanBeTold, HasActed, IsLive, IsLiveAtIn, IsLiveAtWhile, going_on}
 
 rounds_newest : (round past now : ℕ) → round ≡ max past now → round ≡ max now past
 rounds_newest round past now e = omega (arith, e)
@@ -107,21 +107,50 @@ about client run n first at next t ts a e site h awaited =
     let s = site_awaits client.config run t a n next at k.runs.stands.knows k.numbered awaited site in
     record { inside = s.0; awaits = s.1; ready = ready_of client.config t.caller ts run t.moments k.runs }
 
--- one more moment of the running call
-pub turned_extends : (client : Client) (run new : Run) (first : ℕ) (turn : Turn) (moment : Moment) (next : ℕ) (t : Tale) (ts : List Tale) (kept : Option Run) → client.run ≡ Some run → kept ≡ going_on new turn.answer → Holds client next (t ∷ ts) →
-    AreNumbered client.config (moment ∷ t.moments) first → HasTurned client.config t.caller ts new (sent_from first turn.send (moment ∷ t.moments)) turn.answer →
-    (closing : List Moment) × IsClosing closing × Holds (record { config = client.config; session = client.session; calls = client.calls; round = new.round; run = kept }) (first + length turn.send) (turned first turn moment closing t ∷ ts)
-turned_extends client run new first turn moment next t ts kept e kept_is h numbered ended =
+-- one more moment of the running call, after which the client acted
+pub acted_extends : (client after : Client) (run told : Run) (first : ℕ) (turn : Turn) (moment : Moment) (next : ℕ) (t : Tale) (ts : List Tale) → client.run ≡ Some run → HasActed client after told first turn → Holds client next (t ∷ ts) →
+    AreNumbered client.config (moment ∷ t.moments) first → Ready client.config t.caller ts told (moment ∷ t.moments) →
+    (closing : List Moment) × IsClosing closing × Holds after (first + length turn.send) (turned first turn moment closing t ∷ ts)
+acted_extends client after run told first turn moment next t ts e acted h numbered ready =
     let k = run_held client next t ts run e h in
-    let told = h.told in
+    let tells = h.told in
     let calls = h.calls_are in
+    let ended : HasTurned client.config t.caller ts acted.0 (sent_from first turn.send (moment ∷ t.moments)) turn.answer = acted.2 t.caller ts (moment ∷ t.moments) ready in
     let sent : AreNumbered client.config (sent_from first turn.send (moment ∷ t.moments)) (first + length turn.send) = numbered_sent client.config first turn.send (moment ∷ t.moments) numbered in
-    let after : AreNumbered client.config (ended.0 ++ sent_from first turn.send (moment ∷ t.moments)) (first + length turn.send) = numbered_closed client.config (sent_from first turn.send (moment ∷ t.moments)) ended.0 (first + length turn.send) ended.1 sent in (
+    let later : AreNumbered client.config (ended.0 ++ sent_from first turn.send (moment ∷ t.moments)) (first + length turn.send) = numbered_closed client.config (sent_from first turn.send (moment ∷ t.moments)) ended.0 (first + length turn.send) ended.1 sent in (
       ended.0,
       ended.1,
-      subst (λ (r : Option Run). Holds (record { config = client.config; session = client.session; calls = client.calls; round = new.round; run = r }) (first + length turn.send) (turned first turn moment ended.0 t ∷ ts)) (sym kept_is)
-          (turned_holds client.config client.session t.caller ts new (ended.0 ++ sent_from first turn.send (moment ∷ t.moments)) turn.answer client.calls (first + length turn.send) h.sizes (omega arith) told.1 told.2 k.over after ended.2),
+      subst (λ (new : Client). Holds new (first + length turn.send) (turned first turn moment ended.0 t ∷ ts)) (sym acted.1)
+          (turned_holds client.config client.session t.caller ts acted.0 (ended.0 ++ sent_from first turn.send (moment ∷ t.moments)) turn.answer client.calls (first + length turn.send) h.sizes (omega arith) tells.1 tells.2 k.over later ended.2),
     )
+
+-- a client that may be told of a request has a call that runs, which awaits it from a site
+has_run : (c : Config) (next : ℕ) (run : Option Run) (t : Tale) (ts : List Tale) → t.answer ≡ None → HoldsRun c next run (t ∷ ts) → IsSome run
+has_run c next None t ts e h = absurd (none-some h.0.0 (sym e ∙ h.0.1))
+has_run c next (Some run) t ts e h = refl
+
+pub told_runs : (client : Client) (n first : ℕ) → CanBeTold client n first → IsSome client.run
+told_runs client n first k = has_run client.config k.0 client.run k.1 k.2 k.5.running k.4.run_is
+
+pub told_site : (client : Client) (run : Run) (n first : ℕ) → client.run ≡ Some run → CanBeTold client n first → (s : ℕ) × IsSiteOf run.marks n s
+told_site client run n first e k = (k.3.site, awaited_site client.config run k.1 k.3 n (run_held client k.0 k.1 k.2 run e k.4).runs.stands.knows k.5)
+
+-- the call can hear of the site
+pub record CanHear (run : Run) (at : ℕ) : Type 0 where
+  pub rows : at < length run.rows
+  pub marks : at < length run.marks
+  pub met : run.met + 1 < 2 ^ 32
+
+pub can_hear : (client : Client) (run : Run) (n first at : ℕ) → client.run ≡ Some run → IsSiteOf run.marks n at → CanBeTold client n first → CanHear run at
+can_hear client run n first at e site k =
+    let held = run_held client k.0 k.1 k.2 run e k.4 in
+    let inside = (about client run n first at k.0 k.1 k.2 k.3 e site k.4 k.5).inside in
+    let rows_len = held.runs.stands.knows.rows_len in
+    let marks_len = held.runs.stands.knows.marks_len in
+    let met_is = held.runs.stands.met_is in
+    let few = held.runs.going.few in
+    let tries = k.4.sizes.tries in
+    record { rows = omega arith; marks = omega arith; met = omega arith }
 
 -- a session may have used any round
 pub tale_of : Caller → ℕ → Tale

@@ -5,10 +5,11 @@ use Rattle.gz_core.specs.declared.requests.Turn.{Turn}
 use Rattle.gz_core.specs.declared.calls.Answer.{Answer}
 use Rattle.gz_config.specs.declared.Config.{Config}
 use Rattle.gz_round.specs.declared.run.Run.{Run}
-use Rattle.gz_round.specs.History.{Asked, Moment, Tale, IsClosing, turned}
+use Rattle.gz_round.specs.History.{Asked, Moment, Caller, Tale, IsClosing, turned, sent_from}
 use Rattle.gz_round.specs.Sites.{site_now}
 use Rattle.gz_round.specs.Rounds.{top_rounds}
 use Rattle.gz_round.specs.Sending.{AreAllowed}
+use Rattle.gz_round.specs.Following.{Ready, HasTurned}
 use Rattle.gz_round.specs.Counting.{IsGoing}
 use Rattle.gz_round.specs.Causes.{HasCause}
 use Rattle.gz_round.specs.Numbering.{AreNumbered, IsLiveAt, live_where}
@@ -114,3 +115,9 @@ Extends old new n first moment turn =
 abbrev pub going_on : Run → Option Answer → Option Run
 going_on run None = Some run
 going_on run (Some answer) = None
+
+-- a client has acted once its running call was told: the call has turned, and is kept where it wasn't answered
+abbrev pub HasActed : Client → Client → Run → ℕ → Turn → Type 0
+HasActed old new run first turn =
+    (kept : Run) × (new ≡ record old { round = kept.round; run = going_on kept turn.answer })
+    × ((w : Caller) (past : List Tale) (ms : List Moment) → Ready old.config w past run ms → HasTurned old.config w past kept (sent_from first turn.send ms) turn.answer)

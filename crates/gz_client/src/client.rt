@@ -3,7 +3,8 @@ ghost use Rattle.std.specs.Prelude.{◌≡◌, ℕ, ◌≤◌, ◌<◌, ◌+◌,
 ghost use Rattle.gz_core.specs.Configurations.{IsConfig};
 ghost use Rattle.gz_round.specs.History.{Tale, Handed, GaveUp, begun};
 ghost use Rattle.gz_round.specs.Starting.{IsWithin};
-ghost use Rattle.gz_client.specs.Tales.{Holds, CanBegin, CanBeTold, IsSameClient, IsRunning, Extends, going_on, live_count, IsLiveAtIn};
+ghost use Rattle.gz_round.specs.Following.{IsReady};
+ghost use Rattle.gz_client.specs.Tales.{Holds, CanBegin, CanBeTold, IsSameClient, HasActed, IsRunning, Extends, going_on, live_count, IsLiveAtIn};
 
 mod live;
 
@@ -12,13 +13,24 @@ use gz_round::Run;
 use std::alloc::{AllocError, Global};
 
 /// The client of one session, and the greatest round that it promised: at most one call of it runs.
-#[derive(Drop)]
 pub struct Client {
     config: Config,
     session: Session,
     calls: u32,
     round: u32,
     run: Option<Run>,
+}
+
+impl Drop for Client {
+    fn drop(self) {
+        let Client {
+            config: _,
+            session: _,
+            calls: _,
+            round: _,
+            run: _,
+        } = self;
+    }
 }
 
 impl Client {
@@ -80,10 +92,7 @@ impl Client {
         let mut run = self.copy_run()?;
         let at = run.site_of(n);
         run.note_reply(alloc, at, answer)?;
-        let turn = run.act(alloc, &self.config, first)?;
-        self.round = run.round;
-        self.run = going_on(run, &turn);
-        Ok(turn)
+        self.act(alloc, run, first)
     }
 
     /// Tells the client that request `n`, which it awaits, won't be answered. What it sends at this goes out
@@ -99,6 +108,20 @@ impl Client {
         let mut run = self.copy_run()?;
         let at = run.site_of(n);
         run.note_give_up(at);
+        self.act(alloc, run, first)
+    }
+
+    /// All that the client does once its running call was told of a request: `run` is the call with what it was told.
+    fn act(&mut self, alloc: Global, run: Run, first: u32) -> Result<Turn, AllocError>
+        requires config { IsConfig self.old.config }
+        requires first { first < 2 ^ 31 }
+        requires ready { IsReady self.old.config run }
+
+        ensures ok { IfOk result (λ turn. HasActed self.old self.new run first turn) }
+        ensures same { IsSameClient self.old self.new }
+        ensures err { OnErr result (self.new ≡ self.old) }
+    {
+        let mut run = run;
         let turn = run.act(alloc, &self.config, first)?;
         self.round = run.round;
         self.run = going_on(run, &turn);

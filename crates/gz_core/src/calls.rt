@@ -48,7 +48,7 @@ pub enum UnsureWhy {
 }
 
 /// The answer of a call.
-#[derive(Clone, Debug, PartialEq, Eq, Drop)]
+#[derive(Clone, Debug, PartialEq, Eq)]
 pub enum Answer {
     /// The put or delete is chosen at this version.
     Ok {
@@ -80,4 +80,25 @@ pub enum Answer {
     Unsure {
         why: UnsureWhy,
     },
+}
+
+impl Drop for Answer {
+    fn drop(self) {
+        match self {
+            Answer::Ok { version: _ } => {},
+            Answer::Bytes {
+                version: _,
+                name: _,
+                bytes: _,
+            } => {},
+            Answer::Gone {
+                version: _,
+                name: _,
+            } => {},
+            Answer::Absent => {},
+            Answer::NoQuorum { phase: _, heard: _ } => {},
+            Answer::Contended { met: _ } => {},
+            Answer::Unsure { why: _ } => {},
+        }
+    }
 }

@@ -7,7 +7,7 @@ use crate::rows::Row;
 use crate::values::Value;
 
 /// The step of an acceptor that made a row out of the one that was heard. (Lamport 2006, "Fast Paxos".)
-#[derive(Clone, Debug, Drop)]
+#[derive(Clone, Debug)]
 pub enum RowStep {
     /// A vote in the fast ballot.
     FastVote {
@@ -37,8 +37,33 @@ pub enum RowStep {
     },
 }
 
+impl Drop for RowStep {
+    fn drop(self) {
+        match self {
+            RowStep::FastVote {
+                version: _,
+                value: _,
+            } => {},
+            RowStep::Promise {
+                version: _,
+                ballot: _,
+            } => {},
+            RowStep::ClassicVote {
+                version: _,
+                ballot: _,
+                value: _,
+            } => {},
+            RowStep::Decide {
+                version: _,
+                value: _,
+            } => {},
+            RowStep::Trim { to: _, value: _ } => {},
+        }
+    }
+}
+
 /// An operation that is asked of a site.
-#[derive(Debug, Drop)]
+#[derive(Debug)]
 pub enum Op {
     /// Reads the row of a key.
     ReadRow {
@@ -53,6 +78,20 @@ pub enum Op {
     },
 }
 
+impl Drop for Op {
+    fn drop(self) {
+        match self {
+            Op::ReadRow { key: _ } => {},
+            Op::WriteRow {
+                key: _,
+                expect: _,
+                step: _,
+                row: _,
+            } => {},
+        }
+    }
+}
+
 /// A request to send. A notice is one that nobody awaits.
 #[derive(Drop)]
 pub struct Out {
@@ -62,13 +101,25 @@ pub struct Out {
 }
 
 /// What a site answered to a request.
-#[derive(Clone, Debug, Drop)]
+#[derive(Clone, Debug)]
 pub enum Reply {
     Row { etag: Etag, row: Row },
     NoRow,
     Written { etag: Etag },
     Changed,
     Failed,
+}
+
+impl Drop for Reply {
+    fn drop(self) {
+        match self {
+            Reply::Row { etag: _, row: _ } => {},
+            Reply::NoRow => {},
+            Reply::Written { etag: _ } => {},
+            Reply::Changed => {},
+            Reply::Failed => {},
+        }
+    }
 }
 
 /// What a client does at one event: the requests that it sends, and the answer of its call where it ends.

@@ -18,10 +18,22 @@ pub struct Vote {
 
 /// What an acceptor holds of one version: the highest ballot that it promised and the vote that stands, or the
 /// value that it knows to be chosen. (Lamport 2006, "Fast Paxos".)
-#[derive(Clone, Debug, PartialEq, Eq, Drop)]
+#[derive(Clone, Debug, PartialEq, Eq)]
 pub enum Column {
     Open { promise: Ballot, vote: Option<Vote> },
     Decided { value: Value },
+}
+
+impl Drop for Column {
+    fn drop(self) {
+        match self {
+            Column::Open {
+                promise: _,
+                vote: _,
+            } => {},
+            Column::Decided { value: _ } => {},
+        }
+    }
 }
 
 /// The row of an object at a site. Versions up to the floor have been collected. A version above the floor that

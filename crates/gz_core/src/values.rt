@@ -32,10 +32,19 @@ impl Model for PutValue {
 
 /// The value of a version: a tombstone, which a delete writes, or what a put writes. Two values are the same
 /// exactly where their names are.
-#[derive(Clone, Debug, PartialEq, Eq, Drop)]
+#[derive(Clone, Debug, PartialEq, Eq)]
 pub enum Value {
     Tomb { name: PutName },
     Put(PutValue),
+}
+
+impl Drop for Value {
+    fn drop(self) {
+        match self {
+            Value::Tomb { name: _ } => {},
+            Value::Put(_) => {},
+        }
+    }
 }
 
 impl Value {

@@ -5,15 +5,45 @@ ghost use Rattle.gz_core.specs.Counts.{count_sites};
 ghost use Rattle.gz_model.specs.Casts.{is_at, is_vote, has_cast, has_enough, is_before_name, IsChosen, IsLeastName};
 
 use gz_core::{Ballot, Config, Key, PutName, SiteId, Version};
+use std::alloc::AllocError;
 
 /// A vote that a site cast: for the value of this name, in this ballot, at this version of the object of this key.
-#[derive(Clone, Debug, PartialEq, Eq, PartialOrd, Ord, Drop)]
+#[derive(PartialEq, Eq, PartialOrd, Ord)]
 pub struct Cast {
     pub site: SiteId,
     pub key: Key,
     pub version: Version,
     pub ballot: Ballot,
     pub name: PutName,
+}
+
+impl Drop for Cast {
+    fn drop(self) {
+        let Cast {
+            site: _,
+            key: _,
+            version: _,
+            ballot: _,
+            name: _,
+        } = self;
+    }
+}
+
+impl Clone for Cast {
+    ghost use Rattle.std.specs.Prelude.{◌≡◌};
+
+    ghost is_clone = { λ a b. b ≡ a };
+
+    fn clone(&self) -> Result<Cast, AllocError> {
+        let key = self.key.clone()?;
+        Ok(Cast {
+            site: self.site,
+            key,
+            version: self.version,
+            ballot: self.ballot,
+            name: self.name,
+        })
+    }
 }
 
 /// The value that is chosen at this version of the object: the least name, by session and then by number, for

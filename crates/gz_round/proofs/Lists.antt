@@ -1,9 +1,12 @@
 -- Lists with a place for each site: what a write changes, and counts over them.
-use Rattle.std.proofs.Common.{◌≡◌, ◌≢◌, ℕ, zero, suc, ◌+◌, ◌<◌, Bool, true, false, cond, List, [], ◌∷◌, ◌++◌, length, Some, refl, sym, ap, ◌∙◌, subst, inl, inr, arith}
+use Rattle.std.proofs.Common.{◌||◌, ◌&&◌, ◌≡◌, ◌≢◌, ℕ, zero, suc, ◌+◌, ◌<◌, ◌≤◌, Bool, true, false, cond, List, [], ◌∷◌, ◌++◌, length, take, Some, refl, sym, ap, ◌∙◌, subst, inl, inr, arith}
 use Rattle.std.proofs.Math.ListN.{set}
+use Rattle.std.proofs.Math.Seq.{take-length}
+use Rattle.std.specs.Prelude.{nat_lt}
 use Rattle.std.specs.List.{slice_get, count_by, list_any, list_all}
-use Rattle.std.proofs.lemmas.Bool.{cases_eq, or_cases, or_left, or_right, and_parts}
-use Rattle.std.proofs.lemmas.Option.{same_Some}
+use Rattle.std.proofs.lemmas.Bool.{true≢false, cases_eq, or_cases, or_left, or_right, and_parts}
+use Rattle.std.proofs.lemmas.Option.{same_Some, none-some}
+use Rattle.std.proofs.lemmas.Bool.Decides.{nat_tests}
 use Rattle.std.proofs.lemmas.List.Sums.{sum_by-cons}
 use Rattle.gz_core.specs.Counts.{count_sites}
 
@@ -77,6 +80,44 @@ count_told {A = A} p (suc n) (x ∷ xs) f len told =
     let first : weight x ≡ weight (f 0) = ap weight here in
     omega (arith, count_first n (λ s. p (f s)), rest, first, sum_by-cons weight x xs)
 
+weight_most : (b : Bool) → cond b 1 0 ≤ 1
+weight_most true = omega arith
+weight_most false = omega arith
+
+-- a count over the first places, with one more that passes or does not
+count_next : {A : Type 0} (p : A → Bool) (xs : List A) (i : ℕ) (x : A) → slice_get xs i ≡ Some x → count_by p (take (suc i) xs) ≡ cond (p x) 1 0 + count_by p (take i xs)
+count_next p [] i x e = absurd (none-some x e)
+count_next {A = A} p (y ∷ ys) zero x e =
+    let weight : A → ℕ = λ z. cond (p z) 1 0 in
+    let same : weight y ≡ weight x = ap weight (same_Some y x e) in
+    omega (arith, sum_by-cons weight y [], same)
+count_next {A = A} p (y ∷ ys) (suc i) x e =
+    let weight : A → ℕ = λ z. cond (p z) 1 0 in
+    omega (arith, count_next p ys i x e, sum_by-cons weight y (take (suc i) ys), sum_by-cons weight y (take i ys))
+
+pub count_more : {A : Type 0} (p : A → Bool) (xs : List A) (i : ℕ) (x : A) → slice_get xs i ≡ Some x → p x ≡ true → count_by p (take (i + 1) xs) ≡ count_by p (take i xs) + 1
+count_more p xs i x e h =
+    let more : suc i ≡ i + 1 = omega arith in
+    let passes : ◌≡◌ {A = ℕ} (cond (p x) 1 0) 1 = ap (λ b. cond b 1 0) h in
+    subst (λ k. count_by p (take k xs) ≡ count_by p (take i xs) + 1) more (omega (arith, count_next p xs i x e, passes))
+
+pub count_skip : {A : Type 0} (p : A → Bool) (xs : List A) (i : ℕ) (x : A) → slice_get xs i ≡ Some x → p x ≡ false → count_by p (take (i + 1) xs) ≡ count_by p (take i xs)
+count_skip p xs i x e h =
+    let more : suc i ≡ i + 1 = omega arith in
+    let fails : ◌≡◌ {A = ℕ} (cond (p x) 1 0) 0 = ap (λ b. cond b 1 0) h in
+    subst (λ k. count_by p (take k xs) ≡ count_by p (take i xs)) more (omega (arith, count_next p xs i x e, fails))
+
+-- it is no more than their number
+pub count_within : {A : Type 0} (p : A → Bool) (xs : List A) (i : ℕ) → i ≤ length xs → count_by p (take i xs) ≤ i
+count_within p xs zero l = omega arith
+count_within p [] (suc i) l = absurd (omega arith)
+count_within {A = A} p (y ∷ ys) (suc i) l =
+    let weight : A → ℕ = λ z. cond (p z) 1 0 in
+    omega (arith, count_within p ys i (omega arith), weight_most (p y), sum_by-cons weight y (take i ys))
+
+pub count_whole : {A : Type 0} (p : A → Bool) (xs : List A) (i : ℕ) → i ≡ length xs → count_by p (take i xs) ≡ count_by p xs
+count_whole p xs i e = ap (count_by p) (ap (λ n. take n xs) e ∙ take-length xs)
+
 -- some element passes where a site does
 pub any_told : {A : Type 0} (p : A → Bool) (xs : List A) (s : ℕ) (x : A) → slice_get xs s ≡ Some x → p x ≡ true → list_any p xs ≡ true
 any_told p [] s x e h = absurd (cc)
@@ -104,3 +145,59 @@ each_pushed [] x n len h zero l = refl
 each_pushed [] x n len h (suc s) l = absurd (omega arith)
 each_pushed (y ∷ ys) x n len h zero l = h zero (omega arith)
 each_pushed (y ∷ ys) x n len h (suc s) l = each_pushed ys x (length ys) refl (λ (k : ℕ) (m : k < length ys). h (suc k) (omega arith)) s (omega arith)
+
+neither : (a b : Bool) → (a || b) ≡ false → (a ≡ false) × (b ≡ false)
+neither true b h = absurd (true≢false h)
+neither false b h = (refl, h)
+
+not_true : (b : Bool) → ((b ≡ true) → ⊥) → b ≡ false
+not_true true h = absurd (h refl)
+not_true false h = refl
+
+-- the elements before a place, with one more
+any_skip_at : {A : Type 0} (p : A → Bool) (xs : List A) (i : ℕ) (x : A) → slice_get xs i ≡ Some x → p x ≡ false → list_any p (take i xs) ≡ false → list_any p (take (suc i) xs) ≡ false
+any_skip_at p [] i x e h before = refl
+any_skip_at p (y ∷ ys) zero x e h before = ap (λ b. b || false) (subst (λ z. p z ≡ false) (sym (same_Some y x e)) h)
+any_skip_at p (y ∷ ys) (suc i) x e h before = subst (λ b. (b || list_any p (take (suc i) ys)) ≡ false) (sym (neither (p y) (list_any p (take i ys)) before).0) (any_skip_at p ys i x e h (neither (p y) (list_any p (take i ys)) before).1)
+
+all_more_at : {A : Type 0} (p : A → Bool) (xs : List A) (i : ℕ) (x : A) → slice_get xs i ≡ Some x → p x ≡ true → list_all p (take i xs) ≡ true → list_all p (take (suc i) xs) ≡ true
+all_more_at p [] i x e h before = refl
+all_more_at p (y ∷ ys) zero x e h before = ap (λ b. b && true) (subst (λ z. p z ≡ true) (sym (same_Some y x e)) h)
+all_more_at p (y ∷ ys) (suc i) x e h before = subst (λ b. (b && list_all p (take (suc i) ys)) ≡ true) (sym (and_parts (p y) (list_all p (take i ys)) before).0) (all_more_at p ys i x e h (and_parts (p y) (list_all p (take i ys)) before).1)
+
+pub any_skip : {A : Type 0} (p : A → Bool) (xs : List A) (i : ℕ) (x : A) → slice_get xs i ≡ Some x → p x ≡ false → list_any p (take i xs) ≡ false → list_any p (take (i + 1) xs) ≡ false
+any_skip p xs i x e h before =
+    let more : suc i ≡ i + 1 = omega arith in
+    subst (λ (k : ℕ). list_any p (take k xs) ≡ false) more (any_skip_at p xs i x e h before)
+
+pub all_more : {A : Type 0} (p : A → Bool) (xs : List A) (i : ℕ) (x : A) → slice_get xs i ≡ Some x → p x ≡ true → list_all p (take i xs) ≡ true → list_all p (take (i + 1) xs) ≡ true
+all_more p xs i x e h before =
+    let more : suc i ≡ i + 1 = omega arith in
+    subst (λ (k : ℕ). list_all p (take k xs) ≡ true) more (all_more_at p xs i x e h before)
+
+-- not all pass where one does not
+pub all_broken : {A : Type 0} (p : A → Bool) (xs : List A) (i : ℕ) (x : A) → slice_get xs i ≡ Some x → p x ≡ false → list_all p xs ≡ false
+all_broken p xs i x e h = not_true (list_all p xs) (λ all. true≢false (sym (all_at p xs i x all e) ∙ h))
+
+-- the elements before the last place are all
+pub any_whole : {A : Type 0} (p : A → Bool) (xs : List A) (i : ℕ) → i ≡ length xs → list_any p (take i xs) ≡ list_any p xs
+any_whole p xs i e = ap (list_any p) (ap (λ n. take n xs) e ∙ take-length xs)
+
+pub all_whole : {A : Type 0} (p : A → Bool) (xs : List A) (i : ℕ) → i ≡ length xs → list_all p (take i xs) ≡ list_all p xs
+all_whole p xs i e = ap (list_all p) (ap (λ n. take n xs) e ∙ take-length xs)
+
+-- some element passes where the count of those that do is above 0
+counts_any : (b : Bool) (any : Bool) (k : ℕ) → nat_lt 0 k ≡ any → nat_lt 0 (cond b 1 0 + k) ≡ (b || any)
+counts_any true any k h =
+    let above : nat_lt 0 (1 + k) ≡ true = grind (arith, nat_tests) in
+    above
+counts_any false any k h =
+    let same : k ≡ 0 + k = omega arith in
+    subst (λ (n : ℕ). nat_lt 0 n ≡ any) same h
+
+pub any_counted : {A : Type 0} (p : A → Bool) (xs : List A) → nat_lt 0 (count_by p xs) ≡ list_any p xs
+any_counted p [] = refl
+any_counted {A = A} p (y ∷ ys) =
+    let weight : A → ℕ = λ z. cond (p z) 1 0 in
+    let more : weight y + count_by p ys ≡ count_by p (y ∷ ys) = omega (arith, sum_by-cons weight y ys) in
+    subst (λ (n : ℕ). nat_lt 0 n ≡ list_any p (y ∷ ys)) more (counts_any (p y) (list_any p ys) (count_by p ys) (any_counted p ys))

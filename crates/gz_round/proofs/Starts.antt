@@ -1,29 +1,26 @@
 -- A call that begins stands for nothing having happened.
-use Rattle.std.proofs.Common.{◌≡◌, ℕ, ◌<◌, false, List, [], length, Option, Some, None, refl, sym, ap, ◌∙◌, arith}
+use Rattle.std.proofs.Common.{◌≡◌, ℕ, ◌<◌, List, [], length, Option, Some, None, refl, sym, ap, ◌∙◌, arith}
 use Rattle.std.specs.List.{slice_get}
 use Rattle.std.proofs.lemmas.Option.{none-some}
 use Rattle.gz_core.specs.Names.{Name}
 use Rattle.gz_core.specs.Rows.{RowAt}
 use Rattle.gz_core.specs.Calls.{key_of, own_value}
-use Rattle.gz_core.specs.declared.values.Value.{Value}
 use Rattle.gz_core.specs.declared.calls.Call.{Call}
-use Rattle.gz_core.specs.declared.calls.Phase.TheVariants.{Look as LookPhase}
 use Rattle.gz_config.specs.declared.Config.{Config}
 use Rattle.gz_round.specs.declared.run.Mark.{Mark}
-use Rattle.gz_round.specs.declared.run.Stage.TheVariants.{Look}
 use Rattle.gz_round.specs.History.{Asked, Caller, Tale}
 use Rattle.gz_round.specs.Rounds.{top_rounds}
 use Rattle.gz_round.specs.Following.{Ready}
-use Rattle.gz_round.specs.Starting.{fresh_mark}
+use Rattle.gz_round.specs.Starting.{fresh_mark, idle_run}
 
-pub start_ready : (c : Config) (w : Caller) (past : List Tale) (name : Name) (call : Call) (key : List ℕ) (own : Option Value) (rows : List (Option RowAt)) (marks : List Mark) (round : ℕ) → w.name ≡ name → w.call ≡ call → top_rounds past ≡ round → key ≡ key_of call → own ≡ own_value name call →
+pub start_ready : (c : Config) (w : Caller) (past : List Tale) (name : Name) (call : Call) (rows : List (Option RowAt)) (marks : List Mark) (round : ℕ) → w.name ≡ name → w.call ≡ call → top_rounds past ≡ round →
     length rows ≡ c.n → ((s : ℕ) → s < c.n → slice_get rows s ≡ Some None) → length marks ≡ c.n → ((s : ℕ) → s < c.n → slice_get marks s ≡ Some fresh_mark) →
-    Ready c w past (record { name = name; key = key; own = own; rows = rows; marks = marks; met = 0; voted = false; wrote = LookPhase; round = round; stage = Look }) []
-start_ready c w past name call key own rows marks round name_is call_is round_is key_is own_is rows_len rows_none marks_len marks_fresh = record {
+    Ready c w past (idle_run name call round rows marks) []
+start_ready c w past name call rows marks round name_is call_is round_is rows_len rows_none marks_len marks_fresh = record {
   stands = record {
     name_is = sym name_is;
-    key_is = key_is ∙ ap key_of (sym call_is);
-    own_is = own_is ∙ (ap (λ n. own_value n call) (sym name_is) ∙ ap (own_value w.name) (sym call_is));
+    key_is = ap key_of (sym call_is);
+    own_is = ap (λ n. own_value n call) (sym name_is) ∙ ap (own_value w.name) (sym call_is);
     knows = record { rows_len = rows_len; marks_len = marks_len; rows = rows_none; marks = marks_fresh };
     met_is = refl;
     voted_is = refl;

@@ -32,6 +32,7 @@ use Rattle.gz_round.specs.declared.run.Run.{Run}
 use Rattle.gz_round.specs.declared.run.Stage.{Stage}
 use Rattle.gz_round.specs.declared.run.Stage.TheVariants.{Look, Fast, Prepare, Accept}
 use Rattle.gz_round.specs.History.{Asked, Moment, Sent, Caller, Tale, IsEarlier, asked_of, sent_from}
+use Rattle.gz_round.specs.Steps.{IsStepOf}
 use Rattle.gz_round.specs.Sites.{site_now, known}
 use Rattle.gz_round.specs.Sent.{met}
 use Rattle.gz_round.specs.Shown.{heard_at, IsShown, IsCurrent}
@@ -162,6 +163,26 @@ noticed_from c w past run ms v x h own served s l kept quiet seen last other is_
     let settled : IsSettledBy w ms s seen (Some (Decide v x)) = subst (λ (z : Seen). IsSettledBy w ms s z (Some (Decide v x))) same k.3 in
     subst (λ (z : Value). HasNotice ms s (WriteRow (key_of w.call) seen.etag (Decide v z) (decided seen.row v z))) value (settled done).1
 
+-- the notice that the call's value is chosen is a step, which may be made
+vote_is_step : (v : ℕ) (own : Option Value) → 1 ≤ v → IsStepOf (vote_for v own)
+vote_is_step v None l = tt
+vote_is_step v (Some x) l = l
+
+notice_is_step : (v : ℕ) (own : Option Value) → 1 ≤ v → IsStepOf (notice_for v own)
+notice_is_step v None l = tt
+notice_is_step v (Some x) l = l
+
+pub finish_step : (run : Run) (v : ℕ) (step : Option RowStep) → 1 ≤ v → step ≡ notice_for v run.own → IsStepOf step
+finish_step run v step l is = subst IsStepOf (sym is) (notice_is_step v run.own l)
+
+pub finish_asks : (c : Config) (w : Caller) (past : List Tale) (run : Run) (ms : List Moment) (v : ℕ) (step : Option RowStep) → Finishes c w past run ms v → step ≡ notice_for v run.own → Asks c w past run ms step
+finish_asks c w past run ms v step f is =
+    let x : Value = f.own.0 in
+    let own : own_value w.name w.call ≡ Some x = f.own.1 in
+    let step_is : step ≡ Some (Decide v x) = is ∙ ap (notice_for v) (f.stands.own_is ∙ own) in
+    let shown : IsShown c ms v (name_of x) = subst (λ (n : Name). IsShown c ms v n) (sym (own_name w.name w.call x own)) f.shown in
+    record { stands = f.stands; may = subst (MayMakeOf c w past ms) (sym step_is) (shown, inl own); held = subst (HeldOf c w past ms) (sym step_is) tt }
+
 -- a call whose value is chosen, once the others were told
 pub finish_turned : (c : Config) (w : Caller) (past : List Tale) (run new : Run) (ms : List Moment) (first : ℕ) (sent : List Out) (v : ℕ) (step : Option RowStep) → Finishes c w past run ms v → step ≡ notice_for v run.own →
     (Asks c w past run ms step → Asks c w past new (sent_from first sent ms) step × AreServed c w (sent_from first sent ms) step) → Turned c w past new (sent_from first sent ms) (Some (Ok v))
@@ -169,8 +190,7 @@ finish_turned c w past run new ms first sent v step f is asked =
     let x : Value = f.own.0 in
     let own : own_value w.name w.call ≡ Some x = f.own.1 in
     let step_is : step ≡ Some (Decide v x) = is ∙ ap (notice_for v) (f.stands.own_is ∙ own) in
-    let shown : IsShown c ms v (name_of x) = subst (λ (n : Name). IsShown c ms v n) (sym (own_name w.name w.call x own)) f.shown in
-    let done = asked (record { stands = f.stands; may = subst (MayMakeOf c w past ms) (sym step_is) (shown, inl own); held = subst (HeldOf c w past ms) (sym step_is) tt }) in
+    let done = asked (finish_asks c w past run ms v step f is) in
     let served : AreServed c w (sent_from first sent ms) (Some (Decide v x)) = subst (AreServed c w (sent_from first sent ms)) step_is done.1 in
     (done.0.stands.allowed, (going_sent c first sent ms f.going, (x, own, shown_sent c v w.name first sent ms f.shown), noticed_from c w past new (sent_from first sent ms) v x done.0.stands own served), done.0.stands.round_is)
 
@@ -192,6 +212,13 @@ stage_may c w past run ms Look h s = tt
 stage_may c w past run ms (Fast v) h s = subst (λ o. MayMakeOf c w past ms (vote_for v o)) (sym (h.own_is ∙ s.1.1)) (s.1.1, s.0)
 stage_may c w past run ms (Prepare v b found) h s = s.0.works.promise
 stage_may c w past run ms (Accept v b x) h s = s.0
+
+-- it is a step
+stage_is_step : (c : Config) (w : Caller) (past : List Tale) (own : Option Value) (ms : List Moment) (stage : Stage) → StageStands c w past stage ms → IsStepOf (step_in stage own)
+stage_is_step c w past own ms Look s = tt
+stage_is_step c w past own ms (Fast v) s = vote_is_step v own s.0.above
+stage_is_step c w past own ms (Prepare v b found) s = (s.0.works.promise.above, s.0.works.promise.classic)
+stage_is_step c w past own ms (Accept v b x) s = (s.0.above, s.1.promise.classic)
 
 -- the phase holds what is kept while the step is made
 pub stage_held : (c : Config) (w : Caller) (past : List Tale) (run : Run) (ms : List Moment) (stage : Stage) → Stands c w past run ms → StageStands c w past stage ms → IsAheadIn run.rows stage → HeldOf c w past ms (step_in stage run.own)
@@ -303,6 +330,9 @@ pub record Stepped (c : Config) (w : Caller) (past : List Tale) (new : Run) (ms 
   pub stage : StageStands c w past new.stage ms
   pub going : IsGoing c ms
   pub served : AreServed c w ms step
+
+pub steps_step : (c : Config) (w : Caller) (past : List Tale) (run : Run) (ms : List Moment) (step : Option RowStep) → Steps c w past run ms → step ≡ stage_step run → IsStepOf step
+steps_step c w past run ms step p is = subst IsStepOf (sym is) (stage_is_step c w past run.own ms run.stage p.carries.acts.ready.stage)
 
 pub steps_ask : (c : Config) (w : Caller) (past : List Tale) (run : Run) (ms : List Moment) (step : Option RowStep) → Steps c w past run ms → step ≡ stage_step run → Asks c w past run ms step
 steps_ask c w past run ms step p is =

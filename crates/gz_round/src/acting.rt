@@ -12,7 +12,7 @@ ghost use Rattle.gz_round.specs.Following.{Ready, IsReady, Turned, HasTurned};
 
 use crate::choosing::Choice;
 use crate::following::Next;
-use crate::run::{Run, Stage};
+use crate::run::{Run, Stage, copy_of};
 use gz_core::{
     Answer, Ballot, Column, Config, Items, Out, Row, RowStep, SiteId, Turn, UnsureWhy, Value,
     Version, Vote,
@@ -196,7 +196,7 @@ impl Run {
         match &self.own {
             None => Ok(None),
             Some(value) => {
-                let value = value.clone()?;
+                let value = copy_of(value)?;
                 Ok(Some(RowStep::FastVote { version, value }))
             },
         }
@@ -209,7 +209,7 @@ impl Run {
         match &self.own {
             None => Ok(None),
             Some(value) => {
-                let value = value.clone()?;
+                let value = copy_of(value)?;
                 Ok(Some(RowStep::Decide { version, value }))
             },
         }
@@ -291,7 +291,7 @@ fn classic_vote(
 ) -> Result<Option<RowStep>, AllocError>
     ensures { IfOk result (λ step. step ≡ Some (RowStep.ClassicVote version ballot value.now)) }
 {
-    let value = value.clone()?;
+    let value = copy_of(value)?;
     Ok(Some(RowStep::ClassicVote {
         version,
         ballot,

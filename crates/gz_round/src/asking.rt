@@ -2,7 +2,7 @@
 ghost use Rattle.std.specs.Prelude.{◌≡◌, ◌≤◌, ◌<◌, ◌+◌, ◌^◌, ◌||◌, Bool, true, length, slice_get, slice_set, Option, Some, None, IfOk, OnOk};
 ghost use Rattle.gz_core.specs.Rows.{RowAt};
 ghost use Rattle.gz_round.specs.Steps.{IsStep, IsStepOf};
-ghost use Rattle.gz_round.specs.Asking.{asks_of, step_out, read_out, sent_run, phase_after, noted};
+ghost use Rattle.gz_round.specs.Asking.{asks_of, step_out, write_out, read_out, sent_run, phase_after, noted};
 ghost use Rattle.gz_round.specs.Sites.{written_by};
 ghost use Rattle.gz_round.specs.Sent.{vote_by, phase_by, promise_by, round_after, passes_sent};
 ghost use Rattle.gz_round.specs.declared.run.Mark.{Mark};
@@ -75,17 +75,45 @@ impl Run {
         let Some(step) = step else {
             return Ok(None);
         };
-        let Some(row) = made(row, step)? else {
-            return Ok(None);
-        };
-        let key = self.copy_key()?;
-        let awaited = !is_notice(step);
+        match made(row, step)? {
+            None => Ok(None),
+            Some(row) => self.write_row(at, etag, step, row),
+        }
+    }
+
+    /// The write of a row that a step made.
+    fn write_row(
+        &self,
+        at: usize,
+        expect: Option<Etag>,
+        step: &RowStep,
+        row: Row,
+    ) -> Result<Option<Out>, AllocError>
+        requires site { at < 16 }
+        ensures { IfOk result (λ out. out ≡ write_out self.now at expect step.now (Some row)) }
+    {
         let step = copy_of(step)?;
+        self.write_made(at, expect, step, row)
+    }
+
+    /// The write of a row, with the step that made it.
+    fn write_made(
+        &self,
+        at: usize,
+        expect: Option<Etag>,
+        step: RowStep,
+        row: Row,
+    ) -> Result<Option<Out>, AllocError>
+        requires site { at < 16 }
+        ensures { IfOk result (λ out. out ≡ write_out self.now at expect step (Some row)) }
+    {
+        let awaited = !is_notice(&step);
+        let key = self.copy_key()?;
         Ok(Some(Out {
             site: SiteId(at as u8),
             op: Op::WriteRow {
                 key,
-                expect: etag,
+                expect,
                 step,
                 row,
             },

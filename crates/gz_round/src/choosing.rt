@@ -17,7 +17,7 @@ ghost use Rattle.gz_round.specs.Choosing.{slot_vote, heard_vote, IsHeardIn, AreH
 
 use crate::acting::value_at;
 use crate::rounds::is_collected;
-use crate::run::{Run, Stage};
+use crate::run::{Run, Stage, copy_if_some, copy_of};
 use gz_core::{Ballot, Column, Config, Items, PutName, Row, SiteId, Value, Version, Vote};
 use gz_pick::heard::{Heard, Pick};
 use gz_pick::pick;
@@ -124,11 +124,8 @@ impl Run {
         ensures { IfOk result (λ value. value ≡ or_next self.now.own found.now) }
     {
         match &self.own {
-            None => found.clone(),
-            Some(value) => {
-                let value = value.clone()?;
-                Ok(Some(value))
-            },
+            None => copy_if_some(found),
+            Some(value) => Ok(Some(copy_of(value)?)),
         }
     }
 
@@ -192,7 +189,7 @@ fn copy_at(row: &Row, version: Version) -> Result<Value, AllocError>
 {
     match value_at(row, version) {
         None => unreachable!(),
-        Some(value) => value.clone(),
+        Some(value) => copy_of(value),
     }
 }
 

@@ -26,10 +26,7 @@ impl Run {
     pub fn waits(&self) -> bool
         ensures { result ≡ list_any (λ mark. is_some mark.awaited) self.now.marks }
     {
-        self.marks
-            .as_slice()
-            .iter()
-            .any(|mark| mark.awaited.is_some())
+        self.live_count() > 0
     }
 
     /// Whether no row that is known has a vote or a decision. Such a row has no floor either.
@@ -37,7 +34,7 @@ impl Run {
         ensures blank { result ≡ list_all is_blank_known self.now.rows }
         ensures top { result ≡ list_all is_topless self.now.rows }
     {
-        self.rows.as_slice().iter().all(|row| is_blank(row))
+        are_blank(self.rows.as_slice())
     }
 }
 
@@ -63,6 +60,18 @@ fn count_known(rows: &[Option<Row>]) -> usize
         }
     }
     count
+}
+
+fn are_blank(rows: &[Option<Row>]) -> bool
+    ensures blank { result ≡ list_all is_blank_known rows.now }
+    ensures top { result ≡ list_all is_topless rows.now }
+{
+    for row in rows {
+        if !is_blank(row) {
+            return false;
+        }
+    }
+    true
 }
 
 fn is_blank(row: &Option<Row>) -> bool

@@ -36,7 +36,12 @@ pub fn can_stand(row: &Row) -> bool
 fn columns_stand(columns: &[(Version, Column)]) -> bool
     ensures { result ≡ list_all entry_stands columns.now }
 {
-    columns.iter().all(|entry| entry_stands(entry))
+    for entry in columns {
+        if !entry_stands(entry) {
+            return false;
+        }
+    }
+    true
 }
 
 fn entry_stands(entry: &(Version, Column)) -> bool

@@ -12,7 +12,7 @@ ghost use Rattle.gz_round.specs.Choosing.{AreLastVotes};
 ghost use Rattle.gz_round.specs.Standing.{Stands};
 
 use crate::acting::value_of;
-use crate::run::Run;
+use crate::run::{Run, copy_of};
 use gz_core::{Column, Config, Row, Value, Version};
 use std::alloc::AllocError;
 
@@ -29,7 +29,7 @@ impl Run {
         if self.own.is_some() {
             return Ok(None);
         }
-        copy_of(self.lowest_vote(config, version))
+        copied(self.lowest_vote(config, version))
     }
 
     /// The value that the lowest site with a vote at a version votes for there.
@@ -63,15 +63,12 @@ impl Run {
 }
 
 /// A copy of a value, if there is one.
-fn copy_of(value: Option<&Value>) -> Result<Option<Value>, AllocError>
+fn copied(value: Option<&Value>) -> Result<Option<Value>, AllocError>
     ensures { IfOk result (λ copy. copy ≡ option_copied value.entry) }
 {
     match value {
         None => Ok(None),
-        Some(value) => {
-            let value = value.clone()?;
-            Ok(Some(value))
-        },
+        Some(value) => Ok(Some(copy_of(value)?)),
     }
 }
 

@@ -110,7 +110,12 @@ pub fn is_collected(row: &Row, version: Version) -> bool
 fn any_above(rows: &[Option<Row>], version: Version, ballot: Ballot) -> bool
     ensures { result ≡ list_any (above_known version ballot) rows.now }
 {
-    rows.iter().any(|row| is_above(row, version, ballot))
+    for row in rows {
+        if is_above(row, version, ballot) {
+            return true;
+        }
+    }
+    false
 }
 
 fn is_above(row: &Option<Row>, version: Version, ballot: Ballot) -> bool

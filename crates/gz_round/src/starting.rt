@@ -4,7 +4,7 @@ ghost use Rattle.gz_core.specs.Calls.{key_of, own_value};
 ghost use Rattle.gz_round.specs.History.{Caller, Tale};
 ghost use Rattle.gz_round.specs.Rounds.{top_rounds};
 ghost use Rattle.gz_round.specs.Following.{Ready};
-ghost use Rattle.gz_round.specs.Starting.{IsWithin, fresh_mark};
+ghost use Rattle.gz_round.specs.Starting.{IsWithin, fresh_mark, idle_run};
 
 use crate::run::{Mark, Run, Stage};
 use gz_core::{Call, Config, Items, Key, Phase, PutName, PutValue, Row, Value};
@@ -23,21 +23,30 @@ impl Run {
         ensures ready { IfOk result (λ run. (w : Caller) (past : List Tale) → w.name ≡ name → w.call ≡ call → top_rounds past ≡ round → Ready config.now w past run []) }
         ensures stage { IfOk result (λ run. run.stage ≡ Stage.Look) }
     {
-        let rows = no_rows(alloc, config.n as usize)?;
-        let marks = fresh_marks(alloc, config.n as usize)?;
+        let mut run = Run::idle(alloc, name, call, round);
+        run.rows = no_rows(alloc, config.n as usize)?;
+        run.marks = fresh_marks(alloc, config.n as usize)?;
+        Ok(run)
+    }
+
+    /// A call that knows no site yet.
+    fn idle(alloc: Global, name: PutName, call: Call, round: u32) -> Run
+        requires { IsWithin call }
+        ensures { result ≡ idle_run name call round [] [] }
+    {
         let (key, own) = parts(name, call);
-        Ok(Run {
+        Run {
             name,
             key,
             own,
-            rows,
-            marks,
+            rows: Items::new(alloc),
+            marks: Items::new(alloc),
             met: 0,
             voted: false,
             wrote: Phase::Look,
             round,
             stage: Stage::Look,
-        })
+        }
     }
 }
 

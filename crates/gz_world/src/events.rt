@@ -2,7 +2,6 @@
 use gz_core::{Answer, Call, PutName, Session};
 
 /// What may happen to the world. Requests and replies count from 1.
-#[derive(Drop)]
 pub enum Event {
     /// A new session opens: 1, 2, 3, ..
     OpenSession,
@@ -16,6 +15,22 @@ pub enum Event {
     GiveUp { n: u32 },
     /// A session does nothing any more.
     Crash { session: Session },
+}
+
+impl Drop for Event {
+    fn drop(self) {
+        match self {
+            Event::OpenSession => {},
+            Event::Begin {
+                session: _,
+                call: _,
+            } => {},
+            Event::Deliver { n: _ } => {},
+            Event::Reply { n: _, which: _ } => {},
+            Event::GiveUp { n: _ } => {},
+            Event::Crash { session: _ } => {},
+        }
+    }
 }
 
 /// Why an event is skipped.
@@ -56,7 +71,6 @@ pub struct Effect {
 
 /// An event in the journal, with what was told of it: the session, its last call and its lowest live request after
 /// the event, and the first request that was sent and how many were ((0, 0): none).
-#[derive(Drop)]
 pub struct Entry {
     pub event: Event,
     pub outcome: Outcome,
@@ -64,6 +78,19 @@ pub struct Entry {
     pub call: Option<PutName>,
     pub live: Option<u32>,
     pub sent: (u32, u32),
+}
+
+impl Drop for Entry {
+    fn drop(self) {
+        let Entry {
+            event: _,
+            outcome: _,
+            session: _,
+            call: _,
+            live: _,
+            sent: _,
+        } = self;
+    }
 }
 
 /// What is told of an event: the fields of its entry, its tick (its place in the journal, from 1), and the answer of

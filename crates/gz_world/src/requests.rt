@@ -8,7 +8,6 @@ use std::alloc::{AllocError, Global};
 /// A request: whose call sent it and at which tick, the site and the operation, and whether a reply was awaited when
 /// it was sent; the replies with their ticks; the tick at which a reply was handed to the client and that reply's
 /// number; and the tick at which the request was given up.
-#[derive(Drop)]
 pub struct Request {
     pub name: PutName,
     pub site: SiteId,
@@ -18,6 +17,21 @@ pub struct Request {
     pub replies: Vec<(u32, Reply)>,
     pub handed: Option<(u32, u32)>,
     pub given_up: Option<u32>,
+}
+
+impl Drop for Request {
+    fn drop(self) {
+        let Request {
+            name: _,
+            site: _,
+            op: _,
+            awaited: _,
+            tick: _,
+            replies: _,
+            handed: _,
+            given_up: _,
+        } = self;
+    }
 }
 
 impl Request {

@@ -11,11 +11,20 @@ use gz_site::Site;
 use std::alloc::Global;
 
 /// A session: its client, whether it has crashed, and the place of its last call among the world's calls.
-#[derive(Drop)]
 pub struct Member {
     pub client: Client,
     pub crashed: bool,
     pub last: Option<usize>,
+}
+
+impl Drop for Member {
+    fn drop(self) {
+        let Member {
+            client: _,
+            crashed: _,
+            last: _,
+        } = self;
+    }
 }
 
 /// The world. Request n stands at place n of `net`, session n at place n of `clients`, and the event of tick n at

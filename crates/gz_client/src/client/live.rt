@@ -57,7 +57,12 @@ fn copy_of_run(run: &Option<Run>) -> Result<Option<Run>, AllocError>
 fn any_awaits(marks: &[Mark], n: u32) -> bool
     ensures { result ≡ list_any (has_number n) marks.now }
 {
-    marks.iter().any(|mark| has_number(mark, n))
+    for mark in marks {
+        if has_number(mark, n) {
+            return true;
+        }
+    }
+    false
 }
 
 /// Whether request `n` is awaited from a site.

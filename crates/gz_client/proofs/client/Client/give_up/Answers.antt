@@ -1,23 +1,44 @@
 use Rattle.std.proofs.Common.{◌∷◌}
+use Rattle.std.proofs.lemmas.Result.{IfOk-weaker}
 use Rattle.gz_round.specs.History.{GaveUp}
 use Rattle.gz_round.proofs.Numbers.{numbered_gave_up}
 use Rattle.gz_client.specs.Tales.{CanBeTold}
-use Rattle.gz_client.proofs.Holding.{run_held, about, turned_extends}
+use Rattle.gz_client.proofs.Holding.{run_held, about, acted_extends, told_runs, told_site, can_hear}
 use Rattle.gz_client.proofs.client.Client.give_up.Goals as goal
+
+pub copy_run-requires : goal.copy_run-requires
+copy_run-requires c = told_runs c.args.self.now c.args.n c.args.first c.requires.told
+
+pub site_of-at-requires : goal.site_of-at-requires
+site_of-at-requires c = told_site c.args.self.now c.in_ok-run.run' c.args.n c.args.first c.in_ok-run.ensures c.requires.told
+
+pub note_give_up-requires-clause-rows : goal.note_give_up-requires-clause-rows
+note_give_up-requires-clause-rows c = (can_hear c.args.self.now c.in_ok-run.run' c.args.n c.args.first c.site_of-at.result c.in_ok-run.ensures c.site_of-at.ensures c.requires.told).rows
+
+pub note_give_up-requires-clause-marks : goal.note_give_up-requires-clause-marks
+note_give_up-requires-clause-marks c = (can_hear c.args.self.now c.in_ok-run.run' c.args.n c.args.first c.site_of-at.result c.in_ok-run.ensures c.site_of-at.ensures c.requires.told).marks
+
+pub act-requires-clause-config : goal.act-requires-clause-config
+act-requires-clause-config c =
+    let k : CanBeTold c.args.self.now c.args.n c.args.first = c.requires.told in
+    k.4.sizes
 
 pub act-requires-clause-ready : goal.act-requires-clause-ready
 act-requires-clause-ready c =
     let k : CanBeTold c.args.self.now c.args.n c.args.first = c.requires.told in
-    let t = k.1 in
-    let ts = k.2 in
-    let a = k.3 in
     let i = about c.args.self.now c.in_ok-run.run' c.args.n c.args.first c.site_of-at.result k.0 k.1 k.2 k.3 c.in_ok-run.ensures c.site_of-at.ensures k.4 k.5 in
-    (t.caller, ts, (GaveUp a) ∷ t.moments, c.note_give_up.ensures c.args.self.now.config t.caller ts t.moments a i.inside i.awaits i.ready)
+    (k.1.caller, k.2, (GaveUp k.3) ∷ k.1.moments, c.note_give_up.ensures c.args.self.now.config k.1.caller k.2 k.1.moments k.3 i.inside i.awaits i.ready)
 
 pub returns-clause-ok : goal.returns-clause-ok
-returns-clause-ok c = λ next t ts a h awaited l.
+returns-clause-ok c =
+    IfOk-weaker c.act.result _ _ (λ turn acted. λ next t ts a h awaited l.
     let k = run_held c.args.self.now next t ts c.in_ok-run.run' c.in_ok-run.ensures h in
     let i = about c.args.self.now c.in_ok-run.run' c.args.n c.args.first c.site_of-at.result next t ts a c.in_ok-run.ensures c.site_of-at.ensures h awaited in
-    let ready = c.note_give_up.ensures c.args.self.now.config t.caller ts t.moments a i.inside i.awaits i.ready in
-    turned_extends c.args.self.now c.in_ok-run.run' c.act.new.self c.args.first c.in_ok-turn.turn (GaveUp a) next t ts c.going_on.result c.in_ok-run.ensures c.going_on.ensures h
-    (numbered_gave_up c.args.self.now.config t.moments a next c.args.first l k.numbered) (c.in_ok-turn.ensures t.caller ts ((GaveUp a) ∷ t.moments) ready)
+    acted_extends c.args.self.now c.act.new.self c.in_ok-run.run' c.note_give_up.new.self c.args.first turn (GaveUp a) next t ts c.in_ok-run.ensures acted h
+    (numbered_gave_up c.args.self.now.config t.moments a next c.args.first l k.numbered) (c.note_give_up.ensures c.args.self.now.config t.caller ts t.moments a i.inside i.awaits i.ready)) c.act.ensures.ok
+
+pub returns-clause-same : goal.returns-clause-same
+returns-clause-same c = c.act.ensures.same
+
+pub returns-clause-err : goal.returns-clause-err
+returns-clause-err c = c.act.ensures.err

@@ -1,3 +1,4 @@
+use Rattle.gz_round.proofs.Passes.{inside_rows, inside_marks}
 use Rattle.std.proofs.Common.{◌≡◌, subst, arith}
 use Rattle.gz_round.proofs.Passes.{Going, going_none, going_more, going_all}
 use Rattle.gz_round.proofs.run.Run.ask_all.Goals as goal
@@ -12,3 +13,34 @@ pub returns-clause-asked : goal.returns-clause-asked
 returns-clause-asked c =
     let done : c.loop-at.at ≡ c.args.config.now.n = omega arith in
     going_all c.args.config.now c.args.self.now c.loop-at.self c.args.step.now c.args.first c.args.send.now c.loop-at.send (subst (Going c.args.config.now c.args.self.now c.loop-at.self c.args.step.now c.args.first c.args.send.now c.loop-at.send) done c.loop-at.invariant)
+
+pub ask-requires-clause-site : goal.ask-requires-clause-site
+ask-requires-clause-site c =
+    let sites = c.requires.config.sites in
+    omega arith
+
+pub ask-requires-clause-rows : goal.ask-requires-clause-rows
+ask-requires-clause-rows c = omega (arith, inside_rows c.args.config.now c.args.self.now c.loop-at.self c.args.step.now c.args.first c.args.send.now c.loop-at.send c.loop-at.at c.requires.asks c.loop-at.invariant)
+
+pub ask-requires-clause-marks : goal.ask-requires-clause-marks
+ask-requires-clause-marks c = omega (arith, inside_marks c.args.config.now c.args.self.now c.loop-at.self c.args.step.now c.args.first c.args.send.now c.loop-at.send c.loop-at.at c.requires.asks c.loop-at.invariant)
+
+pub ask-requires-clause-step : goal.ask-requires-clause-step
+ask-requires-clause-step c = c.requires.step
+
+pub ask-requires-clause-first : goal.ask-requires-clause-first
+ask-requires-clause-first c = c.requires.first
+
+pub ask-requires-clause-few : goal.ask-requires-clause-few
+ask-requires-clause-few c =
+    let sites = c.requires.config.sites in
+    let few = c.loop-at.invariant.few in
+    omega (arith, c.requires.few)
+
+pub returns-clause-left : goal.returns-clause-left
+returns-clause-left c = c.loop-at.invariant.left
+
+pub returns-clause-few : goal.returns-clause-few
+returns-clause-few c =
+    let few = c.loop-at.invariant.few in
+    omega arith

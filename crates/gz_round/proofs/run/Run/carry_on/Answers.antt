@@ -1,3 +1,4 @@
+use Rattle.std.proofs.Common.{ap, length, arith, ◌∙◌}
 use Rattle.std.proofs.Common.{sym, subst}
 use Rattle.std.proofs.lemmas.Result.{IfOk-weaker}
 use Rattle.gz_round.specs.History.{sent_from}
@@ -20,3 +21,26 @@ returns-then-is_overtaken c =
     IfOk-weaker c.prepare.result _ _ (λ turn h. λ w past ms p.
     h w past ms (subst (λ outs. Prepares c.args.config.now w past c.args.self.now (sent_from c.args.first outs ms) c.working-version.result) (sym c.new.ensures)
     (subst (Prepares c.args.config.now w past c.args.self.now ms) (sym c.working-version.ensures) (overtaken_prepares c.args.config.now w past c.args.self.now ms p (cc))))) c.prepare.ensures
+
+pub prepare-requires-clause-config : goal.prepare-requires-clause-config
+prepare-requires-clause-config c = c.requires.config
+
+pub prepare-requires-clause-first : goal.prepare-requires-clause-first
+prepare-requires-clause-first c = c.requires.first
+
+pub prepare-requires-clause-few : goal.prepare-requires-clause-few
+prepare-requires-clause-few c = omega (arith, ap length c.new.ensures)
+
+pub make_step-requires-clause-config : goal.make_step-requires-clause-config
+make_step-requires-clause-config c = c.requires.config
+
+pub make_step-requires-clause-first : goal.make_step-requires-clause-first
+make_step-requires-clause-first c = c.requires.first
+
+pub make_step-requires-clause-steps : goal.make_step-requires-clause-steps
+make_step-requires-clause-steps c =
+    let k : CanCarry c.args.config.now c.args.self.now = c.requires.carries in
+    (k.0, k.1, k.2, record { carries = k.3; ahead = sym c.is_overtaken.ensures ∙ c.if-is_overtaken.false })
+
+pub returns : goal.returns
+returns c = IfOk-weaker c.make_step.result _ _ (λ turn h. λ w past ms p. h w past ms (record { carries = p; ahead = sym c.is_overtaken.ensures ∙ c.if-is_overtaken.false })) c.make_step.ensures

@@ -1,18 +1,45 @@
 use Rattle.std.proofs.Common.{[], refl, inl}
+use Rattle.std.proofs.lemmas.Option.{slice_get_within}
 use Rattle.std.proofs.lemmas.Result.{IfOk-weaker}
 use Rattle.gz_round.specs.Acting.{CanFollow}
 use Rattle.gz_round.proofs.Arms.{votes_acts, learnt_has, learnt_cause}
 use Rattle.gz_round.proofs.run.Run.follow.Goals as goal
+
+pub next-requires-clause-config : goal.next-requires-clause-config
+next-requires-clause-config c = c.requires.config
+
+pub next-requires-clause-ready : goal.next-requires-clause-ready
+next-requires-clause-ready c =
+    let k : CanFollow c.args.config.now c.args.self.now = c.requires.follows in
+    (k.0, k.1, k.2, k.3)
+
+pub go_on-requires-clause-config : goal.go_on-requires-clause-config
+go_on-requires-clause-config c = c.requires.config
+
+pub go_on-requires-clause-first : goal.go_on-requires-clause-first
+go_on-requires-clause-first c = c.requires.first
 
 pub go_on-requires-clause-acts : goal.go_on-requires-clause-acts
 go_on-requires-clause-acts c =
     let k : CanFollow c.args.config.now c.args.self.now = c.requires.follows in
     (k.0, k.1, k.2, record { ready = k.3; going = k.4; unmet = c.in-Wait.ensures k.0 k.1 k.2 k.3 })
 
+pub go_on-requires-in-Vote-clause-config : goal.go_on-requires-in-Vote-clause-config
+go_on-requires-in-Vote-clause-config c = c.requires.config
+
+pub go_on-requires-in-Vote-clause-first : goal.go_on-requires-in-Vote-clause-first
+go_on-requires-in-Vote-clause-first c = c.requires.first
+
 pub go_on-requires-in-Vote-clause-acts : goal.go_on-requires-in-Vote-clause-acts
 go_on-requires-in-Vote-clause-acts c =
     let k : CanFollow c.args.config.now c.args.self.now = c.requires.follows in
     (k.0, k.1, k.2, votes_acts c.args.config.now k.0 k.1 c.args.self.now k.2 c.in-Vote.version k.3 k.4 (c.in-Vote.ensures k.0 k.1 k.2 k.3))
+
+pub finish-requires-clause-config : goal.finish-requires-clause-config
+finish-requires-clause-config c = c.requires.config
+
+pub finish-requires-clause-first : goal.finish-requires-clause-first
+finish-requires-clause-first c = c.requires.first
 
 pub finish-requires-clause-finishes : goal.finish-requires-clause-finishes
 finish-requires-clause-finishes c =
@@ -20,10 +47,46 @@ finish-requires-clause-finishes c =
     let n = c.in-Chosen.ensures k.0 k.1 k.2 k.3 in
     (k.0, k.1, k.2, record { stands = k.3.stands; going = k.4; above = n.0; shown = n.1; own = n.2 })
 
+pub told-requires-clause-site : goal.told-requires-clause-site
+told-requires-clause-site c =
+    let k : CanFollow c.args.config.now c.args.self.now = c.requires.follows in
+    let f = c.in-Learnt.ensures k.0 k.1 k.2 k.3 in
+    slice_get_within c.args.self.now.rows c.in-Learnt.site _ f.known
+
 pub told-requires-clause-known : goal.told-requires-clause-known
 told-requires-clause-known c =
     let k : CanFollow c.args.config.now c.args.self.now = c.requires.follows in
     learnt_has c.args.config.now k.0 c.args.self.now k.2 c.in-Learnt.version c.in-Learnt.site (c.in-Learnt.ensures k.0 k.1 k.2 k.3)
+
+pub close-requires-clause-config : goal.close-requires-clause-config
+close-requires-clause-config c = c.requires.config
+
+pub close-requires-clause-first : goal.close-requires-clause-first
+close-requires-clause-first c = c.requires.first
+
+pub close-requires-clause-kept : goal.close-requires-clause-kept
+close-requires-clause-kept c =
+    let k : CanFollow c.args.config.now c.args.self.now = c.requires.follows in
+    (k.0, k.1, k.2, k.3.stands)
+
+pub close-requires-in-Absent-clause-config : goal.close-requires-in-Absent-clause-config
+close-requires-in-Absent-clause-config c = c.requires.config
+
+pub close-requires-in-Absent-clause-first : goal.close-requires-in-Absent-clause-first
+close-requires-in-Absent-clause-first c = c.requires.first
+
+pub close-requires-in-Absent-clause-kept : goal.close-requires-in-Absent-clause-kept
+close-requires-in-Absent-clause-kept c =
+    let k : CanFollow c.args.config.now c.args.self.now = c.requires.follows in
+    (k.0, k.1, k.2, k.3.stands)
+
+pub returns-in-Wait : goal.returns-in-Wait
+returns-in-Wait c = IfOk-weaker c.go_on.result _ _ (λ turn p. λ w past ms r going. p w past ms (record { ready = r; going = going; unmet = c.in-Wait.ensures w past ms r })) c.go_on.ensures
+
+pub returns-in-Vote : goal.returns-in-Vote
+returns-in-Vote c =
+    IfOk-weaker c.go_on-in-Vote.result _ _ (λ turn p. λ w past ms r going.
+    p w past ms (votes_acts c.args.config.now w past c.args.self.now ms c.in-Vote.version r going (c.in-Vote.ensures w past ms r))) c.go_on-in-Vote.ensures
 
 pub returns-in_ok-answer-in-Learnt : goal.returns-in_ok-answer-in-Learnt
 returns-in_ok-answer-in-Learnt c =
@@ -36,3 +99,8 @@ returns-in-Chosen c =
     IfOk-weaker c.finish.result _ _ (λ turn p. λ w past ms r going.
     let n = c.in-Chosen.ensures w past ms r in
     ([], inl refl, p w past ms (record { stands = r.stands; going = going; above = n.0; shown = n.1; own = n.2 }))) c.finish.ensures
+
+pub returns-in-Absent : goal.returns-in-Absent
+returns-in-Absent c =
+    IfOk-weaker c.close-in-Absent.result _ _ (λ turn p. λ w past ms r going.
+    ([], inl refl, p w past ms r.stands ((going, c.in-Absent.ensures w past ms r), tt))) c.close-in-Absent.ensures

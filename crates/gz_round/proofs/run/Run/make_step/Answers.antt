@@ -1,3 +1,5 @@
+use Rattle.std.proofs.Common.{arith}
+use Rattle.gz_round.proofs.Turns.{steps_step}
 use Rattle.std.proofs.lemmas.Result.{IfOk-weaker}
 use Rattle.gz_round.specs.Acting.{CanStep}
 use Rattle.gz_round.proofs.Turns.{steps_ask, stepped_from, stepped_runs, stepped_out}
@@ -29,3 +31,26 @@ returns c =
     h w past ms (stepped_out c.args.config.now w past c.args.self.now c.first_pass.new.self ms c.args.first c.in_ok-send.send c.in_ok-step.step p c.in_ok-step.ensures c.in_ok-send.ensures.left
     (stepped_from c.args.config.now w past c.args.self.now c.first_pass.new.self ms c.args.first c.in_ok-send.send c.in_ok-step.step p c.in_ok-step.ensures (c.in_ok-send.ensures.asked w past ms) c.in_ok-send.ensures.left)
     (cc))) c.run_out.ensures
+
+pub first_pass-requires-clause-config : goal.first_pass-requires-clause-config
+first_pass-requires-clause-config c = c.requires.config
+
+pub first_pass-requires-clause-first : goal.first_pass-requires-clause-first
+first_pass-requires-clause-first c = c.requires.first
+
+pub first_pass-requires-clause-step : goal.first_pass-requires-clause-step
+first_pass-requires-clause-step c =
+    let k : CanStep c.args.config.now c.args.self.now = c.requires.steps in
+    steps_step c.args.config.now k.0 k.1 c.args.self.now k.2 c.in_ok-step.step k.3 c.in_ok-step.ensures
+
+pub run_out-requires-clause-config : goal.run_out-requires-clause-config
+run_out-requires-clause-config c = c.requires.config
+
+pub run_out-requires-clause-first : goal.run_out-requires-clause-first
+run_out-requires-clause-first c = c.requires.first
+
+pub run_out-requires-clause-few : goal.run_out-requires-clause-few
+run_out-requires-clause-few c =
+    let few = c.in_ok-send.ensures.few in
+    let sites = c.requires.config.sites in
+    omega arith
