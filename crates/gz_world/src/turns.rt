@@ -23,17 +23,26 @@ use crate::requests::{Request, send_all};
 use crate::weights::{call_bytes, outs_weight};
 use crate::world::{Member, World};
 use gz_client::Client;
-use gz_core::{Answer, Call, Out, PutName, Reply, Session, Turn};
+use gz_core::{Call, Out, PutName, Reply, Session, Turn};
 use gz_history::CallRec;
 use gz_site::Site;
 use std::alloc::{AllocError, Global};
 
 /// A turn that was made on a copy of a session's client: the client after it, the turn, and what is told of it.
-#[derive(Drop)]
 struct Moved {
     client: Client,
     turn: Turn,
     effect: Effect,
+}
+
+impl Drop for Moved {
+    fn drop(self) {
+        let Moved {
+            client: _,
+            turn: _,
+            effect: _,
+        } = self;
+    }
 }
 
 impl Moved {
@@ -53,6 +62,20 @@ impl Moved {
             turn,
             effect,
         })
+    }
+
+    /// The client, the turn, and what is told of it.
+    fn into_parts(self) -> (Client, Turn, Effect)
+        ensures client { result.0 ≡ self.client }
+        ensures turn { result.1 ≡ self.turn }
+        ensures told { result.2 ≡ self.effect }
+    {
+        let Moved {
+            client,
+            turn,
+            effect,
+        } = self;
+        (client, turn, effect)
     }
 }
 
@@ -212,6 +235,19 @@ impl<S: Site> World<S> {
         self.net.reserve(more)
     }
 
+    /// Makes room for a call that begins and for the requests that its turn sends, and copies the call.
+    fn make_room_for(&mut self, call: &Call, more: usize) -> Result<Call, AllocError>
+        ensures same { IsSameWorld self.old self.new }
+        ensures copy { IfOk result (λ copy. copy ≡ call.now) }
+        ensures room { OnOk result (vec_len self.new.net + more ≤ vec_capacity self.new.net) }
+        ensures calls { OnOk result (vec_len self.new.calls < vec_capacity self.new.calls) }
+        ensures clients { self.new.clients ≡ self.old.clients }
+    {
+        self.calls.reserve(1)?;
+        self.make_room(more)?;
+        copy_of_call(call)
+    }
+
     /// Sends the requests of a turn, and puts the client after it in its place. Takes no memory.
     fn settle(
         &mut self,
@@ -247,11 +283,7 @@ impl<S: Site> World<S> {
             → WentOn self.old self.new session tick m last c moved.client moved.turn }
         ensures told { result ≡ moved.effect }
     {
-        let Moved {
-            client,
-            turn,
-            effect,
-        } = moved;
+        let (client, turn, effect) = moved.into_parts();
         let last = self.last_place(session);
         let name = item_at(self.calls.as_slice(), last).name;
         end_call(&mut self.calls, last, tick, turn.answer);
@@ -327,11 +359,9 @@ impl<S: Site> World<S> {
         let tick = self.next_tick();
         let first = self.next_number();
         let name = self.next_name(session);
-        self.calls.reserve(1)?;
         let client = &self.member_of(session).client;
         let moved = begun(self.alloc, session, client, call, first)?;
-        self.make_room(moved.turn.send.len())?;
-        let call = copy_of_call(call)?;
+        let call = self.make_room_for(call, moved.turn.send.len())?;
         Ok(self.start(session, name, tick, call, moved))
     }
 
@@ -351,11 +381,7 @@ impl<S: Site> World<S> {
         ensures started { (m : Member) → slice_get self.old.clients.items (session - 1) ≡ Some m → Started self.old self.new session name tick call m moved.client moved.turn }
         ensures told { result ≡ moved.effect }
     {
-        let Moved {
-            client,
-            turn,
-            effect,
-        } = moved;
+        let (client, turn, effect) = moved.into_parts();
         let last = self.calls.len();
         self.held = self.held.saturating_add(call_bytes(&call));
         let end = end_at(tick, &turn.answer);

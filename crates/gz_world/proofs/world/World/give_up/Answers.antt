@@ -1,13 +1,41 @@
-use Rattle.std.proofs.Common.{◌≡◌, ◌+◌, ◌-◌, ◌∙◌, sym, ap, subst, refl, Some, map, length}
+use Rattle.std.proofs.Common.{◌≡◌, ◌+◌, ◌-◌, ◌<◌, ◌≤◌, ◌∙◌, sym, ap, subst, refl, Some, map, length}
 use Rattle.std.specs.Prelude.{slice_get, slice_set, option_map}
 use Rattle.std.proofs.lemmas.Option.{slice_get-map}
+use Rattle.std.proofs.lemmas.List.{length-map}
+use Rattle.gz_client.specs.Tales.{CanBeTold}
 use Rattle.gz_round.specs.History.{GaveUp}
 use Rattle.gz_world.specs.States.{RequestAt, request_of, with_given_up}
 use Rattle.gz_world.specs.Turns.{HasCall, WentOn, effect_of}
-use Rattle.gz_world.proofs.Places.{get_there}
+use Rattle.gz_world.proofs.Places.{get_below, get_there}
 use Rattle.gz_world.proofs.Members.{place_numbered}
 use Rattle.gz_world.proofs.Finishing.{told_parts}
 use Rattle.gz_world.proofs.world.World.give_up.Goals as goal
+
+pub member_of-requires : goal.member_of-requires
+member_of-requires g c =
+    let told = c.requires.told c.request_at-request.result.now c.request_at-request.ensures in
+    subst (λ s. s ≤ length c.args.self.now.clients.items) (sym c.asker-session.ensures) told.opened
+
+pub given_up-requires-clause-told : goal.given_up-requires-clause-told
+given_up-requires-clause-told g c =
+    let told = c.requires.told c.request_at-request.result.now c.request_at-request.ensures in
+    let m = c.member_of.result.now in
+    subst (CanBeTold m.client c.args.n) (sym c.next_number-first.ensures.same)
+    (told.tells m (subst (λ s. slice_get c.args.self.now.clients.items (s - 1) ≡ Some m) c.asker-session.ensures c.member_of.ensures.there))
+
+pub give_up_at-requires : goal.give_up_at-requires
+give_up_at-requires g c =
+    let old = c.args.self.now in
+    let room = c.make_room.new.self in
+    let r : RequestAt = request_of c.request_at-request.result.now in
+    let at : slice_get (map request_of old.net.items) (c.args.n - 1) ≡ Some r = slice_get-map request_of old.net.items (c.args.n - 1) ∙ ap (option_map request_of) c.request_at-request.ensures in
+    let mid : slice_get (map request_of room.net.items) (c.args.n - 1) ≡ Some r = subst (λ xs. slice_get xs (c.args.n - 1) ≡ Some r) (sym c.make_room.ensures.same.net) at in
+    subst (λ k. c.args.n - 1 < k) (length-map room.net.items request_of) (get_below (map request_of room.net.items) (c.args.n - 1) r mid)
+
+pub go_on-requires-clause-opened : goal.go_on-requires-clause-opened
+go_on-requires-clause-opened g c =
+    let told = c.requires.told c.request_at-request.result.now c.request_at-request.ensures in
+    subst (λ v. c.asker-session.result ≤ length v.items) (sym c.make_room.ensures.clients) (subst (λ s. s ≤ length c.args.self.now.clients.items) (sym c.asker-session.ensures) told.opened)
 
 pub go_on-requires-clause-running : goal.go_on-requires-clause-running
 go_on-requires-clause-running g c =
