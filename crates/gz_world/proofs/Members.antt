@@ -1,6 +1,7 @@
 -- What the world knows of a session by its number.
 use Rattle.std.proofs.Common.{◌≡◌, ℕ, zero, suc, ◌+◌, ◌-◌, ◌<◌, ◌≤◌, ◌⊎◌, inl, inr, List, [], ◌∷◌, Some, None, Bool, true, false, length, map, refl, ap, sym, ◌∙◌, subst, arith}
 use Rattle.std.proofs.lemmas.Bool.Decides.{nat_tests}
+use Rattle.std.proofs.lemmas.Option.{slice_get-map}
 use Rattle.gz_world.specs.Steps.{last_name, name_at}
 use Rattle.std.specs.Prelude.{Option, IsSome, option_map, ◌==◌, if◌then◌else◌, ◌↔◌, IsTrue, is_none, slice_get}
 use Rattle.std.specs.Option.{ForSome, option_map_or}
@@ -41,6 +42,25 @@ none_past (x ∷ xs) (suc i) h = elim (none_past xs i h) [ inl e ↦ absurd (ome
 pub positive_by : {A : Type 0} (xs : List A) (n : ℕ) → IsSome (numbered xs n) → 1 ≤ n
 positive_by xs zero h = cc
 positive_by xs (suc n) h = omega arith
+
+-- and its place is within the list
+within : {A : Type 0} (xs : List A) (i : ℕ) → IsSome (slice_get xs i) → i < length xs
+within [] i h = cc
+within (x ∷ xs) zero h = omega arith
+within (x ∷ xs) (suc i) h = let k = within xs i h in omega (arith, k)
+
+pub within_by : {A : Type 0} (xs : List A) (n : ℕ) → IsSome (numbered xs n) → n - 1 < length xs
+within_by xs zero h = cc
+within_by xs (suc n) h = let e : suc n - 1 ≡ n = omega arith in subst (λ k. k < length xs) (sym e) (within xs n (subst IsSome (numbered_suc xs n) h))
+
+-- what a number finds, in the list that a map makes
+pub mapped_there : {A B : Type 0} (f : A → B) (xs : List A) (n : ℕ) (x : A) → Some x ≡ numbered xs n → Some (f x) ≡ numbered (map f xs) n
+mapped_there f xs zero x h = cc
+mapped_there f xs (suc n) x h = sym (numbered_suc (map f xs) n ∙ slice_get-map f xs n ∙ ap (option_map f) (sym (numbered_suc xs n) ∙ sym h))
+
+pub mapped_none : {A B : Type 0} (f : A → B) (xs : List A) (n : ℕ) → None ≡ numbered xs n → None ≡ numbered (map f xs) n
+mapped_none f xs zero h = refl
+mapped_none f xs (suc n) h = sym (numbered_suc (map f xs) n ∙ slice_get-map f xs n ∙ ap (option_map f) (sym (numbered_suc xs n) ∙ sym h))
 
 -- where there is none, the number is 0 or above the length
 pub numbered_none : {A : Type 0} (xs : List A) (n : ℕ) → None ≡ numbered xs n → (n ≡ 0) ⊎ (length xs < n)

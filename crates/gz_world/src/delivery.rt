@@ -3,7 +3,7 @@ ghost use Rattle.std.specs.Prelude.{◌≡◌, ℕ, ◌+◌, ◌-◌, ◌<◌, �
 ghost use Rattle.gz_core.specs.declared.requests.RowStep.{RowStep};
 ghost use Rattle.gz_site.specs.Many.{told_at, TellsAt, CauseAt, OthersStay};
 ghost use Rattle.gz_model.specs.declared.casts.Cast.{Cast};
-ghost use Rattle.gz_world.specs.Audit.{with_casts, is_known};
+ghost use Rattle.gz_world.specs.Audit.{casts_of, with_casts, is_known};
 ghost use Rattle.gz_world.specs.States.{RequestAt, request_of, numbered, with_reply};
 ghost use Rattle.gz_world.specs.Steps.{Answers, IsReplyTo, casts_in, quiet};
 ghost use Rattle.gz_world.specs.Deliveries.{IsCounted, IsCountedFor, HasRoomAt, casts_written, read_reply, write_reply, AreTheSame, WasDelivered, IsSameTold};
@@ -115,6 +115,24 @@ fn audit_write(casts: &mut Casts, fresh: Vec<Cast>, written: RowWrite) -> Reply
     }
 }
 
+/// The votes that a row shows which is about to be written, with the memory that the audit list needs for them.
+fn prepared(
+    alloc: Global,
+    casts: &mut Casts,
+    site: SiteId,
+    key: &Key,
+    row: &Row,
+) -> Result<Vec<Cast>, AllocError>
+    ensures fresh { IfOk result (λ fresh. fresh.items ≡ casts_of site key.now row.now) }
+    ensures list { casts.new.list.items ≡ casts.old.list.items }
+    ensures room { IfOk result (λ fresh. vec_len casts.new.list + length fresh.items ≤ vec_capacity casts.new.list) }
+    ensures known { IfOk result (λ fresh. All (λ c. is_known casts.new.index.entries c ≡ true) fresh.items) }
+{
+    let fresh = casts_of(alloc, site, key, row)?;
+    casts.prepare(fresh.as_slice())?;
+    Ok(fresh)
+}
+
 /// Writes a row at a site.
 fn write<S: Site>(
     alloc: Global,
@@ -135,8 +153,7 @@ fn write<S: Site>(
     ensures others { OthersStay sites.old.items site sites.new.items }
     ensures fault { IfOk result (λ reply. IsCounted S.faults sites.old.items site sites.new.items reply) }
 {
-    let fresh = casts_of(alloc, site, key, row)?;
-    casts.prepare(fresh.as_slice())?;
+    let fresh = prepared(alloc, casts, site, key, row)?;
     match write_at(alloc, sites, site.index(), key, expect, row) {
         Ok(written) => Ok(audit_write(casts, fresh, written)),
         Err(SiteFault::Failed) => Ok(Reply::Failed),
@@ -171,26 +188,6 @@ fn perform<S: Site>(
             ..
         } => write(alloc, sites, casts, site, key, *expect, row),
     }
-}
-
-/// Performs a request at its site.
-fn performed<S: Site>(
-    alloc: Global,
-    sites: &mut Vec<S>,
-    casts: &mut Casts,
-    request: &Request,
-) -> Result<Reply, AllocError>
-    requires { request.now.site < length sites.old.items }
-    ensures kind { IfOk result (λ reply. IsReplyTo request.now.op reply) }
-    ensures step { IfOk result (λ reply. TellsAt S.told sites.old.items request.now.site sites.new.items (λ old new. Answers old request.now.op reply new)) }
-    ensures audit { IfOk result (λ reply. casts.new.list.items ≡ with_casts casts.old.list.items (casts_in request.now.site request.now.op reply)) }
-    ensures same { OnErr result (TellsAt S.told sites.old.items request.now.site sites.new.items (λ old new. new ≡ old)) }
-    ensures err { OnErr result (casts.new.list.items ≡ casts.old.list.items) }
-    ensures len { length sites.new.items ≡ length sites.old.items }
-    ensures others { OthersStay sites.old.items request.now.site sites.new.items }
-    ensures fault { IfOk result (λ reply. IsCounted S.faults sites.old.items request.now.site sites.new.items reply) }
-{
-    perform(alloc, sites, casts, request.site, &request.op)
 }
 
 /// Makes room for one more reply of a request.
@@ -240,7 +237,13 @@ impl<S: Site> World<S> {
         make_room_at(&mut self.net, at)?;
         let request = item_at(self.net.as_slice(), at);
         let session = request.asker();
-        let reply = performed(self.alloc, &mut self.sites, &mut self.casts, request)?;
+        let reply = perform(
+            self.alloc,
+            &mut self.sites,
+            &mut self.casts,
+            request.site,
+            &request.op,
+        )?;
         self.held = self.held.saturating_add(reply_weight(&reply));
         keep_at(&mut self.net, at, tick, reply);
         Ok(quiet(Outcome::Done, Some(session)))

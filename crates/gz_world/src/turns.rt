@@ -9,7 +9,7 @@ ghost use Rattle.gz_round.specs.Starting.{IsWithin};
 ghost use Rattle.gz_client.specs.Tales.{Holds, CanBegin, CanBeTold, IsSameClient, Extends};
 ghost use Rattle.gz_history.specs.declared.record.CallRec.{CallRec};
 ghost use Rattle.gz_world.specs.States.{RequestAt, numbered, request_of, with_handed, with_given_up, sent_requests, end_at};
-ghost use Rattle.gz_world.specs.Steps.{sent_pair, answered, quiet};
+ghost use Rattle.gz_world.specs.Steps.{sent_pair, answered};
 ghost use Rattle.gz_world.specs.Weights.{capped, call_bytes, outs_weight};
 ghost use Rattle.gz_world.specs.Fits.{Fits, IsFitting};
 ghost use Rattle.gz_world.specs.declared.world.Member.{Member};
@@ -23,16 +23,60 @@ use crate::requests::{Request, send_all};
 use crate::weights::{call_bytes, outs_weight};
 use crate::world::{Member, World};
 use gz_client::Client;
-use gz_core::{Answer, Call, Out, PutName, Reply, Session, Turn};
+use gz_core::{Call, Out, PutName, Reply, Session, Turn};
 use gz_history::CallRec;
 use gz_site::Site;
 use std::alloc::{AllocError, Global};
 
-/// A copy of a client.
-fn copy_of_client(client: &Client) -> Result<Client, AllocError>
-    ensures { IfOk result (λ copy. copy ≡ client.now) }
-{
-    client.copy()
+/// A turn that was made on a copy of a session's client: the client after it, the turn, and what is told of it.
+struct Moved {
+    client: Client,
+    turn: Turn,
+    effect: Effect,
+}
+
+impl Drop for Moved {
+    fn drop(self) {
+        let Moved {
+            client: _,
+            turn: _,
+            effect: _,
+        } = self;
+    }
+}
+
+impl Moved {
+    /// A client's turn, of which is told what requests it sends from `first` on, and its answer.
+    fn new(session: Session, first: u32, client: Client, turn: Turn) -> Result<Moved, AllocError>
+        ensures { IfOk result (λ moved. moved ≡ record { client = client; turn = turn; effect = effect_of first session turn }) }
+    {
+        let answer = copy_of_answer(&turn.answer)?;
+        let effect = Effect {
+            outcome: Outcome::Done,
+            session: Some(session),
+            sent: sent_pair(first, turn.send.as_slice()),
+            answer,
+        };
+        Ok(Moved {
+            client,
+            turn,
+            effect,
+        })
+    }
+
+    /// The client, the turn, and what is told of it.
+    fn into_parts(self) -> (Client, Turn, Effect)
+        ensures client { result.0 ≡ self.client }
+        ensures turn { result.1 ≡ self.turn }
+        ensures told { result.2 ≡ self.effect }
+    {
+        let Moved {
+            client,
+            turn,
+            effect,
+        } = self;
+        (client, turn, effect)
+    }
 }
 
 /// The first request that is sent and how many are.
@@ -56,58 +100,65 @@ fn capped_len(len: usize) -> u32
     }
 }
 
-/// The client after it begins a call, and its turn.
+/// The turn of a client that begins a call.
 fn begun(
     alloc: Global,
+    session: Session,
     client: &Client,
-    call: Call,
+    call: &Call,
     first: u32,
-) -> Result<(Client, Turn), AllocError>
+) -> Result<Moved, AllocError>
     requires begin { CanBegin client.now }
-    requires within { IsWithin call }
+    requires within { IsWithin call.now }
     requires first { first < 2 ^ 31 }
-    ensures holds { IfOk result (λ p. (next : ℕ) (ts : List Tale) → Holds client.now next ts
-        → Holds p.0 (first + length p.1.send) (begun client.now.session call first p.1 ts ∷ ts)) }
-    ensures same { IfOk result (λ p. IsSameClient client.now p.0) }
+    ensures holds { IfOk result (λ moved. (next : ℕ) (ts : List Tale) → Holds client.now next ts
+        → Holds moved.client (first + length moved.turn.send) (begun client.now.session call.now first moved.turn ts ∷ ts)) }
+    ensures same { IfOk result (λ moved. IsSameClient client.now moved.client) }
+    ensures told { IfOk result (λ moved. moved.effect ≡ effect_of first session moved.turn) }
 {
-    let mut client = copy_of_client(client)?;
+    let mut client = client.copy()?;
+    let call = copy_of_call(call)?;
     let turn = client.begin(alloc, call, first)?;
-    Ok((client, turn))
+    Moved::new(session, first, client, turn)
 }
 
-/// The client after a reply of a request was handed to it, and its turn.
+/// The turn of a client to which a reply of a request is handed.
 fn handed(
     alloc: Global,
+    session: Session,
     client: &Client,
     n: u32,
     reply: &Reply,
     first: u32,
-) -> Result<(Client, Turn), AllocError>
+) -> Result<Moved, AllocError>
     requires told { CanBeTold client.now n first }
     requires first { first < 2 ^ 31 }
-    ensures holds { IfOk result (λ p. Extends client.now p.0 n first (λ a. Handed a reply.now) p.1) }
-    ensures same { IfOk result (λ p. IsSameClient client.now p.0) }
+    ensures holds { IfOk result (λ moved. Extends client.now moved.client n first (λ a. Handed a reply.now) moved.turn) }
+    ensures same { IfOk result (λ moved. IsSameClient client.now moved.client) }
+    ensures told { IfOk result (λ moved. moved.effect ≡ effect_of first session moved.turn) }
 {
-    let mut client = copy_of_client(client)?;
+    let mut client = client.copy()?;
     let turn = client.reply(alloc, n, reply, first)?;
-    Ok((client, turn))
+    Moved::new(session, first, client, turn)
 }
 
-/// The client after a request was given up, and its turn.
+/// The turn of a client that is told that a request won't be answered.
 fn given_up(
     alloc: Global,
+    session: Session,
     client: &Client,
     n: u32,
     first: u32,
-) -> Result<(Client, Turn), AllocError>
+) -> Result<Moved, AllocError>
     requires told { CanBeTold client.now n first }
     requires first { first < 2 ^ 31 }
-    ensures holds { IfOk result (λ p. Extends client.now p.0 n first (λ a. GaveUp a) p.1) }
-    ensures same { IfOk result (λ p. IsSameClient client.now p.0) }
+    ensures holds { IfOk result (λ moved. Extends client.now moved.client n first (λ a. GaveUp a) moved.turn) }
+    ensures same { IfOk result (λ moved. IsSameClient client.now moved.client) }
+    ensures told { IfOk result (λ moved. moved.effect ≡ effect_of first session moved.turn) }
 {
-    let mut client = copy_of_client(client)?;
+    let mut client = client.copy()?;
     let turn = client.give_up(alloc, n, first)?;
-    Ok((client, turn))
+    Moved::new(session, first, client, turn)
 }
 
 /// Puts another client and the place of its last call into a session.
@@ -132,18 +183,6 @@ fn put_client(member: &mut Member, client: Client, last: Option<usize>)
 {
     member.client = client;
     member.last = last;
-}
-
-/// What a client's turn told: the requests that were sent, and the answer.
-fn told(session: Session, sent: (u32, u32), answer: Option<Answer>) -> Effect
-    ensures { result ≡ record { outcome = Outcome.Done; session = Some session; sent = sent; answer = answer } }
-{
-    Effect {
-        outcome: Outcome::Done,
-        session: Some(session),
-        sent,
-        answer,
-    }
 }
 
 /// Notes that a reply of a request was handed to its client at a tick.
@@ -196,6 +235,19 @@ impl<S: Site> World<S> {
         self.net.reserve(more)
     }
 
+    /// Makes room for a call that begins and for the requests that its turn sends, and copies the call.
+    fn make_room_for(&mut self, call: &Call, more: usize) -> Result<Call, AllocError>
+        ensures same { IsSameWorld self.old self.new }
+        ensures copy { IfOk result (λ copy. copy ≡ call.now) }
+        ensures room { OnOk result (vec_len self.new.net + more ≤ vec_capacity self.new.net) }
+        ensures calls { OnOk result (vec_len self.new.calls < vec_capacity self.new.calls) }
+        ensures clients { self.new.clients ≡ self.old.clients }
+    {
+        self.calls.reserve(1)?;
+        self.make_room(more)?;
+        copy_of_call(call)
+    }
+
     /// Sends the requests of a turn, and puts the client after it in its place. Takes no memory.
     fn settle(
         &mut self,
@@ -221,19 +273,22 @@ impl<S: Site> World<S> {
         send_all(self.alloc, &mut self.net, name, tick, send);
     }
 
-    /// Goes on with the running call of a session, after its client's turn. Takes no memory.
-    fn go_on(&mut self, session: Session, tick: u32, client: Client, turn: Turn)
+    /// Goes on with the running call of a session, after its client's turn, and gives what is told of it. Takes no memory.
+    fn go_on(&mut self, session: Session, tick: u32, moved: Moved) -> Effect
         requires opened { session ≤ length self.old.clients.items }
         requires running { (m : Member) → slice_get self.old.clients.items (session - 1) ≡ Some m → HasCall self.old.calls.items m }
-        requires room { vec_len self.old.net + length turn.send ≤ vec_capacity self.old.net }
+        requires room { vec_len self.old.net + length moved.turn.send ≤ vec_capacity self.old.net }
         requires small { IsSmall self.old }
-        ensures { (m : Member) (last : ℕ) (c : CallRec) → slice_get self.old.clients.items (session - 1) ≡ Some m → m.last ≡ Some last → slice_get self.old.calls.items last ≡ Some c
-            → WentOn self.old self.new session tick m last c client turn }
+        ensures went { (m : Member) (last : ℕ) (c : CallRec) → slice_get self.old.clients.items (session - 1) ≡ Some m → m.last ≡ Some last → slice_get self.old.calls.items last ≡ Some c
+            → WentOn self.old self.new session tick m last c moved.client moved.turn }
+        ensures told { result ≡ moved.effect }
     {
+        let (client, turn, effect) = moved.into_parts();
         let last = self.last_place(session);
         let name = item_at(self.calls.as_slice(), last).name;
         end_call(&mut self.calls, last, tick, turn.answer);
         self.settle(session, client, Some(last), name, turn.send.into_vec());
+        effect
     }
 
     /// The place of the last call of a session that has one.
@@ -304,34 +359,29 @@ impl<S: Site> World<S> {
         let tick = self.next_tick();
         let first = self.next_number();
         let name = self.next_name(session);
-        let own = copy_of_call(call)?;
-        let kept = copy_of_call(call)?;
-        let member = self.member_of(session);
-        let (client, turn) = begun(self.alloc, &member.client, own, first)?;
-        let answer = copy_of_answer(&turn.answer)?;
-        self.calls.reserve(1)?;
-        self.make_room(turn.send.len())?;
-        let sent = sent_pair(first, turn.send.as_slice());
-        self.start(session, name, tick, kept, client, turn);
-        Ok(told(session, sent, answer))
+        let client = &self.member_of(session).client;
+        let moved = begun(self.alloc, session, client, call, first)?;
+        let call = self.make_room_for(call, moved.turn.send.len())?;
+        Ok(self.start(session, name, tick, call, moved))
     }
 
-    /// Goes on with a call that begins, after its client's first turn. Takes no memory.
+    /// Goes on with a call that begins, after its client's first turn, and gives what is told of it. Takes no memory.
     fn start(
         &mut self,
         session: Session,
         name: PutName,
         tick: u32,
         call: Call,
-        client: Client,
-        turn: Turn,
-    )
+        moved: Moved,
+    ) -> Effect
         requires opened { session ≤ length self.old.clients.items }
         requires calls { vec_len self.old.calls < vec_capacity self.old.calls }
-        requires room { vec_len self.old.net + length turn.send ≤ vec_capacity self.old.net }
+        requires room { vec_len self.old.net + length moved.turn.send ≤ vec_capacity self.old.net }
         requires small { IsSmall self.old }
-        ensures { (m : Member) → slice_get self.old.clients.items (session - 1) ≡ Some m → Started self.old self.new session name tick call m client turn }
+        ensures started { (m : Member) → slice_get self.old.clients.items (session - 1) ≡ Some m → Started self.old self.new session name tick call m moved.client moved.turn }
+        ensures told { result ≡ moved.effect }
     {
+        let (client, turn, effect) = moved.into_parts();
         let last = self.calls.len();
         self.held = self.held.saturating_add(call_bytes(&call));
         let end = end_at(tick, &turn.answer);
@@ -343,6 +393,7 @@ impl<S: Site> World<S> {
             answer: turn.answer,
         });
         self.settle(session, client, Some(last), name, turn.send.into_vec());
+        effect
     }
 
     /// Hands a reply of a request to its client.
@@ -359,14 +410,11 @@ impl<S: Site> World<S> {
         let request = self.request_at(n);
         let session = request.asker();
         let reply = reply_of(request, which);
-        let member = self.member_of(session);
-        let (client, turn) = handed(self.alloc, &member.client, n, &reply.1, first)?;
-        let answer = copy_of_answer(&turn.answer)?;
-        self.make_room(turn.send.len())?;
-        let sent = sent_pair(first, turn.send.as_slice());
+        let client = &self.member_of(session).client;
+        let moved = handed(self.alloc, session, client, n, &reply.1, first)?;
+        self.make_room(moved.turn.send.len())?;
         hand_at(&mut self.net, n as usize - 1, tick, which);
-        self.go_on(session, tick, client, turn);
-        Ok(told(session, sent, answer))
+        Ok(self.go_on(session, tick, moved))
     }
 
     /// Tells the client of a request that it won't be answered.
@@ -381,13 +429,10 @@ impl<S: Site> World<S> {
         let first = self.next_number();
         let request = self.request_at(n);
         let session = request.asker();
-        let member = self.member_of(session);
-        let (client, turn) = given_up(self.alloc, &member.client, n, first)?;
-        let answer = copy_of_answer(&turn.answer)?;
-        self.make_room(turn.send.len())?;
-        let sent = sent_pair(first, turn.send.as_slice());
+        let client = &self.member_of(session).client;
+        let moved = given_up(self.alloc, session, client, n, first)?;
+        self.make_room(moved.turn.send.len())?;
         give_up_at(&mut self.net, n as usize - 1, tick);
-        self.go_on(session, tick, client, turn);
-        Ok(told(session, sent, answer))
+        Ok(self.go_on(session, tick, moved))
     }
 }

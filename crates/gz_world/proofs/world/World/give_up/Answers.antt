@@ -1,16 +1,41 @@
-use Rattle.std.proofs.Common.{◌≡◌, ◌+◌, ◌-◌, ◌∙◌, sym, ap, subst, refl, Some, map, length}
+use Rattle.std.proofs.Common.{◌≡◌, ◌+◌, ◌-◌, ◌<◌, ◌≤◌, ◌∙◌, sym, ap, subst, refl, Some, map, length}
 use Rattle.std.specs.Prelude.{slice_get, slice_set, option_map}
 use Rattle.std.proofs.lemmas.Option.{slice_get-map}
+use Rattle.std.proofs.lemmas.List.{length-map}
+use Rattle.gz_client.specs.Tales.{CanBeTold}
 use Rattle.gz_round.specs.History.{GaveUp}
 use Rattle.gz_world.specs.States.{RequestAt, request_of, with_given_up}
-use Rattle.gz_world.specs.Steps.{sent_pair}
-use Rattle.gz_world.specs.Turns.{HasCall, WentOn}
-use Rattle.gz_world.specs.declared.events.Effect.{Effect}
-use Rattle.gz_world.specs.declared.events.Outcome.TheVariants as outcomes
-use Rattle.gz_world.proofs.Places.{get_there}
+use Rattle.gz_world.specs.Turns.{HasCall, WentOn, effect_of}
+use Rattle.gz_world.proofs.Places.{get_below, get_there}
 use Rattle.gz_world.proofs.Members.{place_numbered}
 use Rattle.gz_world.proofs.Finishing.{told_parts}
 use Rattle.gz_world.proofs.world.World.give_up.Goals as goal
+
+pub member_of-requires : goal.member_of-requires
+member_of-requires g c =
+    let told = c.requires.told c.request_at-request.result.now c.request_at-request.ensures in
+    subst (λ s. s ≤ length c.args.self.now.clients.items) (sym c.asker-session.ensures) told.opened
+
+pub given_up-requires-clause-told : goal.given_up-requires-clause-told
+given_up-requires-clause-told g c =
+    let told = c.requires.told c.request_at-request.result.now c.request_at-request.ensures in
+    let m = c.member_of.result.now in
+    subst (CanBeTold m.client c.args.n) (sym c.next_number-first.ensures.same)
+    (told.tells m (subst (λ s. slice_get c.args.self.now.clients.items (s - 1) ≡ Some m) c.asker-session.ensures c.member_of.ensures.there))
+
+pub give_up_at-requires : goal.give_up_at-requires
+give_up_at-requires g c =
+    let old = c.args.self.now in
+    let room = c.make_room.new.self in
+    let r : RequestAt = request_of c.request_at-request.result.now in
+    let at : slice_get (map request_of old.net.items) (c.args.n - 1) ≡ Some r = slice_get-map request_of old.net.items (c.args.n - 1) ∙ ap (option_map request_of) c.request_at-request.ensures in
+    let mid : slice_get (map request_of room.net.items) (c.args.n - 1) ≡ Some r = subst (λ xs. slice_get xs (c.args.n - 1) ≡ Some r) (sym c.make_room.ensures.same.net) at in
+    subst (λ k. c.args.n - 1 < k) (length-map room.net.items request_of) (get_below (map request_of room.net.items) (c.args.n - 1) r mid)
+
+pub go_on-requires-clause-opened : goal.go_on-requires-clause-opened
+go_on-requires-clause-opened g c =
+    let told = c.requires.told c.request_at-request.result.now c.request_at-request.ensures in
+    subst (λ v. c.asker-session.result ≤ length v.items) (sym c.make_room.ensures.clients) (subst (λ s. s ≤ length c.args.self.now.clients.items) (sym c.asker-session.ensures) told.opened)
 
 pub go_on-requires-clause-running : goal.go_on-requires-clause-running
 go_on-requires-clause-running g c =
@@ -25,52 +50,33 @@ returns-clause-ok g c =
     let room = c.make_room.new.self in
     let request = c.request_at-request.result.now in
     let r : RequestAt = request_of request in
-    let session = request.name.session in
     let told = c.requires.told request c.request_at-request.ensures in
-    let m = c.member_of-member.result.now in
+    let m = c.member_of.result.now in
     let own = c.asker-session.ensures in
-    let there = subst (λ s. slice_get old.clients.items (s - 1) ≡ Some m) own c.member_of-member.ensures.there in
+    let there = subst (λ s. slice_get old.clients.items (s - 1) ≡ Some m) own c.member_of.ensures.there in
     let call = told.running m there in
     let rec = get_there old.calls.items call.last call.within in
-    let turn = c.in_ok-client.turn in
+    let moved = c.in_ok-moved.moved in
     let first = c.next_number-first.result in
     let tick = c.next_tick-tick.result in
     let at : slice_get (map request_of old.net.items) (c.args.n - 1) ≡ Some r = slice_get-map request_of old.net.items (c.args.n - 1) ∙ ap (option_map request_of) c.request_at-request.ensures in
     let mid : slice_get (map request_of room.net.items) (c.args.n - 1) ≡ Some r = subst (λ xs. slice_get xs (c.args.n - 1) ≡ Some r) (sym c.make_room.ensures.same.net) at in
-    let went = subst (λ s. WentOn (record room { net = c.give_up_at.new.net }) c.go_on.new.self s tick m call.last rec.0 c.in_ok-client.client turn) own
-    (c.go_on.ensures m call.last rec.0 (subst (λ v. slice_get v.items (c.asker-session.result - 1) ≡ Some m) (sym c.make_room.ensures.clients) c.member_of-member.ensures.there) call.is (subst (λ v. slice_get v.items call.last ≡ Some rec.0) (sym c.make_room.ensures.calls) rec.1)) in
-    let effect : c.told.result ≡ (let e : Effect = record { outcome = outcomes.Done; session = Some session; sent = sent_pair first turn.send; answer = turn.answer } in e) =
-    c.told.ensures ∙ ap (λ s. let e : Effect = record { outcome = outcomes.Done; session = Some s; sent = c.sent_pair-sent.result; answer = c.in_ok-answer.answer } in e) own ∙ ap (λ s. let e : Effect = record { outcome = outcomes.Done; session = Some session; sent = s; answer = c.in_ok-answer.answer } in e) (c.sent_pair-sent.ensures ∙ ap (sent_pair first) c.as_slice.ensures)
-    ∙ ap (λ a. let e : Effect = record { outcome = outcomes.Done; session = Some session; sent = sent_pair first turn.send; answer = a } in e) c.in_ok-answer.ensures in (
-      r,
-      (
-        m,
-        (
-          call.last,
-          (
-            rec.0,
-            (
-              c.in_ok-client.client,
-              (
-                turn,
-                told_parts old room (record room { net = c.give_up_at.new.net }) c.go_on.new.self c.args.n r (with_given_up (length old.journal.items + 1) r) (λ a. GaveUp a) m call.last rec.0 c.in_ok-client.client turn first tick c.told.result
-                    c.make_room.ensures.same
-                    (record {
-                      cfg = refl;
-                      sites = refl;
-                      journal = refl;
-                      casts = refl;
-                      clients = refl;
-                      calls = refl;
-                      held = refl;
-                      net = subst (λ t. map request_of c.give_up_at.new.net.items ≡ slice_set (map request_of room.net.items) (c.args.n - 1) (with_given_up t r)) c.next_tick-tick.ensures (c.give_up_at.ensures.marked r mid);
-                    })
-                    c.next_number-first.ensures.same c.next_tick-tick.ensures
-                    (place_numbered (map request_of old.net.items) c.args.n r c.requires.number.positive at) there call.is rec.1
-                    c.in_ok-client.ensures.holds c.in_ok-client.ensures.same went effect,
-              ),
-            ),
-          ),
-        ),
-      ),
-    )
+    let went = subst (λ s. WentOn (record room { net = c.give_up_at.new.net }) c.go_on.new.self s tick m call.last rec.0 moved.client moved.turn) own
+    (c.go_on.ensures.went m call.last rec.0 (subst (λ v. slice_get v.items (c.asker-session.result - 1) ≡ Some m) (sym c.make_room.ensures.clients) c.member_of.ensures.there) call.is (subst (λ v. slice_get v.items call.last ≡ Some rec.0) (sym c.make_room.ensures.calls) rec.1)) in
+    let effect = c.go_on.ensures.told ∙ c.in_ok-moved.ensures.told ∙ ap (λ s. effect_of first s moved.turn) own in
+    let whole = told_parts old room (record room { net = c.give_up_at.new.net }) c.go_on.new.self c.args.n r (with_given_up (length old.journal.items + 1) r) (λ a. GaveUp a) m call.last rec.0 moved.client moved.turn first tick c.go_on.result
+    c.make_room.ensures.same
+    (record {
+      cfg = refl;
+      sites = refl;
+      journal = refl;
+      casts = refl;
+      clients = refl;
+      calls = refl;
+      held = refl;
+      net = subst (λ t. map request_of c.give_up_at.new.net.items ≡ slice_set (map request_of room.net.items) (c.args.n - 1) (with_given_up t r)) c.next_tick-tick.ensures (c.give_up_at.ensures.marked r mid);
+    })
+    c.next_number-first.ensures.same c.next_tick-tick.ensures
+    (place_numbered (map request_of old.net.items) c.args.n r c.requires.number.positive at) there call.is rec.1
+    c.in_ok-moved.ensures.holds c.in_ok-moved.ensures.same went effect in
+    (r, (m, (call.last, (rec.0, (moved.client, (moved.turn, whole))))))
