@@ -2,11 +2,13 @@
 use Rattle.std.proofs.Common.{◌≡◌, ◌≢◌, ℕ, ◌+◌, ◌-◌, ◌*◌, ◌<◌, ◌≤◌, ◌++◌, ◌∷◌, List, [], Vec, min, take, drop, length, slice_index, sym, ◌∙◌, ap, subst, arith, inl, inr, length-append, length-take, get_or-take, get_or-drop}
 use Rattle.std.specs.declared.alloc.Global.{Global}
 use Rattle.std.proofs.lemmas.Bool.{cases_lt}
-use Rattle.std.proofs.lemmas.List.{map_push, get_or_past, get_or_push, get_or_append_left}
+use Rattle.std.proofs.lemmas.List.{map_push, get_or_past, get_or_push, get_or_append_left, get_or_default}
+use Rattle.std.specs.Prelude.{All}
 use Rattle.gz_lanes.proofs.Pushes.{each_pushed, length_pushed}
 use Rattle.gz_code.specs.Decoding.{IsPlaced, IsLocated}
 use Rattle.gz_code.specs.Encoding.{IsPadded, AreDataPieces, AreNumbers}
 use Rattle.gz_code.specs.Interpolation.{AreValues, AreAllValues, AreWeights, AreRows}
+use Rattle.gz_code.specs.Polynomial.{ArePoints}
 use Rattle.gz_code.proofs.Pieces.{bytes_of}
 
 -- one more zero
@@ -69,6 +71,12 @@ rows_more points targets n target rows new row A here W pushed =
       each = each_pushed (λ t w. AreWeights points w (slice_index targets t)) rows row [] n A.count A.each (subst (AreWeights points row) here W);
     })
 
+-- as many weights in each row as there are points
+pub rows_paired : (points targets : List ℕ) (n sources : ℕ) (rows shown : List (List ℕ)) → AreRows points targets n rows → shown ≡ rows → sources ≡ length points → All (λ row. length row ≡ sources) shown
+rows_paired points targets n sources rows shown A same paired =
+    subst (All (λ row. length row ≡ sources)) (sym same)
+    (λ k d l. let count = A.count in ap length (get_or_default rows k d [] l) ∙ (A.each k (omega arith)).long ∙ sym paired)
+
 -- one more number
 pub numbers_more : (from n number : ℕ) (numbers new : List ℕ) → AreNumbers from n numbers → number ≡ from + n → new ≡ numbers ++ number ∷ [] → AreNumbers from (n + 1) new
 numbers_more from n number numbers new A here pushed =
@@ -76,6 +84,30 @@ numbers_more from n number numbers new A here pushed =
       count = length_pushed numbers number n A.count;
       each = each_pushed (λ i y. y ≡ from + i) numbers number 0 n A.count A.each here;
     })
+
+-- the numbers from 0 on, and those after them
+module _ (n m : ℕ) (few : n + m ≤ 256) (points targets numbers others : List ℕ) (N : AreNumbers 0 n numbers) (M : AreNumbers n m others) (same : points ≡ numbers) (same_targets : targets ≡ others) where
+  pub point_is : (j : ℕ) → j < length points → slice_index points j ≡ j
+  point_is j l = let long = ap length same ∙ N.count in ap (λ xs. slice_index xs j) same ∙ N.each j (omega arith) ∙ omega arith
+
+  pub numbers_count : length points ≡ n
+  numbers_count = ap length same ∙ N.count
+
+  pub are_points : ArePoints (length points) (slice_index points)
+  are_points =
+      let count = numbers_count in
+      record {
+        are_elements = λ i l. let is = point_is i l in omega arith;
+        differ = λ i j l m e. let a = point_is i (omega arith) in let b = point_is j m in absurd (omega arith);
+      }
+
+  pub targets_apart : (t j : ℕ) → t < length targets → j < length points → slice_index targets t ≢ slice_index points j
+  targets_apart t j l k e =
+      let long = ap length same_targets ∙ M.count in
+      let count = numbers_count in
+      let a : slice_index targets t ≡ n + t = ap (λ xs. slice_index xs t) same_targets ∙ M.each t (omega arith) in
+      let b = point_is j k in
+      absurd (omega arith)
 
 -- the place of one more point, which was added where it was missing
 module _ (given points new : List ℕ) (n at : ℕ) (order : List ℕ) (L : IsLocated given points n order) (P : IsPlaced points new n at) where
