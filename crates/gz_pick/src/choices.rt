@@ -72,8 +72,11 @@ fn reaches_threshold(config: &Config, heard: &[Heard], vote: &Option<(Ballot, Pu
 fn count_heard(heard: &[Heard], b: Ballot, x: PutName) -> usize
     ensures { result ≡ heard_votes b x heard.now }
 {
-    heard
-        .iter()
-        .filter(|one| is_cast_for(&one.vote, b, x))
-        .count()
+    let mut count = 0;
+    for one in heard {
+        if is_cast_for(&one.vote, b, x) {
+            count += 1;
+        }
+    }
+    count
 }
