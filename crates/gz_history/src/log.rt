@@ -1,5 +1,5 @@
 //! The text of a log.
-ghost use Rattle.std.specs.Prelude.{◌≡◌, ◌++◌, IfOk, codes, decimal};
+ghost use Rattle.std.specs.Prelude.{◌≡◌, ◌++◌, IfOk, OnOk, codes, decimal, flat_map};
 ghost use Rattle.gz_history.specs.Log.{name_text, asked_text, found_text, gone_text, kind_text, argument_text, tick_text, phase_text, unsure_text, answer_text, line_text, end_text, log_of};
 
 use crate::record::CallRec;
@@ -17,70 +17,65 @@ pub fn log_text(
     ensures { IfOk result (λ text. text.items ≡ log_of calls.now events skipped) }
 {
     let mut text = Text::new(alloc);
-    for call in calls {
-        let line = line(alloc, call)?;
-        text.put(line.as_slice())?;
-    }
-    let last = last_line(alloc, calls.len() as u64, events, skipped)?;
-    text.put(last.as_slice())?;
+    put_lines(alloc, &mut text, calls)?;
+    put_last_line(alloc, &mut text, calls.len() as u64, events, skipped)?;
     Ok(text.into_bytes())
 }
 
-// The last line, with the counts.
-fn last_line(alloc: Global, calls: u64, events: u32, skipped: u32) -> Result<Text, AllocError>
-    ensures { IfOk result (λ text. text ≡ end_text calls events skipped) }
+// The lines of the calls.
+fn put_lines(alloc: Global, text: &mut Text, calls: &[CallRec]) -> Result<(), AllocError>
+    ensures { OnOk result (text.new ≡ text.old ++ flat_map line_text calls.now) }
 {
-    let mut text = Text::new(alloc);
-    text.put(b"end ")?;
-    text.number(alloc, calls)?;
-    text.put(b" ")?;
-    text.number(alloc, events as u64)?;
-    text.put(b" ")?;
-    text.number(alloc, skipped as u64)?;
-    text.put(b"\n")?;
-    Ok(text)
+    for call in calls {
+        put_line(alloc, text, call)?;
+    }
+    Ok(())
+}
+
+// The last line, with the counts.
+fn put_last_line(
+    alloc: Global,
+    text: &mut Text,
+    calls: u64,
+    events: u32,
+    skipped: u32,
+) -> Result<(), AllocError>
+    ensures { OnOk result (text.new ≡ text.old ++ end_text calls events skipped) }
+{
+    text.counted(alloc, b"end ", calls)?;
+    text.counted(alloc, b" ", events as u64)?;
+    text.counted(alloc, b" ", skipped as u64)?;
+    text.put(b"\n")
 }
 
 // The line of a call.
-fn line(alloc: Global, call: &CallRec) -> Result<Text, AllocError>
-    ensures { IfOk result (λ text. text ≡ line_text call.now) }
+fn put_line(alloc: Global, text: &mut Text, call: &CallRec) -> Result<(), AllocError>
+    ensures { OnOk result (text.new ≡ text.old ++ line_text call.now) }
 {
-    let end = tick(alloc, call.end)?;
-    let answer = answer(alloc, &call.answer)?;
-    let mut text = asked(alloc, call.name, &call.call)?;
+    put_asked(alloc, text, call.name, &call.call)?;
+    text.counted(alloc, b" ", call.begin as u64)?;
+    put_end(alloc, text, call.end)?;
     text.put(b" ")?;
-    text.number(alloc, call.begin as u64)?;
-    text.put(b" ")?;
-    text.put(end.as_slice())?;
-    text.put(b" ")?;
-    text.put(answer.as_slice())?;
-    text.put(b"\n")?;
-    Ok(text)
+    put_answer(alloc, text, &call.answer)?;
+    text.put(b"\n")
 }
 
 // What was asked: the name, the kind, the key and the argument of a call.
-fn asked(alloc: Global, name: PutName, call: &Call) -> Result<Text, AllocError>
-    ensures { IfOk result (λ text. text ≡ asked_text name call.now) }
+fn put_asked(alloc: Global, text: &mut Text, name: PutName, call: &Call) -> Result<(), AllocError>
+    ensures { OnOk result (text.new ≡ text.old ++ asked_text name call.now) }
 {
-    let argument = argument(alloc, call)?;
-    let mut text = named(alloc, name)?;
+    put_name(alloc, text, name)?;
+    text.word(kind(call))?;
+    text.word(call.key().as_bytes())?;
     text.put(b" ")?;
-    text.put(kind(call))?;
-    text.put(b" ")?;
-    text.put(call.key().as_bytes())?;
-    text.put(b" ")?;
-    text.put(argument.as_slice())?;
-    Ok(text)
+    put_argument(alloc, text, call)
 }
 
-fn named(alloc: Global, name: PutName) -> Result<Text, AllocError>
-    ensures { IfOk result (λ text. text ≡ name_text name) }
+fn put_name(alloc: Global, text: &mut Text, name: PutName) -> Result<(), AllocError>
+    ensures { OnOk result (text.new ≡ text.old ++ name_text name) }
 {
-    let mut text = Text::new(alloc);
     text.number(alloc, name.session_number() as u64)?;
-    text.put(b".")?;
-    text.number(alloc, name.seq_number() as u64)?;
-    Ok(text)
+    text.counted(alloc, b".", name.seq_number() as u64)
 }
 
 fn kind(call: &Call) -> &'static [u8]
@@ -93,106 +88,95 @@ fn kind(call: &Call) -> &'static [u8]
     }
 }
 
-fn argument(alloc: Global, call: &Call) -> Result<Text, AllocError>
-    ensures { IfOk result (λ text. text ≡ argument_text call.now) }
+fn put_argument(alloc: Global, text: &mut Text, call: &Call) -> Result<(), AllocError>
+    ensures { OnOk result (text.new ≡ text.old ++ argument_text call.now) }
 {
-    let mut text = Text::new(alloc);
     match call {
-        Call::Put { bytes, .. } => text.bytes(alloc, bytes.as_slice())?,
-        Call::Delete { .. } | Call::Get { .. } => text.put(b"-")?,
+        Call::Put { bytes, .. } => text.bytes(alloc, bytes.as_slice()),
+        Call::Delete { .. } | Call::Get { .. } => text.put(b"-"),
     }
-    Ok(text)
 }
 
-fn tick(alloc: Global, tick: Option<u32>) -> Result<Text, AllocError>
-    ensures { IfOk result (λ text. text ≡ tick_text tick) }
+// The tick of a call's end, after a space.
+fn put_end(alloc: Global, text: &mut Text, end: Option<u32>) -> Result<(), AllocError>
+    ensures { OnOk result (text.new ≡ text.old ++ (codes " " ++ tick_text end)) }
 {
-    let mut text = Text::new(alloc);
-    match tick {
-        None => text.put(b"-")?,
-        Some(tick) => text.number(alloc, tick as u64)?,
+    match end {
+        None => text.put(b" -"),
+        Some(end) => text.counted(alloc, b" ", end as u64),
     }
-    Ok(text)
 }
 
-fn answer(alloc: Global, answer: &Option<Answer>) -> Result<Text, AllocError>
-    ensures { IfOk result (λ text. text ≡ answer_text answer.now) }
+fn put_answer(alloc: Global, text: &mut Text, answer: &Option<Answer>) -> Result<(), AllocError>
+    ensures { OnOk result (text.new ≡ text.old ++ answer_text answer.now) }
 {
     match answer {
-        None => word(alloc, b"open"),
-        Some(Answer::Ok { version }) => counted(alloc, b"ok ", version.number()),
+        None => text.put(b"open"),
+        Some(Answer::Ok { version }) => text.counted(alloc, b"ok ", version.number()),
         Some(
             Answer::Bytes {
                 version,
                 name,
                 bytes,
             },
-        ) => found(alloc, version.number(), *name, bytes.as_slice()),
-        Some(Answer::Gone { version, name }) => gone(alloc, version.number(), *name),
-        Some(Answer::Absent) => word(alloc, b"absent"),
-        Some(Answer::NoQuorum { phase, heard }) => in_phase(alloc, b"noquorum ", *phase, *heard),
-        Some(Answer::Contended { met }) => counted(alloc, b"contended ", *met as u64),
-        Some(Answer::Unsure { why }) => unsure(alloc, *why),
+        ) => put_found(alloc, text, version.number(), *name, bytes.as_slice()),
+        Some(Answer::Gone { version, name }) => put_gone(alloc, text, version.number(), *name),
+        Some(Answer::Absent) => text.put(b"absent"),
+        Some(Answer::NoQuorum { phase, heard }) => {
+            put_in_phase(alloc, text, b"noquorum ", *phase, *heard)
+        }
+        Some(Answer::Contended { met }) => text.counted(alloc, b"contended ", *met as u64),
+        Some(Answer::Unsure { why }) => put_unsure(alloc, text, *why),
     }
 }
 
-fn word(alloc: Global, word: &[u8]) -> Result<Text, AllocError>
-    ensures { IfOk result (λ text. text ≡ word.now) }
+fn put_found(
+    alloc: Global,
+    text: &mut Text,
+    version: u64,
+    name: PutName,
+    bytes: &[u8],
+) -> Result<(), AllocError>
+    ensures { OnOk result (text.new ≡ text.old ++ found_text version name bytes.now) }
 {
-    let mut text = Text::new(alloc);
-    text.put(word)?;
-    Ok(text)
-}
-
-fn counted(alloc: Global, word: &[u8], n: u64) -> Result<Text, AllocError>
-    ensures { IfOk result (λ text. text ≡ word.now ++ decimal n) }
-{
-    let mut text = Text::new(alloc);
-    text.put(word)?;
-    text.number(alloc, n)?;
-    Ok(text)
-}
-
-fn found(alloc: Global, version: u64, name: PutName, bytes: &[u8]) -> Result<Text, AllocError>
-    ensures { IfOk result (λ text. text ≡ found_text version name bytes.now) }
-{
-    let name = named(alloc, name)?;
-    let mut text = counted(alloc, b"bytes ", version)?;
+    text.counted(alloc, b"bytes ", version)?;
     text.put(b" ")?;
-    text.put(name.as_slice())?;
+    put_name(alloc, text, name)?;
     text.put(b" ")?;
-    text.bytes(alloc, bytes)?;
-    Ok(text)
+    text.bytes(alloc, bytes)
 }
 
-fn gone(alloc: Global, version: u64, name: PutName) -> Result<Text, AllocError>
-    ensures { IfOk result (λ text. text ≡ gone_text version name) }
+fn put_gone(alloc: Global, text: &mut Text, version: u64, name: PutName) -> Result<(), AllocError>
+    ensures { OnOk result (text.new ≡ text.old ++ gone_text version name) }
 {
-    let name = named(alloc, name)?;
-    let mut text = counted(alloc, b"gone ", version)?;
+    text.counted(alloc, b"gone ", version)?;
     text.put(b" ")?;
-    text.put(name.as_slice())?;
-    Ok(text)
+    put_name(alloc, text, name)
 }
 
-fn unsure(alloc: Global, why: UnsureWhy) -> Result<Text, AllocError>
-    ensures { IfOk result (λ text. text ≡ unsure_text why) }
+fn put_unsure(alloc: Global, text: &mut Text, why: UnsureWhy) -> Result<(), AllocError>
+    ensures { OnOk result (text.new ≡ text.old ++ unsure_text why) }
 {
     match why {
-        UnsureWhy::NoQuorum { phase, heard } => in_phase(alloc, b"unsure noquorum ", phase, heard),
-        UnsureWhy::Contended { met } => counted(alloc, b"unsure contended ", met as u64),
+        UnsureWhy::NoQuorum { phase, heard } => {
+            put_in_phase(alloc, text, b"unsure noquorum ", phase, heard)
+        }
+        UnsureWhy::Contended { met } => text.counted(alloc, b"unsure contended ", met as u64),
     }
 }
 
-fn in_phase(alloc: Global, word: &[u8], phase: Phase, heard: u32) -> Result<Text, AllocError>
-    ensures { IfOk result (λ text. text ≡ word.now ++ phase_text phase ++ codes " " ++ decimal heard) }
+fn put_in_phase(
+    alloc: Global,
+    text: &mut Text,
+    word: &[u8],
+    phase: Phase,
+    heard: u32,
+) -> Result<(), AllocError>
+    ensures { OnOk result (text.new ≡ text.old ++ (word.now ++ phase_text phase ++ codes " " ++ decimal heard)) }
 {
-    let mut text = Text::new(alloc);
     text.put(word)?;
     text.put(phase_word(phase))?;
-    text.put(b" ")?;
-    text.number(alloc, heard as u64)?;
-    Ok(text)
+    text.counted(alloc, b" ", heard as u64)
 }
 
 fn phase_word(phase: Phase) -> &'static [u8]

@@ -1,5 +1,5 @@
 //! A text that grows at its end.
-ghost use Rattle.std.specs.Prelude.{◌≡◌, [], ◌++◌, OnOk, decimal};
+ghost use Rattle.std.specs.Prelude.{◌≡◌, [], ◌++◌, OnOk, codes, decimal};
 ghost use Rattle.gz_history.specs.Log.{bytes_text};
 
 use std::alloc::{AllocError, Global};
@@ -27,12 +27,6 @@ impl Text {
         }
     }
 
-    pub fn as_slice(&self) -> &[u8]
-        ensures { result.now ≡ self.now }
-    {
-        self.bytes.as_slice()
-    }
-
     pub fn into_bytes(self) -> Vec<u8>
         ensures { result.items ≡ self }
     {
@@ -51,6 +45,22 @@ impl Text {
     {
         let digits = n.to_string(alloc)?;
         self.bytes.extend_from_slice(digits.as_bytes())
+    }
+
+    // A word and a number after it.
+    pub fn counted(&mut self, alloc: Global, word: &[u8], n: u64) -> Result<(), AllocError>
+        ensures { OnOk result (self.new ≡ self.old ++ (word.now ++ decimal n)) }
+    {
+        self.put(word)?;
+        self.number(alloc, n)
+    }
+
+    // A space and a word after it.
+    pub fn word(&mut self, word: &[u8]) -> Result<(), AllocError>
+        ensures { OnOk result (self.new ≡ self.old ++ (codes " " ++ word.now)) }
+    {
+        self.put(b" ")?;
+        self.put(word)
     }
 
     // The bytes in hexadecimal, or a dash where there are none.

@@ -1,5 +1,5 @@
 -- The bytes of the sources, by source and place.
-use Rattle.std.proofs.Common.{◌≡◌, ℕ, ◌<◌, List, [], length, slice_index, slice_index_or, ap, subst, arith, ◌+◌, bit_xor, add-one, ◌∙◌, sym}
+use Rattle.std.proofs.Common.{◌≡◌, ℕ, ◌<◌, List, [], length, slice_index, slice_index_or, ap, subst, arith, ◌+◌, bit_xor, add-one, ◌∙◌, sym, ◌%◌, ◌/◌}
 use Rattle.std.specs.Borrow.{Bor}
 use Rattle.std.specs.Prelude.{All}
 use Rattle.std.proofs.Math.ListN.{get_or-map}
@@ -41,3 +41,12 @@ combination_more n c sources place old new before added =
 -- what was loaded from source j
 pub loaded : (sources : List (Bor (List ℕ))) (at j : ℕ) (v : List ℕ) → HasLanes v (λ k. slice_index (slice_index_or sources j no_source).now (at + k)) → HasLanes v (λ k. column (contents sources) (at + k) j)
 loaded sources at j v V = record { long = V.long; each = λ k l. V.each k l ∙ sym (column_at sources (at + k) j) }
+
+-- the halves of what was loaded from source j
+pub low_of : (sources : List (Bor (List ℕ))) (at j : ℕ) (v low : List ℕ) → HasLanes v (λ k. slice_index (slice_index_or sources j no_source).now (at + k)) → HasLanes low (λ k. slice_index v k % 16)
+    → HasLanes low (λ k. column (contents sources) (at + k) j % 16)
+low_of sources at j v low V L = record { long = L.long; each = λ k l. L.each k l ∙ ap (λ (x : ℕ). x % 16) ((loaded sources at j v V).each k l) }
+
+pub high_of : (sources : List (Bor (List ℕ))) (at j : ℕ) (v high : List ℕ) → HasLanes v (λ k. slice_index (slice_index_or sources j no_source).now (at + k)) → HasLanes high (λ k. slice_index v k / 16)
+    → HasLanes high (λ k. column (contents sources) (at + k) j / 16)
+high_of sources at j v high V H = record { long = H.long; each = λ k l. H.each k l ∙ ap (λ (x : ℕ). x / 16) ((loaded sources at j v V).each k l) }

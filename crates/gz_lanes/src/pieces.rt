@@ -1,6 +1,6 @@
 //! Pieces that hold combinations of sources, and copies of the sources, made block by block, so that a block of the sources is read
 //! from afar once.
-ghost use Rattle.std.specs.Prelude.{◌≡◌, ℕ, ◌+◌, ◌*◌, ◌/◌, ◌<◌, ◌≤◌, length, map, max, min, take, slice_index, All, IfOk, IfSome, OnOk};
+ghost use Rattle.std.specs.Prelude.{◌≡◌, ℕ, ◌+◌, ◌*◌, ◌/◌, ◌<◌, ◌≤◌, [], ◌∷◌, ◌++◌, length, map, max, min, take, slice_index, All, IfOk, IfSome, OnOk};
 ghost use Rattle.gz_lanes.specs.Combination.{combination, column, contents, HasSums, IsCombined, IsSum, IsPiece, AreFour, AreCombined, AreCopies};
 ghost use Rattle.std.specs.Prelude.{List};
 ghost use Rattle.gz_lanes.specs.Quads.{AreQuads};
@@ -8,7 +8,7 @@ ghost use Rattle.gz_lanes.specs.Quads.{AreQuads};
 use crate::plain;
 use crate::quads::quads_of;
 use crate::rows::Row;
-use crate::vector::{four_blocks, one_block, one_sum, put, sums_of_four};
+use crate::vector::{Blocks, four_blocks, one_block, one_sum, put, sums_of_four};
 use std::alloc::{AllocError, Global};
 use std::simd::prelude::*;
 
@@ -101,12 +101,94 @@ fn extend_to(
 }
 
 /// Four pieces of one length that hold the combinations of four rows so far.
-#[derive(Drop)]
 struct Four {
     a: Vec<u8>,
     b: Vec<u8>,
     c: Vec<u8>,
     d: Vec<u8>,
+}
+
+impl Drop for Four {
+    fn drop(self) {
+        let Four {
+            a: _,
+            b: _,
+            c: _,
+            d: _,
+        } = self;
+    }
+}
+
+impl Four {
+    /// Four empty pieces, with room for the width.
+    fn new(alloc: Global, width: usize) -> Result<Four, AllocError>
+        ensures { IfOk result (λ four. (length four.a.items ≡ 0) × (length four.b.items ≡ 0) × (length four.c.items ≡ 0) × (length four.d.items ≡ 0)) }
+    {
+        Ok(Four {
+            a: Vec::with_capacity(alloc, width)?,
+            b: Vec::with_capacity(alloc, width)?,
+            c: Vec::with_capacity(alloc, width)?,
+            d: Vec::with_capacity(alloc, width)?,
+        })
+    }
+
+    /// Adds the pieces at the end of others.
+    fn push_to(self, pieces: &mut Vec<Vec<u8>>) -> Result<(), AllocError>
+        ensures { OnOk result (pieces.new.items ≡ (((pieces.old.items ++ (self.a ∷ [])) ++ (self.b ∷ [])) ++ (self.c ∷ [])) ++ (self.d ∷ [])) }
+    {
+        let Four { a, b, c, d } = self;
+        pieces.push(a)?;
+        pieces.push(b)?;
+        pieces.push(c)?;
+        pieces.push(d)?;
+        Ok(())
+    }
+}
+
+/// Adds the sums of four rows at 64 places to their pieces, which end there.
+#[inline(always)]
+fn append_four(
+    blocks: &Blocks,
+    at: usize,
+    pieces: &mut Four,
+    rows: (&Row, &Row, &Row, &Row),
+    sources: &[&[u8]],
+) -> Result<(), AllocError>
+    requires first { HasSums rows.0.now (contents sources.now) at 64 blocks.now.a }
+    requires second { HasSums rows.1.now (contents sources.now) at 64 blocks.now.b }
+    requires third { HasSums rows.2.now (contents sources.now) at 64 blocks.now.c }
+    requires fourth { HasSums rows.3.now (contents sources.now) at 64 blocks.now.d }
+    requires pieces_are { AreFour rows.0.now rows.1.now rows.2.now rows.3.now (contents sources.now) at pieces.old.a.items pieces.old.b.items pieces.old.c.items pieces.old.d.items }
+    ensures { OnOk result (AreFour rows.entry.0.now rows.entry.1.now rows.entry.2.now rows.entry.3.now (contents sources.now) (at + 64) pieces.new.a.items pieces.new.b.items pieces.new.c.items pieces.new.d.items) }
+{
+    append(&blocks.a, at, &mut pieces.a, rows.0, sources)?;
+    append(&blocks.b, at, &mut pieces.b, rows.1, sources)?;
+    append(&blocks.c, at, &mut pieces.c, rows.2, sources)?;
+    append(&blocks.d, at, &mut pieces.d, rows.3, sources)
+}
+
+/// Adds to four pieces those of their 16 sums from `at` on that lie beyond their end.
+#[inline(always)]
+fn append_four_vectors(
+    sums: (u8x16, u8x16, u8x16, u8x16),
+    at: usize,
+    pieces: &mut Four,
+    rows: (&Row, &Row, &Row, &Row),
+    sources: &[&[u8]],
+) -> Result<(), AllocError>
+    requires begun { at ≤ length pieces.old.a.items }
+    requires ended { length pieces.old.a.items ≤ at + 16 }
+    requires first { IsSum rows.0.now (contents sources.now) at sums.0 }
+    requires second { IsSum rows.1.now (contents sources.now) at sums.1 }
+    requires third { IsSum rows.2.now (contents sources.now) at sums.2 }
+    requires fourth { IsSum rows.3.now (contents sources.now) at sums.3 }
+    requires pieces_are { AreFour rows.0.now rows.1.now rows.2.now rows.3.now (contents sources.now) (length pieces.old.a.items) pieces.old.a.items pieces.old.b.items pieces.old.c.items pieces.old.d.items }
+    ensures { OnOk result (AreFour rows.entry.0.now rows.entry.1.now rows.entry.2.now rows.entry.3.now (contents sources.now) (at + 16) pieces.new.a.items pieces.new.b.items pieces.new.c.items pieces.new.d.items) }
+{
+    append_vector(sums.0, at, &mut pieces.a, rows.0, sources)?;
+    append_vector(sums.1, at, &mut pieces.b, rows.1, sources)?;
+    append_vector(sums.2, at, &mut pieces.c, rows.2, sources)?;
+    append_vector(sums.3, at, &mut pieces.d, rows.3, sources)
 }
 
 /// Adds the sums of four rows to their pieces, 64 at a time, so that fewer than 64 are left to the given end.
@@ -124,14 +206,10 @@ fn extend_four_by_blocks(
     requires pieces_are { AreFour rows.0.now rows.1.now rows.2.now rows.3.now (contents sources.now) (length pieces.old.a.items) pieces.old.a.items pieces.old.b.items pieces.old.c.items pieces.old.d.items }
     ensures { OnOk result ((length pieces.new.a.items ≤ end) × AreFour rows.entry.0.now rows.entry.1.now rows.entry.2.now rows.entry.3.now (contents sources.now) (length pieces.new.a.items) pieces.new.a.items pieces.new.b.items pieces.new.c.items pieces.new.d.items) }
 {
-    let (a, b, c, d) = rows;
     for _block in 0..(end - pieces.a.len()) / 64 {
         let at = pieces.a.len();
         let blocks = four_blocks(constants, rows, sources, at);
-        append(&blocks.a, at, &mut pieces.a, a, sources)?;
-        append(&blocks.b, at, &mut pieces.b, b, sources)?;
-        append(&blocks.c, at, &mut pieces.c, c, sources)?;
-        append(&blocks.d, at, &mut pieces.d, d, sources)?;
+        append_four(&blocks, at, pieces, rows, sources)?;
     }
     Ok(())
 }
@@ -152,15 +230,11 @@ fn extend_four_to(
     requires pieces_are { AreFour rows.0.now rows.1.now rows.2.now rows.3.now (contents sources.now) (length pieces.old.a.items) pieces.old.a.items pieces.old.b.items pieces.old.c.items pieces.old.d.items }
     ensures { OnOk result (AreFour rows.entry.0.now rows.entry.1.now rows.entry.2.now rows.entry.3.now (contents sources.now) end pieces.new.a.items pieces.new.b.items pieces.new.c.items pieces.new.d.items) }
 {
-    let (a, b, c, d) = rows;
     extend_four_by_blocks(constants, rows, sources, end, pieces)?;
     for _block in 0..(end - pieces.a.len()).div_ceil(16) {
         let at = pieces.a.len().min(end - 16);
-        let (of_a, of_b, of_c, of_d) = sums_of_four(constants, rows, sources, at);
-        append_vector(of_a, at, &mut pieces.a, a, sources)?;
-        append_vector(of_b, at, &mut pieces.b, b, sources)?;
-        append_vector(of_c, at, &mut pieces.c, c, sources)?;
-        append_vector(of_d, at, &mut pieces.d, d, sources)?;
+        let sums = sums_of_four(constants, rows, sources, at);
+        append_four_vectors(sums, at, pieces, rows, sources)?;
     }
     Ok(())
 }
@@ -301,12 +375,7 @@ fn combined_four(
     ensures copies { OnOk result ((copies.new.end ≤ width) × (length copies.new.pieces.items ≡ length copies.old.pieces.items) × AreCopies (contents sources.now) copies.new.end (map (λ piece. piece.items) copies.new.pieces.items)) }
 {
     let constants = quads_of(alloc, rows)?;
-    let mut pieces = Four {
-        a: Vec::with_capacity(alloc, width)?,
-        b: Vec::with_capacity(alloc, width)?,
-        c: Vec::with_capacity(alloc, width)?,
-        d: Vec::with_capacity(alloc, width)?,
-    };
+    let mut pieces = Four::new(alloc, width)?;
     fill_four(&constants, rows, sources, width, &mut pieces, copies)?;
     Ok(pieces)
 }
@@ -329,6 +398,57 @@ fn combined_rows_plainly(
     Ok(pieces)
 }
 
+/// Adds the pieces of the four rows from `at` on to those before them. The copies go on beside them.
+fn add_four(
+    alloc: Global,
+    rows: &[Row],
+    at: usize,
+    sources: &[&[u8]],
+    width: usize,
+    copies: &mut Copies,
+    pieces: &mut Vec<Vec<u8>>,
+) -> Result<(), AllocError>
+    requires four { at + 4 ≤ length rows.now }
+    requires paired { All (λ row. length row ≡ length sources.now) rows.now }
+    requires widths { All (λ source. length source ≡ width) (contents sources.now) }
+    requires long { 16 ≤ width }
+    requires few { length copies.old.pieces.items ≤ length sources.now }
+    requires not_beyond { copies.old.end ≤ width }
+    requires copied { AreCopies (contents sources.now) copies.old.end (map (λ piece. piece.items) copies.old.pieces.items) }
+    requires before { AreCombined rows.now (contents sources.now) width at (map (λ piece. piece.items) pieces.old.items) }
+    ensures pieces { OnOk result (AreCombined rows.now (contents sources.now) width (at + 4) (map (λ piece. piece.items) pieces.new.items)) }
+    ensures copies { OnOk result ((copies.new.end ≤ width) × (length copies.new.pieces.items ≡ length copies.old.pieces.items) × AreCopies (contents sources.now) copies.new.end (map (λ piece. piece.items) copies.new.pieces.items)) }
+{
+    let group = (&rows[at], &rows[at + 1], &rows[at + 2], &rows[at + 3]);
+    let four = combined_four(alloc, group, sources, width, copies)?;
+    four.push_to(pieces)?;
+    Ok(())
+}
+
+/// The pieces of the rows that stand in whole groups of four. The copies go on beside them.
+fn combined_fours(
+    alloc: Global,
+    rows: &[Row],
+    sources: &[&[u8]],
+    width: usize,
+    copies: &mut Copies,
+) -> Result<Vec<Vec<u8>>, AllocError>
+    requires paired { All (λ row. length row ≡ length sources.now) rows.now }
+    requires widths { All (λ source. length source ≡ width) (contents sources.now) }
+    requires long { 16 ≤ width }
+    requires few { length copies.old.pieces.items ≤ length sources.now }
+    requires not_beyond { copies.old.end ≤ width }
+    requires copied { AreCopies (contents sources.now) copies.old.end (map (λ piece. piece.items) copies.old.pieces.items) }
+    ensures pieces { IfOk result (λ pieces. AreCombined rows.now (contents sources.now) width (length rows.now / 4 * 4) (map (λ piece. piece.items) pieces.items)) }
+    ensures copies { OnOk result ((copies.new.end ≤ width) × (length copies.new.pieces.items ≡ length copies.old.pieces.items) × AreCopies (contents sources.now) copies.new.end (map (λ piece. piece.items) copies.new.pieces.items)) }
+{
+    let mut pieces = Vec::with_capacity(alloc, rows.len())?;
+    for four in 0..rows.len() / 4 {
+        add_four(alloc, rows, four * 4, sources, width, copies, &mut pieces)?;
+    }
+    Ok(pieces)
+}
+
 /// The pieces of all rows, four at a time while there are four. The copies go on beside them.
 fn combined_rows(
     alloc: Global,
@@ -347,18 +467,8 @@ fn combined_rows(
     ensures pieces { IfOk result (λ pieces. AreCombined rows.now (contents sources.now) width (length rows.now) (map (λ piece. piece.items) pieces.items)) }
     ensures copies { OnOk result ((copies.new.end ≤ width) × (length copies.new.pieces.items ≡ length copies.old.pieces.items) × AreCopies (contents sources.now) copies.new.end (map (λ piece. piece.items) copies.new.pieces.items)) }
 {
-    let mut pieces = Vec::with_capacity(alloc, rows.len())?;
-    let fours = rows.len() / 4;
-    for four in 0..fours {
-        let at = four * 4;
-        let group = (&rows[at], &rows[at + 1], &rows[at + 2], &rows[at + 3]);
-        let Four { a, b, c, d } = combined_four(alloc, group, sources, width, copies)?;
-        pieces.push(a)?;
-        pieces.push(b)?;
-        pieces.push(c)?;
-        pieces.push(d)?;
-    }
-    for at in fours * 4..rows.len() {
+    let mut pieces = combined_fours(alloc, rows, sources, width, copies)?;
+    for at in rows.len() / 4 * 4..rows.len() {
         pieces.push(combined(alloc, &rows[at], sources, width, copies)?)?;
     }
     Ok(pieces)

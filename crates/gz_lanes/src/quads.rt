@@ -86,9 +86,9 @@ fn constants_of(alloc: Global, a: &[u8], b: &[u8]) -> Result<Vec<u8>, AllocError
     let mut constants = Vec::with_capacity(alloc, quads.saturating_mul(3))?;
     for q in 0..quads {
         let z = add(a[q * 4 + 2], b[q * 4 + 2]);
-        constants.push(ratio(a[q * 4 + 1], add(1, z)))?;
-        constants.push(ratio(a[q * 4 + 3], z))?;
-        constants.push(z)?;
+        let x = ratio(a[q * 4 + 1], add(1, z));
+        let y = ratio(a[q * 4 + 3], z);
+        constants.extend_from_slice(&[x, y, z])?;
     }
     Ok(constants)
 }

@@ -1,3 +1,4 @@
 pub mod Counts
+mod Firsts
 mod Joins
 pub mod Shown

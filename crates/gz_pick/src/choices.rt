@@ -42,9 +42,12 @@ fn top_heard(heard: &[Heard]) -> Option<Ballot>
 fn first_carried(config: &Config, heard: &[Heard], b: Ballot) -> Option<usize>
     ensures { result ≡ position (carries config.now.n config.now.qf heard.now b) heard.now }
 {
-    heard
-        .iter()
-        .position(|one| is_carried(config, heard, b, one))
+    for place in 0..heard.len() {
+        if is_carried(config, heard, b, &heard[place]) {
+            return Some(place);
+        }
+    }
+    None
 }
 
 /// Whether a vote forces its value, where `b` is the highest ballot.
@@ -72,8 +75,11 @@ fn reaches_threshold(config: &Config, heard: &[Heard], vote: &Option<(Ballot, Pu
 fn count_heard(heard: &[Heard], b: Ballot, x: PutName) -> usize
     ensures { result ≡ heard_votes b x heard.now }
 {
-    heard
-        .iter()
-        .filter(|one| is_cast_for(&one.vote, b, x))
-        .count()
+    let mut count = 0;
+    for one in heard {
+        if is_cast_for(&one.vote, b, x) {
+            count += 1;
+        }
+    }
+    count
 }

@@ -80,6 +80,13 @@ impl Contents {
         let Ok(row) = row.clone() else {
             return Err(SiteFault::NoMemory);
         };
+        self.insert(key, etag, row)
+    }
+
+    fn insert(&mut self, key: Key, etag: Etag, row: Row) -> Result<RowWrite, SiteFault>
+        requires { etag ≡ self.old.top + 1 }
+        ensures { Stores (told_of self.old) key etag row result (told_of self.new) }
+    {
         if self.rows.insert(key, (etag, row)).is_err() {
             return Err(SiteFault::NoMemory);
         }

@@ -3,4 +3,4 @@ use Rattle.gz_lanes.specs.Combination.{contents, AreFour}
 use Rattle.gz_lanes.proofs.pieces.extend_four_by_blocks.Given as goal
 
 abbrev pub invariant-loop-block : goal.invariant-loop-block
-invariant-loop-block l = (length l.pieces.a.items ≡ length l.initial.pieces.a.items + l._block * 64) × AreFour l.a l.b l.c l.d (contents l.sources) (length l.pieces.a.items) l.pieces.a.items l.pieces.b.items l.pieces.c.items l.pieces.d.items
+invariant-loop-block l = (length l.pieces.a.items ≡ length l.initial.pieces.a.items + l._block * 64) × AreFour l.rows.0.now l.rows.1.now l.rows.2.now l.rows.3.now (contents l.sources) (length l.pieces.a.items) l.pieces.a.items l.pieces.b.items l.pieces.c.items l.pieces.d.items
