@@ -6,7 +6,7 @@ use std::alloc::{AllocError, Global};
 use std::test::Fail;
 
 /// Into how many pieces an object is cut, how many are added, the object, and all pieces.
-const WORDS: [(usize, usize, &'static [u8], &'static [&'static [u8]]); 6] = [
+const WORDS: &[(usize, usize, &[u8], &[&[u8]])] = &[
     (2, 1, &[1, 2], &[&[1], &[2], &[7]]),
     (2, 1, &[0x80, 0], &[&[0x80], &[0], &[0x9d]]),
     (2, 1, &[1, 2, 3], &[&[1, 2], &[3, 0], &[5, 6]]),
@@ -38,7 +38,7 @@ fn is_cut(alloc: Global, k: usize, m: usize, object: &[u8], words: &[&[u8]]) -> 
 #[test]
 fn worked_code_words(rt: HostRuntime) {
     for (k, m, object, words) in WORDS {
-        assert!(rt; is_cut(rt.alloc(), k, m, object, words));
+        assert!(rt; is_cut(rt.alloc(), *k, *m, object, words));
     }
 }
 
@@ -58,31 +58,37 @@ fn joined(alloc: Global, pieces: &[(usize, &[u8])]) -> Result<Vec<u8>, CodeError
 }
 
 /// Whether this comes of the pieces.
-fn is_joined(alloc: Global, pieces: &[(usize, &[u8])], wanted: Result<&[u8], CodeError>) -> bool {
+fn is_joined(alloc: Global, pieces: &[(usize, &[u8])], wanted: &Result<&[u8], CodeError>) -> bool {
     match joined(alloc, pieces) {
-        Ok(object) => wanted == Ok(object.as_slice()),
-        Err(error) => wanted == Err(error),
+        Ok(object) => *wanted == Ok(object.as_slice()),
+        Err(error) => *wanted == Err(error),
     }
 }
 
-/// Pieces, and why they are refused.
-const REFUSED: [(&'static [(usize, &'static [u8])], CodeError); 6] = [
-    (&[(0, &[1])], CodeError::TooFew { have: 1, need: 2 }),
-    (&[(0, &[1]), (0, &[1])], CodeError::Repeated { index: 0 }),
-    (&[(0, &[1]), (1, &[2, 2])], CodeError::Width { index: 1 }),
-    (&[(3, &[1])], CodeError::Index { index: 3 }),
-    (&[(0, &[1, 1])], CodeError::Width { index: 0 }),
+/// Pieces, and the object that they give or why they are refused.
+const JOINED: &[(&[(usize, &[u8])], Result<&[u8], CodeError>)] = &[
+    (&[(1, &[2]), (2, &[7])], Ok(&[1, 2])),
+    (&[(0, &[1])], Err(CodeError::TooFew { have: 1, need: 2 })),
+    (
+        &[(0, &[1]), (0, &[1])],
+        Err(CodeError::Repeated { index: 0 }),
+    ),
+    (
+        &[(0, &[1]), (1, &[2, 2])],
+        Err(CodeError::Width { index: 1 }),
+    ),
+    (&[(3, &[1])], Err(CodeError::Index { index: 3 })),
+    (&[(0, &[1, 1])], Err(CodeError::Width { index: 0 })),
     (
         &[(2, &[1, 1]), (2, &[1]), (9, &[1])],
-        CodeError::Index { index: 9 },
+        Err(CodeError::Index { index: 9 }),
     ),
 ];
 
 #[test]
 fn pieces_joined_or_refused(rt: HostRuntime) {
-    assert!(rt; is_joined(rt.alloc(), &[(1, &[2]), (2, &[7])], Ok(&[1, 2])));
-    for (pieces, error) in REFUSED {
-        assert!(rt; is_joined(rt.alloc(), pieces, Err(error)));
+    for (pieces, wanted) in JOINED {
+        assert!(rt; is_joined(rt.alloc(), pieces, wanted));
     }
 }
 
