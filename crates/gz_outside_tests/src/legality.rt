@@ -44,7 +44,7 @@ const PUT: Brief = (1, b'a', Put(1), 2, 14, Placed(1));
 
 const DELETE: Brief = (2, b'a', Delete, 15, 27, Placed(2));
 
-const LEGAL_ONES: [Case; 7] = [
+const LEGAL_ONES: &[Case] = &[
     (&[], LEGAL),
     (&[PUT, DELETE, (3, b'a', Get, 28, 34, Gone(2, 2))], LEGAL),
     // a put and a delete that have not ended may have been read
@@ -85,7 +85,7 @@ const LEGAL_ONES: [Case; 7] = [
     (&[PUT, (2, b'b', Delete, 15, 27, Placed(1))], LEGAL),
 ];
 
-const AGREEMENT_AND_EFFECT: [Case; 6] = [
+const AGREEMENT_AND_EFFECT: &[Case] = &[
     // two writes at one version, by their own answers or by what is read
     (&[PUT, (2, b'a', Put(2), 3, 15, Placed(1))], (1, 1, 2)),
     (&[PUT, (2, b'a', Delete, 3, 15, Placed(1))], (1, 1, 2)),
@@ -116,7 +116,7 @@ const AGREEMENT_AND_EFFECT: [Case; 6] = [
     ),
 ];
 
-const ORDER: [Case; 7] = [
+const ORDER: &[Case] = &[
     (&[PUT, (2, b'a', Get, 15, 21, Absent)], (3, 1, 2)),
     // a read of what a delete took away
     (
@@ -162,7 +162,7 @@ const ORDER: [Case; 7] = [
     ),
 ];
 
-const SOURCES_AND_VALUES: [Case; 11] = [
+const SOURCES_AND_VALUES: &[Case] = &[
     // no such call, the read itself, a call of another object
     (&[(1, b'a', Get, 2, 8, Read(1, 9, 1))], (4, 1, 9)),
     (&[(1, b'a', Get, 2, 8, Gone(1, 9))], (4, 1, 9)),
@@ -207,7 +207,7 @@ const SOURCES_AND_VALUES: [Case; 11] = [
     (&[PUT, (2, b'a', Get, 15, 21, Read(1, 1, 3))], (5, 2, 1)),
 ];
 
-const FIRST_RULES: [Case; 4] = [
+const FIRST_RULES: &[Case] = &[
     // agreement, though an earlier call has a write at two versions
     (
         &[
@@ -248,7 +248,7 @@ const FIRST_RULES: [Case; 4] = [
     ),
 ];
 
-const FIRST_CALLS: [Case; 5] = [
+const FIRST_CALLS: &[Case] = &[
     // the first call, then the first one with it
     (
         &[
@@ -299,11 +299,11 @@ const FIRST_CALLS: [Case; 5] = [
 #[test]
 fn histories_are_judged(rt: HostRuntime) -> Result<(), Fail> {
     let alloc = rt.alloc();
-    judge(alloc, "legal", &LEGAL_ONES)?;
-    judge(alloc, "agreement and effect", &AGREEMENT_AND_EFFECT)?;
-    judge(alloc, "order", &ORDER)?;
-    judge(alloc, "sources and values", &SOURCES_AND_VALUES)?;
-    judge(alloc, "first rules", &FIRST_RULES)?;
-    judge(alloc, "first calls", &FIRST_CALLS)?;
+    judge(alloc, "legal", LEGAL_ONES)?;
+    judge(alloc, "agreement and effect", AGREEMENT_AND_EFFECT)?;
+    judge(alloc, "order", ORDER)?;
+    judge(alloc, "sources and values", SOURCES_AND_VALUES)?;
+    judge(alloc, "first rules", FIRST_RULES)?;
+    judge(alloc, "first calls", FIRST_CALLS)?;
     Ok(())
 }

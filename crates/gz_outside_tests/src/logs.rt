@@ -38,7 +38,7 @@ fn read(alloc: Global, table: &'static str, cases: &[Case]) -> Result<(), Otherw
 
 const PUT: Brief = (1, b'a', Put(0x0102), 2, 14, Placed(1));
 
-const SEVERAL_CALLS: [Case; 3] = [
+const SEVERAL_CALLS: &[Case] = &[
     (&[], 0, "end 0 0 3\n"),
     (
         &[PUT, (1, b'a', Get, 15, 21, Read(1, 1, 0x0102))],
@@ -56,7 +56,7 @@ const SEVERAL_CALLS: [Case; 3] = [
     ),
 ];
 
-const PUTS: [Case; 6] = [
+const PUTS: &[Case] = &[
     (
         &[(2, b'a', PutNothing, 2, 14, Placed(1))],
         6,
@@ -91,7 +91,7 @@ const PUTS: [Case; 6] = [
 
 #[test]
 fn logs_have_their_texts(rt: HostRuntime) -> Result<(), Fail> {
-    read(rt.alloc(), "several calls", &SEVERAL_CALLS)?;
-    read(rt.alloc(), "puts", &PUTS)?;
+    read(rt.alloc(), "several calls", SEVERAL_CALLS)?;
+    read(rt.alloc(), "puts", PUTS)?;
     Ok(())
 }
