@@ -33,7 +33,7 @@ fn step_of(answered: Answered) -> Step {
 type Taken = (Named, Answered);
 
 /// Steps one after another on the empty row.
-const RUNS: [&'static [Taken]; 5] = [
+const RUNS: &[&[Taken]] = &[
     &[
         ((Act::PromiseHigh, Of::One), Answered::Done),
         ((Act::PromiseHigh, Of::One), Answered::Already),

@@ -24,7 +24,7 @@ const PROMISED: Made = Some((Act::PromiseHigh, Of::One));
 type Told = (Option<usize>, u64);
 
 /// The rows of five sites, and what they tell.
-const SHOWN: [(&'static [Made], Told); 6] = [
+const SHOWN: &[(&[Made], Told)] = &[
     (&[FAST, DECIDED, DECIDED, None, LOW], (Some(1), 1)),
     (&[FAST_OF_OTHER, FAST, FAST, FAST, FAST], (Some(1), 1)),
     // two values have votes, and neither has a fast quorum
@@ -68,6 +68,6 @@ fn told(alloc: Global, made: &[Made]) -> Option<Told> {
 #[test]
 fn evidence_is_at_the_lowest_site(rt: HostRuntime) {
     for (made, wanted) in SHOWN {
-        assert!(rt; told(rt.alloc(), made) == Some(wanted));
+        assert!(rt; told(rt.alloc(), made) == Some(*wanted));
     }
 }

@@ -8,7 +8,7 @@ const LONGEST: [u8; 255] = [b'x'; 255];
 const TOO_LONG: [u8; 256] = [b'x'; 256];
 
 /// Bytes, and whether they are a key.
-const KEYS: [(&'static [u8], bool); 8] = [
+const KEYS: &[(&[u8], bool)] = &[
     (b"a", true),
     (b"!~", true),
     (&LONGEST, true),
@@ -30,7 +30,7 @@ fn makes_key(alloc: Global, bytes: &[u8]) -> bool {
 #[test]
 fn bytes_of_keys(rt: HostRuntime) {
     for (bytes, wanted) in KEYS {
-        assert!(rt; [is_key(bytes), makes_key(rt.alloc(), bytes)] == [wanted, wanted]);
+        assert!(rt; [is_key(bytes), makes_key(rt.alloc(), bytes)] == [*wanted, *wanted]);
     }
 }
 
@@ -45,7 +45,7 @@ fn bytes_in_keys() -> [bool; 4] {
 }
 
 /// The bytes of two keys, and whether the first stands below the second.
-const ORDERS: [(&'static [u8], &'static [u8], bool); 4] = [
+const ORDERS: &[(&[u8], &[u8], bool)] = &[
     (b"a", b"a", false),
     (b"a", b"aa", true),
     (b"aa", b"b", true),
@@ -62,6 +62,6 @@ fn is_below(alloc: Global, a: &[u8], b: &[u8]) -> Option<bool> {
 fn bytes_and_keys_in_their_order(rt: HostRuntime) {
     assert!(rt; bytes_in_keys() == [false, true, true, false]);
     for (a, b, below) in ORDERS {
-        assert!(rt; is_below(rt.alloc(), a, b) == Some(below));
+        assert!(rt; is_below(rt.alloc(), a, b) == Some(*below));
     }
 }

@@ -69,7 +69,7 @@ fn compared(alloc: Global, a: &[u8], b: &[u8]) -> Option<[bool; 2]> {
     Some([a.clone().ok()? == b, a < b])
 }
 
-const ORDERS: [(&'static [u8], &'static [u8], [bool; 2]); 4] = [
+const ORDERS: &[(&[u8], &[u8], [bool; 2])] = &[
     (&[1, 2], &[1, 2], [true, false]),
     (&[1, 2], &[1, 2, 0], [false, true]),
     (&[1, 2, 0], &[2], [false, true]),
@@ -79,6 +79,6 @@ const ORDERS: [(&'static [u8], &'static [u8], [bool; 2]); 4] = [
 #[test]
 fn lists_compared(rt: HostRuntime) {
     for (a, b, wanted) in ORDERS {
-        assert!(rt; compared(rt.alloc(), a, b) == Some(wanted));
+        assert!(rt; compared(rt.alloc(), a, b) == Some(*wanted));
     }
 }

@@ -41,7 +41,7 @@ type Vote = (u8, u8, u8, u8);
 
 /// Votes of one object at three sites, where a classic quorum has two and a fast one three, and the session whose put is
 /// chosen at the first version.
-const CHOSEN: [(&'static [Vote], Option<u32>); 9] = [
+const CHOSEN: &[(&[Vote], Option<u32>)] = &[
     (&[], None),
     // two fast votes are too few, three choose
     (&[(0, 1, 0, 1), (1, 1, 0, 1)], None),
@@ -118,7 +118,7 @@ fn told(alloc: Global, votes: &[Vote], key: &[u8]) -> Option<Option<u32>> {
 #[test]
 fn values_chosen_of_the_object_alone(rt: HostRuntime) {
     for (votes, session) in CHOSEN {
-        assert!(rt; told(rt.alloc(), votes, b"a") == Some(session));
+        assert!(rt; told(rt.alloc(), votes, b"a") == Some(*session));
         assert!(rt; told(rt.alloc(), votes, b"b") == Some(None));
     }
 }
