@@ -296,14 +296,25 @@ const FIRST_CALLS: &[Case] = &[
     ),
 ];
 
+const TABLES: &[(&str, &[Case])] = &[
+    ("legal", LEGAL_ONES),
+    ("agreement and effect", AGREEMENT_AND_EFFECT),
+    ("order", ORDER),
+    ("sources and values", SOURCES_AND_VALUES),
+    ("first rules", FIRST_RULES),
+    ("first calls", FIRST_CALLS),
+];
+
+/// Judges each history of each table.
+fn judge_all(alloc: Global) -> Result<(), Otherwise> {
+    for (table, cases) in TABLES {
+        judge(alloc, table, cases)?;
+    }
+    Ok(())
+}
+
 #[test]
 fn histories_are_judged(rt: HostRuntime) -> Result<(), Fail> {
-    let alloc = rt.alloc();
-    judge(alloc, "legal", LEGAL_ONES)?;
-    judge(alloc, "agreement and effect", AGREEMENT_AND_EFFECT)?;
-    judge(alloc, "order", ORDER)?;
-    judge(alloc, "sources and values", SOURCES_AND_VALUES)?;
-    judge(alloc, "first rules", FIRST_RULES)?;
-    judge(alloc, "first calls", FIRST_CALLS)?;
+    judge_all(rt.alloc())?;
     Ok(())
 }
