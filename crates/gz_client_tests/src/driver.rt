@@ -4,11 +4,11 @@ ghost use Rattle.gz_round.specs.Starting.{IsWithin};
 ghost use Rattle.gz_client.specs.Tales.{CanBeTold};
 ghost use Rattle.gz_client_tests.specs.Holding.{IsHeld};
 
-use crate::network::{Move, Network, Told};
+use crate::answers::Answered;
+use crate::network::{Move, Network, Stuck, Told};
 use gz_client::Client;
-use gz_core::{Answer, Call, Config, Items, Key, Reply, Session, Turn};
+use gz_core::{Call, Config, Items, Key, Reply, Session, Turn};
 use std::alloc::Global;
-use std::test::Fail;
 
 /// A client, how many calls it began, the number of its next request, and the sites.
 #[derive(Drop)]
@@ -29,7 +29,7 @@ pub enum Kind {
 
 impl Driver {
     /// The client of session 1 over three sites without a row.
-    pub fn new(alloc: Global, tries: u32) -> Result<Driver, Fail>
+    pub fn new(alloc: Global, tries: u32) -> Result<Driver, Stuck>
         ensures { IfOk result (λ driver. IsHeld driver.client driver.calls driver.first) }
     {
         let config = Config {
@@ -37,7 +37,7 @@ impl Driver {
             ..Config::DEFAULT
         };
         if config.check().is_err() {
-            return Err(Fail::from("no configuration"));
+            return Err(Stuck("no configuration"));
         }
         let client = Client::new(config, Session(1));
         let network = Network::new(alloc)?;
@@ -50,41 +50,41 @@ impl Driver {
     }
 
     /// Begins a call, and plays the moves, of which the last one ends it.
-    pub fn run(&mut self, alloc: Global, kind: Kind, moves: &[Move]) -> Result<Option<Answer>, Fail>
+    pub fn run(&mut self, alloc: Global, kind: Kind, moves: &[Move]) -> Result<Answered, Stuck>
         requires { IsHeld self.old.client self.old.calls self.old.first }
         ensures { OnOk result (IsHeld self.new.client self.new.calls self.new.first) }
     {
         let turn = self.begin(alloc, kind)?;
-        let mut answer = self.network.send(alloc, turn)?;
+        let mut answered = self.network.send(alloc, turn)?;
         for next in moves {
-            answer = self.play(alloc, *next)?;
+            answered = self.play(alloc, *next)?;
         }
-        Ok(answer)
+        Ok(answered)
     }
 
     /// Plays a move, and tells the answer of the call where it ends.
-    fn play(&mut self, alloc: Global, next: Move) -> Result<Option<Answer>, Fail>
+    fn play(&mut self, alloc: Global, next: Move) -> Result<Answered, Stuck>
         requires { IsHeld self.old.client self.old.calls self.old.first }
         ensures { OnOk result (IsHeld self.new.client self.new.calls self.new.first) }
     {
         let Some(told) = self.network.make(alloc, next)? else {
-            return Ok(None);
+            return Ok(Answered::Otherwise);
         };
         let turn = self.tell(alloc, &told)?;
-        let answer = self.network.send(alloc, turn)?;
-        Ok(answer)
+        let answered = self.network.send(alloc, turn)?;
+        Ok(answered)
     }
 
     /// Begins a call.
-    fn begin(&mut self, alloc: Global, kind: Kind) -> Result<Turn, Fail>
+    fn begin(&mut self, alloc: Global, kind: Kind) -> Result<Turn, Stuck>
         requires { IsHeld self.old.client self.old.calls self.old.first }
         ensures { OnOk result (IsHeld self.new.client self.new.calls self.new.first) }
     {
         if self.client.runs() {
-            return Err(Fail::from("a call runs"));
+            return Err(Stuck("a call runs"));
         }
         if self.calls >= 10 || self.first >= 1000 {
-            return Err(Fail::from("too many calls"));
+            return Err(Stuck("too many calls"));
         }
         let call = call_of(alloc, kind)?;
         let turn = self.client.begin(alloc, call, self.first)?;
@@ -94,15 +94,15 @@ impl Driver {
     }
 
     /// Tells the client of a request.
-    fn tell(&mut self, alloc: Global, told: &Told) -> Result<Turn, Fail>
+    fn tell(&mut self, alloc: Global, told: &Told) -> Result<Turn, Stuck>
         requires { IsHeld self.old.client self.old.calls self.old.first }
         ensures { OnOk result (IsHeld self.new.client self.new.calls self.new.first) }
     {
         if !self.client.awaits(told.number) {
-            return Err(Fail::from("not awaited"));
+            return Err(Stuck("not awaited"));
         }
         if self.first >= 1000 {
-            return Err(Fail::from("too many requests"));
+            return Err(Stuck("too many requests"));
         }
         match &told.reply {
             None => self.give_up(alloc, told.number),
@@ -111,7 +111,7 @@ impl Driver {
     }
 
     /// Hands a reply of a request.
-    fn reply(&mut self, alloc: Global, n: u32, answer: &Reply) -> Result<Turn, Fail>
+    fn reply(&mut self, alloc: Global, n: u32, answer: &Reply) -> Result<Turn, Stuck>
         requires held { IsHeld self.old.client self.old.calls self.old.first }
         requires told { CanBeTold self.old.client n self.old.first }
         requires first { self.old.first < 1000 }
@@ -123,7 +123,7 @@ impl Driver {
     }
 
     /// Gives a request up.
-    fn give_up(&mut self, alloc: Global, n: u32) -> Result<Turn, Fail>
+    fn give_up(&mut self, alloc: Global, n: u32) -> Result<Turn, Stuck>
         requires held { IsHeld self.old.client self.old.calls self.old.first }
         requires told { CanBeTold self.old.client n self.old.first }
         requires first { self.old.first < 1000 }
@@ -136,22 +136,22 @@ impl Driver {
 }
 
 /// The number of the request that comes after those of an event.
-fn number_after(first: u32, turn: &Turn) -> Result<u32, Fail>
+fn number_after(first: u32, turn: &Turn) -> Result<u32, Stuck>
     ensures { IfOk result (λ n. n ≡ first + length turn.now.send) }
 {
     let count = turn.send.len();
     if first >= 1000 || count >= 1000 {
-        return Err(Fail::from("too many requests"));
+        return Err(Stuck("too many requests"));
     }
     Ok(first + count as u32)
 }
 
 /// The call of a kind.
-fn call_of(alloc: Global, kind: Kind) -> Result<Call, Fail>
+fn call_of(alloc: Global, kind: Kind) -> Result<Call, Stuck>
     ensures { IfOk result (λ call. IsWithin call) }
 {
     let Some(key) = Key::new(Vec::from_slice(alloc, b"a")?) else {
-        return Err(Fail::from("no key"));
+        return Err(Stuck("no key"));
     };
     match kind {
         Kind::Put => {

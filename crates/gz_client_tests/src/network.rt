@@ -1,13 +1,22 @@
 //! Three sites, of which each stores a row, and the requests that were sent to them.
 ghost use Rattle.std.specs.Prelude.{◌+◌, ◌<◌, ◌≤◌, ◌≡◌, length, IfOk};
 
+use crate::answers::{Answered, answered_of};
 use gz_accept::{fast_vote, promise};
 use gz_core::{
-    Answer, Ballot, Etag, Items, Op, Out, PutName, PutValue, Reply, Row, Session, Turn, Value,
-    Version,
+    Ballot, Etag, Items, Op, Out, PutName, PutValue, Reply, Row, Session, Turn, Value, Version,
 };
 use std::alloc::{AllocError, Global};
-use std::test::Fail;
+
+/// Why a scene can't go on.
+#[derive(Clone, Copy)]
+pub struct Stuck(pub &'static str);
+
+impl From<AllocError> for Stuck {
+    fn from(_error: AllocError) -> Stuck {
+        Stuck("out of memory")
+    }
+}
 
 /// What happens next: a request is delivered to its site, a reply of one is handed to the client, both, the client
 /// is told that one failed, one is given up, or another session votes or promises a ballot at a site.
@@ -68,20 +77,21 @@ impl Network {
         self.sent.len()
     }
 
-    /// Sends the requests of an event.
-    pub fn send(&mut self, alloc: Global, turn: Turn) -> Result<Option<Answer>, AllocError> {
+    /// Sends the requests of an event, and tells how its call is answered at it.
+    pub fn send(&mut self, alloc: Global, turn: Turn) -> Result<Answered, AllocError> {
         let Turn { send, answer } = turn;
+        let answered = answered_of(&answer);
         for out in send.into_vec() {
             self.sent.push(Sent {
                 out,
                 replies: Vec::new(alloc),
             })?;
         }
-        Ok(answer)
+        Ok(answered)
     }
 
     /// Makes a move, and says what the client is told at it.
-    pub fn make(&mut self, alloc: Global, next: Move) -> Result<Option<Told>, Fail> {
+    pub fn make(&mut self, alloc: Global, next: Move) -> Result<Option<Told>, Stuck> {
         match next {
             Move::Deliver(number) => self.deliver(number)?,
             Move::Reply(number, which) => return self.replied(number, which),
@@ -104,34 +114,36 @@ impl Network {
     }
 
     /// The place of a request.
-    fn place(&self, number: u32) -> Result<usize, Fail>
+    fn place(&self, number: u32) -> Result<usize, Stuck>
         ensures { IfOk result (λ at. at < length self.now.sent.items) }
     {
         let at = (number as usize).wrapping_sub(1);
         if at < self.sent.len() {
             Ok(at)
         } else {
-            Err(Fail::from("no request"))
+            Err(Stuck("no request"))
         }
     }
 
     /// Delivers a request to its site.
-    fn deliver(&mut self, number: u32) -> Result<(), Fail> {
+    fn deliver(&mut self, number: u32) -> Result<(), Stuck> {
         let at = self.place(number)?;
         let site = self.sent[at].out.site.index();
         if site >= self.rows.len() {
-            return Err(Fail::from("no site"));
+            return Err(Stuck("no site"));
         }
         let reply = perform(&mut self.rows[site], &self.sent[at].out.op)?;
-        self.sent[at].replies.push(reply)?;
+        if self.sent[at].replies.push(reply).is_err() {
+            return Err(Stuck("out of memory"));
+        }
         Ok(())
     }
 
     /// A reply of a request, counted from 1.
-    fn replied(&self, number: u32, which: usize) -> Result<Option<Told>, Fail> {
+    fn replied(&self, number: u32, which: usize) -> Result<Option<Told>, Stuck> {
         let at = self.place(number)?;
         if which == 0 || which > self.sent[at].replies.len() {
-            return Err(Fail::from("no reply"));
+            return Err(Stuck("no reply"));
         }
         let reply = self.sent[at].replies[which - 1].clone()?;
         Ok(Some(Told {
@@ -141,9 +153,9 @@ impl Network {
     }
 
     /// Has another session's put vote at a site that has no row.
-    fn vote(&mut self, alloc: Global, site: usize) -> Result<(), Fail> {
+    fn vote(&mut self, alloc: Global, site: usize) -> Result<(), Stuck> {
         if site >= self.rows.len() {
-            return Err(Fail::from("no site"));
+            return Err(Stuck("no site"));
         }
         let row = voted_row(alloc)?;
         let etag = Etag(1);
@@ -152,19 +164,19 @@ impl Network {
     }
 
     /// Has another session's put promise its ballot at a site that has a row.
-    fn promise(&mut self, site: usize) -> Result<(), Fail> {
+    fn promise(&mut self, site: usize) -> Result<(), Stuck> {
         if site >= self.rows.len() {
-            return Err(Fail::from("no site"));
+            return Err(Stuck("no site"));
         }
         match &mut self.rows[site] {
-            None => Err(Fail::from("no row")),
+            None => Err(Stuck("no row")),
             Some(stored) => Ok(promise_in(stored)?),
         }
     }
 }
 
 /// The name of the first put of another session, which votes for the byte 7.
-pub fn name_of_another() -> PutName {
+fn name_of_another() -> PutName {
     PutName {
         session: Session(2),
         seq: 1,

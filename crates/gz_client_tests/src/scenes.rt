@@ -1,37 +1,276 @@
 //! How calls end where requests are delivered late, twice or never, and another session comes between.
 ghost use Rattle.gz_client_tests.specs.Holding.{IsHeld};
 
+use crate::answers::Answered;
 use crate::driver::{Driver, Kind};
-use crate::network::Move::{self, Deliver, GiveUp, Promise, Reply, Take, Vote};
-use crate::network::name_of_another;
+use crate::network::Move::{self, Deliver, Fail, GiveUp, Promise, Reply, Take, Vote};
+use crate::network::Stuck;
 use gz_client::Client;
-use gz_core::{Answer, Items, Phase, PutName, Session, UnsureWhy, Version};
-use std::alloc::{AllocError, Global};
-use std::test::Fail;
+use std::alloc::Global;
 
-/// The moves that are played from the beginning of a call over sites without a row until it ends, and how many
-/// requests it sent.
-#[derive(Clone, Copy)]
+/// A call over sites without a row, which tries so often: the moves from its beginning until it ends, its answer, and how
+/// many requests it sent.
 struct Scene {
     about: &'static str,
+    kind: Kind,
+    tries: u32,
     moves: &'static [Move],
+    answered: Answered,
     sent: usize,
 }
 
+/// The first puts of the client's session and of another one.
+const OWN: (u32, u32) = (1, 1);
+
+const OTHER: (u32, u32) = (2, 1);
+
+/// Puts that are chosen, puts that end without being known to be chosen, a get of nothing, and gets of a version that isn't
+/// known to be chosen: each of these prepares a classic ballot, and votes there for the value of another's put.
+const SCENES: &'static [Scene] = &[
+    Scene {
+        about: "once three sites have voted for it",
+        kind: Kind::Put,
+        tries: 8,
+        moves: &[Take(1), Take(2), Take(3), Take(4), Take(5), Take(6)],
+        answered: Answered::Ok(1),
+        sent: 9,
+    },
+    Scene {
+        about: "after another's, of which every site holds a vote",
+        kind: Kind::Put,
+        tries: 8,
+        moves: &[
+            Vote(0),
+            Vote(1),
+            Vote(2),
+            Take(1),
+            Take(2),
+            Take(3),
+            Take(4),
+            Take(5),
+            Take(6),
+        ],
+        answered: Answered::Ok(2),
+        sent: 9,
+    },
+    Scene {
+        about: "a vote that is delivered twice counts once: its site is read again, and shows it",
+        kind: Kind::Put,
+        tries: 8,
+        moves: &[
+            Take(1),
+            Take(2),
+            Deliver(4),
+            Deliver(4),
+            Reply(4, 2),
+            Take(6),
+            Take(5),
+            Take(3),
+            Take(7),
+        ],
+        answered: Answered::Ok(1),
+        sent: 10,
+    },
+    Scene {
+        about: "another's vote at a site stands in the way",
+        kind: Kind::Put,
+        tries: 8,
+        moves: &[
+            Take(1),
+            Take(2),
+            Vote(0),
+            Take(4),
+            Take(6),
+            Take(5),
+            GiveUp(3),
+            Take(7),
+            Take(8),
+            Take(9),
+            Take(10),
+        ],
+        answered: Answered::Ok(1),
+        sent: 12,
+    },
+    Scene {
+        about: "over two sites, by a classic ballot",
+        kind: Kind::Put,
+        tries: 8,
+        moves: &[
+            Take(1),
+            Take(2),
+            GiveUp(3),
+            Take(4),
+            Take(5),
+            Take(6),
+            Take(7),
+            Take(8),
+            Take(9),
+        ],
+        answered: Answered::Ok(1),
+        sent: 11,
+    },
+    Scene {
+        about: "another's votes may be a fast quorum's, and force its value",
+        kind: Kind::Put,
+        tries: 8,
+        moves: &[
+            Vote(0),
+            Vote(1),
+            Take(1),
+            Take(2),
+            GiveUp(3),
+            Take(4),
+            Take(5),
+            Take(6),
+            Take(7),
+            Take(8),
+            Take(9),
+            Take(10),
+            Take(11),
+            Take(12),
+            Take(13),
+        ],
+        answered: Answered::Ok(2),
+        sent: 15,
+    },
+    Scene {
+        about: "a ballot above its own is heard, and it prepares again",
+        kind: Kind::Put,
+        tries: 8,
+        moves: &[
+            Take(1),
+            Take(2),
+            GiveUp(3),
+            Take(4),
+            Take(5),
+            Promise(0),
+            Take(6),
+            Take(8),
+            Take(7),
+            Take(9),
+            Take(10),
+            Take(11),
+            Take(12),
+        ],
+        answered: Answered::Ok(1),
+        sent: 14,
+    },
+    Scene {
+        about: "a site fails and another doesn't answer",
+        kind: Kind::Put,
+        tries: 8,
+        moves: &[Take(1), Move::Fail(2), GiveUp(3)],
+        answered: Answered::NoQuorum(1),
+        sent: 3,
+    },
+    Scene {
+        about: "two sites that voted don't answer",
+        kind: Kind::Put,
+        tries: 8,
+        moves: &[
+            Take(1),
+            Take(2),
+            Deliver(4),
+            Deliver(5),
+            GiveUp(4),
+            GiveUp(5),
+        ],
+        answered: Answered::UnsureNoQuorum(0),
+        sent: 5,
+    },
+    Scene {
+        about: "another's vote came between",
+        kind: Kind::Put,
+        tries: 1,
+        moves: &[Take(1), Take(2), Vote(0), Take(4)],
+        answered: Answered::UnsureContended(1),
+        sent: 6,
+    },
+    Scene {
+        about: "two sites without a row are enough",
+        kind: Kind::Get,
+        tries: 8,
+        moves: &[Take(1), Take(2)],
+        answered: Answered::Absent,
+        sent: 3,
+    },
+    Scene {
+        about: "the votes force the value",
+        kind: Kind::Get,
+        tries: 8,
+        moves: &[
+            Vote(0),
+            Vote(1),
+            Take(1),
+            Take(2),
+            GiveUp(3),
+            Take(4),
+            Take(5),
+            Take(6),
+            Take(7),
+        ],
+        answered: Answered::Bytes(1, OTHER, 7),
+        sent: 7,
+    },
+    Scene {
+        about: "the choice is free, and the lowest site with a vote has the value",
+        kind: Kind::Get,
+        tries: 8,
+        moves: &[
+            Vote(1),
+            Take(1),
+            Take(2),
+            GiveUp(3),
+            Take(4),
+            Take(5),
+            Take(6),
+            Take(7),
+        ],
+        answered: Answered::Bytes(1, OTHER, 7),
+        sent: 7,
+    },
+    Scene {
+        about: "a second ballot looks back at the vote of a site that is out by then",
+        kind: Kind::Get,
+        tries: 8,
+        moves: &[
+            Vote(0),
+            Take(1),
+            Take(2),
+            Take(3),
+            GiveUp(4),
+            Take(5),
+            Take(6),
+            Promise(1),
+            Promise(2),
+            Take(7),
+            Take(8),
+            Take(9),
+            Take(10),
+            Take(11),
+            Take(12),
+            Take(13),
+            Take(14),
+        ],
+        answered: Answered::Bytes(1, OTHER, 7),
+        sent: 14,
+    },
+];
+
 /// How a call ended: its answer, how many requests were sent, and how many are still awaited.
-type End = (Option<Answer>, usize, u32);
+type End = (Answered, usize, u32);
 
 impl Driver {
     /// How a call ends.
-    fn end_of(&mut self, alloc: Global, kind: Kind, moves: &[Move]) -> Result<End, Fail>
+    fn end_of(&mut self, alloc: Global, kind: Kind, moves: &[Move]) -> Result<End, Stuck>
         requires { IsHeld self.old.client self.old.calls self.old.first }
     {
-        let answer = self.run(alloc, kind, moves)?;
-        Ok((answer, self.network.count(), self.client.live_count()))
+        let answered = self.run(alloc, kind, moves)?;
+        Ok((answered, self.network.count(), self.client.live_count()))
     }
 
     /// The answers of a call that is chosen once three sites have voted for it, and of a get after it.
-    fn write_and_read(&mut self, alloc: Global, kind: Kind) -> Result<[Option<Answer>; 2], Fail>
+    fn write_and_read(&mut self, alloc: Global, kind: Kind) -> Result<[Answered; 2], Stuck>
         requires { IsHeld self.old.client self.old.calls self.old.first }
     {
         let moves = [Take(1), Take(2), Take(3), Take(4), Take(5), Take(6)];
@@ -42,345 +281,48 @@ impl Driver {
     }
 
     /// Which requests a get awaits once the second of three was answered, as a copy of its client tells it.
-    fn awaited_by_a_get(&mut self, alloc: Global) -> Result<Awaited, Fail>
+    fn awaited_by_a_get(&mut self, alloc: Global) -> Result<Awaited, Stuck>
         requires { IsHeld self.old.client self.old.calls self.old.first }
     {
-        let _ = self.run(alloc, Kind::Get, &[Take(2)])?;
+        self.run(alloc, Kind::Get, &[Take(2)])?;
         Ok(awaited_by(&self.client.copy()?))
     }
 }
 
-/// How a call over sites without a row ends.
-fn end_of(alloc: Global, kind: Kind, tries: u32, moves: &[Move]) -> Result<End, Fail> {
-    let mut driver = Driver::new(alloc, tries)?;
-    driver.end_of(alloc, kind, moves)
+/// How the call of a scene ends.
+fn end_of(alloc: Global, scene: &Scene) -> Result<End, Stuck> {
+    let mut driver = Driver::new(alloc, scene.tries)?;
+    driver.end_of(alloc, scene.kind, scene.moves)
 }
 
-/// Puts that are chosen, each at the version beside it.
-fn chosen_puts() -> [(Version, Scene); 7] {
-    [
-        (
-            Version(1),
-            Scene {
-                about: "once three sites have voted for it",
-                moves: &[Take(1), Take(2), Take(3), Take(4), Take(5), Take(6)],
-                sent: 9,
-            },
-        ),
-        (
-            Version(2),
-            Scene {
-                about: "after another's, of which every site holds a vote",
-                moves: &[
-                    Vote(0),
-                    Vote(1),
-                    Vote(2),
-                    Take(1),
-                    Take(2),
-                    Take(3),
-                    Take(4),
-                    Take(5),
-                    Take(6),
-                ],
-                sent: 9,
-            },
-        ),
-        (
-            Version(1),
-            Scene {
-                about: "a vote that is delivered twice counts once: its site is read again, and shows it",
-                moves: &[
-                    Take(1),
-                    Take(2),
-                    Deliver(4),
-                    Deliver(4),
-                    Reply(4, 2),
-                    Take(6),
-                    Take(5),
-                    Take(3),
-                    Take(7),
-                ],
-                sent: 10,
-            },
-        ),
-        (
-            Version(1),
-            Scene {
-                about: "another's vote at a site stands in the way",
-                moves: &[
-                    Take(1),
-                    Take(2),
-                    Vote(0),
-                    Take(4),
-                    Take(6),
-                    Take(5),
-                    GiveUp(3),
-                    Take(7),
-                    Take(8),
-                    Take(9),
-                    Take(10),
-                ],
-                sent: 12,
-            },
-        ),
-        (
-            Version(1),
-            Scene {
-                about: "over two sites, by a classic ballot",
-                moves: &[
-                    Take(1),
-                    Take(2),
-                    GiveUp(3),
-                    Take(4),
-                    Take(5),
-                    Take(6),
-                    Take(7),
-                    Take(8),
-                    Take(9),
-                ],
-                sent: 11,
-            },
-        ),
-        (
-            Version(2),
-            Scene {
-                about: "another's votes may be a fast quorum's, and force its value",
-                moves: &[
-                    Vote(0),
-                    Vote(1),
-                    Take(1),
-                    Take(2),
-                    GiveUp(3),
-                    Take(4),
-                    Take(5),
-                    Take(6),
-                    Take(7),
-                    Take(8),
-                    Take(9),
-                    Take(10),
-                    Take(11),
-                    Take(12),
-                    Take(13),
-                ],
-                sent: 15,
-            },
-        ),
-        (
-            Version(1),
-            Scene {
-                about: "a ballot above its own is heard, and it prepares again",
-                moves: &[
-                    Take(1),
-                    Take(2),
-                    GiveUp(3),
-                    Take(4),
-                    Take(5),
-                    Promise(0),
-                    Take(6),
-                    Take(8),
-                    Take(7),
-                    Take(9),
-                    Take(10),
-                    Take(11),
-                    Take(12),
-                ],
-                sent: 14,
-            },
-        ),
-    ]
+/// Whether the call of a scene ends as it is to, with no request awaited.
+fn ends_as_told(alloc: Global, scene: &Scene) -> bool {
+    match end_of(alloc, scene) {
+        Err(_) => false,
+        Ok(end) => end == (scene.answered, scene.sent, 0),
+    }
 }
 
-#[test]
-fn puts_that_are_chosen(rt: HostRuntime) -> Result<(), Fail> {
-    for (version, scene) in chosen_puts() {
-        let end = end_of(rt.alloc(), Kind::Put, 8, scene.moves)?;
-        assert_eq!(rt;
-            end,
-            (Some(Answer::Ok { version }), scene.sent, 0),
-            "{}",
-            scene.about
-        );
+/// Plays each scene; else the first one that ends otherwise.
+fn play_each(alloc: Global) -> Result<(), &'static str> {
+    for scene in SCENES {
+        if !ends_as_told(alloc, scene) {
+            return Err(scene.about);
+        }
     }
     Ok(())
 }
 
-/// Puts that end without being known to be chosen, each with how often it tries and its answer.
-fn lost_puts() -> [(u32, Scene, Answer); 3] {
-    [
-        (
-            8,
-            Scene {
-                about: "a site fails and another doesn't answer",
-                moves: &[Take(1), Move::Fail(2), GiveUp(3)],
-                sent: 3,
-            },
-            Answer::NoQuorum {
-                phase: Phase::Look,
-                heard: 1,
-            },
-        ),
-        (
-            8,
-            Scene {
-                about: "two sites that voted don't answer",
-                moves: &[
-                    Take(1),
-                    Take(2),
-                    Deliver(4),
-                    Deliver(5),
-                    GiveUp(4),
-                    GiveUp(5),
-                ],
-                sent: 5,
-            },
-            Answer::Unsure {
-                why: UnsureWhy::NoQuorum {
-                    phase: Phase::Fast,
-                    heard: 0,
-                },
-            },
-        ),
-        (
-            1,
-            Scene {
-                about: "another's vote came between",
-                moves: &[Take(1), Take(2), Vote(0), Take(4)],
-                sent: 6,
-            },
-            Answer::Unsure {
-                why: UnsureWhy::Contended { met: 1 },
-            },
-        ),
-    ]
-}
-
 #[test]
-fn puts_that_are_lost(rt: HostRuntime) -> Result<(), Fail> {
-    for (tries, scene, answer) in lost_puts() {
-        let end = end_of(rt.alloc(), Kind::Put, tries, scene.moves)?;
-        assert_eq!(rt; end, (Some(answer), scene.sent, 0), "{}", scene.about);
-    }
-    Ok(())
-}
-
-/// Two sites without a row are enough.
-#[test]
-fn a_get_of_nothing(rt: HostRuntime) -> Result<(), Fail> {
-    let end = end_of(rt.alloc(), Kind::Get, 8, &[Take(1), Take(2)])?;
-    assert_eq!(rt; end, (Some(Answer::Absent), 3, 0));
-    Ok(())
-}
-
-/// Gets of a version that isn't known to be chosen: each prepares a classic ballot, and votes there for the value of
-/// another's put.
-fn repairs() -> [Scene; 3] {
-    [
-        Scene {
-            about: "the votes force the value",
-            moves: &[
-                Vote(0),
-                Vote(1),
-                Take(1),
-                Take(2),
-                GiveUp(3),
-                Take(4),
-                Take(5),
-                Take(6),
-                Take(7),
-            ],
-            sent: 7,
-        },
-        Scene {
-            about: "the choice is free, and the lowest site with a vote has the value",
-            moves: &[
-                Vote(1),
-                Take(1),
-                Take(2),
-                GiveUp(3),
-                Take(4),
-                Take(5),
-                Take(6),
-                Take(7),
-            ],
-            sent: 7,
-        },
-        Scene {
-            about: "a second ballot looks back at the vote of a site that is out by then",
-            moves: &[
-                Vote(0),
-                Take(1),
-                Take(2),
-                Take(3),
-                GiveUp(4),
-                Take(5),
-                Take(6),
-                Promise(1),
-                Promise(2),
-                Take(7),
-                Take(8),
-                Take(9),
-                Take(10),
-                Take(11),
-                Take(12),
-                Take(13),
-                Take(14),
-            ],
-            sent: 14,
-        },
-    ]
-}
-
-/// The answer with the bytes of another's put.
-fn bytes_of_another(alloc: Global) -> Result<Answer, AllocError> {
-    let bytes = Items::from_slice(alloc, &[7])?;
-    Ok(Answer::Bytes {
-        version: Version(1),
-        name: name_of_another(),
-        bytes,
-    })
-}
-
-#[test]
-fn gets_that_repair(rt: HostRuntime) -> Result<(), Fail> {
-    for scene in repairs() {
-        let end = end_of(rt.alloc(), Kind::Get, 8, scene.moves)?;
-        let answer = bytes_of_another(rt.alloc())?;
-        assert_eq!(rt; end, (Some(answer), scene.sent, 0), "{}", scene.about);
-    }
+fn calls_end_as_told(rt: HostRuntime) -> Result<(), std::test::Fail> {
+    play_each(rt.alloc())?;
     Ok(())
 }
 
 /// The answers of a call of a kind and of a get after it.
-fn then_get(alloc: Global, kind: Kind) -> Result<[Option<Answer>; 2], Fail> {
+fn then_get(alloc: Global, kind: Kind) -> Result<[Answered; 2], Stuck> {
     let mut driver = Driver::new(alloc, 8)?;
     driver.write_and_read(alloc, kind)
-}
-
-/// The answer with the bytes of the first put of session 1.
-fn bytes_of_own(alloc: Global, name: PutName) -> Result<Answer, AllocError> {
-    let bytes = Items::from_slice(alloc, &[1, 2])?;
-    Ok(Answer::Bytes {
-        version: Version(1),
-        name,
-        bytes,
-    })
-}
-
-/// A get after a put reads its bytes, and after a delete tells that the object is gone.
-#[test]
-fn a_get_after_a_write(rt: HostRuntime) -> Result<(), Fail> {
-    let version = Version(1);
-    let name = PutName {
-        session: Session(1),
-        seq: 1,
-    };
-    let bytes = bytes_of_own(rt.alloc(), name)?;
-    let told = then_get(rt.alloc(), Kind::Put)?;
-    assert_eq!(rt; told, [Some(Answer::Ok { version }), Some(bytes)]);
-    let gone = Answer::Gone { version, name };
-    let told = then_get(rt.alloc(), Kind::Delete)?;
-    assert_eq!(rt; told, [Some(Answer::Ok { version }), Some(gone)]);
-    Ok(())
 }
 
 /// What a client tells of the requests that it awaits: whether a call runs, how many they are, the first two, and
@@ -393,11 +335,20 @@ fn awaited_by(client: &Client) -> Awaited {
     (client.runs(), client.live_count(), lowest, awaits)
 }
 
-/// An answered request isn't awaited any more.
+/// What is awaited once the second of a get's requests was answered.
+fn awaited(alloc: Global) -> Result<Awaited, Stuck> {
+    let mut driver = Driver::new(alloc, 8)?;
+    driver.awaited_by_a_get(alloc)
+}
+
+/// A get after a put reads its bytes, and after a delete tells that the object is gone. An answered request isn't awaited
+/// any more.
 #[test]
-fn awaited_requests(rt: HostRuntime) -> Result<(), Fail> {
-    let mut driver = Driver::new(rt.alloc(), 8)?;
-    let told = driver.awaited_by_a_get(rt.alloc())?;
-    assert_eq!(rt; told, (true, 2, [Some(1), Some(3)], [true, false, true]));
-    Ok(())
+fn gets_after_writes_and_what_a_get_awaits(rt: HostRuntime) {
+    let read = Answered::Bytes(1, OWN, 0x0102);
+    let gone = Answered::Gone(1, OWN);
+    assert!(rt; then_get(rt.alloc(), Kind::Put).ok() == Some([Answered::Ok(1), read]));
+    assert!(rt; then_get(rt.alloc(), Kind::Delete).ok() == Some([Answered::Ok(1), gone]));
+    let awaits = [true, false, true];
+    assert!(rt; awaited(rt.alloc()).ok() == Some((true, 2, [Some(1), Some(3)], awaits)));
 }

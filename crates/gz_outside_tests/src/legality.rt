@@ -1,7 +1,7 @@
 //! Histories that are legal, and that break one rule.
 use crate::records::Asked::{Delete, Get, Put};
 use crate::records::Told::{Absent, Contended, Gone, NoQuorum, Open, Placed, Read};
-use crate::records::{Brief, record_of};
+use crate::records::{Brief, Numbered, Otherwise, calls_of};
 use gz_history::{is_history, legal};
 use std::alloc::Global;
 use std::test::Fail;
@@ -9,22 +9,20 @@ use std::test::Fail;
 /// The clause that is broken, with the sessions of its two calls; 0 where none is.
 type Judged = (u8, u32, u32);
 
-fn judged(alloc: Global, briefs: &[Brief]) -> Result<Judged, Fail> {
-    let mut calls = Vec::new(alloc);
-    for brief in briefs {
-        calls.push(record_of(alloc, 1, *brief)?)?;
-    }
+/// How a history is judged; none where it is none, or memory runs out.
+fn judged(alloc: Global, briefs: &[Brief]) -> Option<Judged> {
+    let calls = calls_of(alloc, briefs, Numbered::First)?;
     if !is_history(&calls) {
-        return Err(Fail::from("no history"));
+        return None;
     }
-    Ok(match legal(&calls) {
-        Ok(()) => (0, 0, 0),
-        Err(broken) => (
+    match legal(&calls) {
+        Ok(()) => Some(LEGAL),
+        Err(broken) => Some((
             broken.clause,
             broken.a.session.number(),
             broken.b.session.number(),
-        ),
-    })
+        )),
+    }
 }
 
 const LEGAL: Judged = (0, 0, 0);
@@ -32,57 +30,62 @@ const LEGAL: Judged = (0, 0, 0);
 /// A history, and how it is judged.
 type Case = (&'static [Brief], Judged);
 
-/// The place of the first history that is judged otherwise.
-fn judged_otherwise(alloc: Global, cases: &[Case]) -> Result<Option<usize>, Fail> {
-    for (place, (briefs, told)) in cases.iter().enumerate() {
-        if judged(alloc, briefs)? != *told {
-            return Ok(Some(place));
+/// Judges each history of a table.
+fn judge(alloc: Global, table: &'static str, cases: &[Case]) -> Result<(), Otherwise> {
+    for (place, (briefs, wanted)) in cases.iter().enumerate() {
+        if judged(alloc, briefs) != Some(*wanted) {
+            return Err((table, place));
         }
     }
-    Ok(None)
+    Ok(())
 }
 
 const PUT: Brief = (1, b'a', Put(1), 2, 14, Placed(1));
 
 const DELETE: Brief = (2, b'a', Delete, 15, 27, Placed(2));
 
-#[test]
-fn histories_that_are_legal(rt: HostRuntime) -> Result<(), Fail> {
-    let cases: [&[Brief]; 7] = [
-        &[],
-        &[PUT, DELETE, (3, b'a', Get, 28, 34, Gone(2, 2))],
-        // a put and a delete that have not ended may have been read
+const LEGAL_ONES: &[Case] = &[
+    (&[], LEGAL),
+    (&[PUT, DELETE, (3, b'a', Get, 28, 34, Gone(2, 2))], LEGAL),
+    // a put and a delete that have not ended may have been read
+    (
         &[
             (1, b'a', Put(1), 2, 0, Open),
             (2, b'a', Get, 3, 9, Read(1, 1, 1)),
         ],
+        LEGAL,
+    ),
+    (
         &[
             (1, b'a', Delete, 2, 0, Open),
             (2, b'a', Get, 3, 9, Gone(1, 1)),
         ],
-        // reads while a delete runs, of the version below it and of its own
+        LEGAL,
+    ),
+    // reads while a delete runs, of the version below it and of its own
+    (
         &[
             PUT,
             DELETE,
             (3, b'a', Get, 16, 26, Read(1, 1, 1)),
             (4, b'a', Get, 17, 25, Gone(2, 2)),
         ],
-        // what does not happen to the object: a write without effect, and another object's calls
+        LEGAL,
+    ),
+    // what does not happen to the object: a write without effect, and another object's calls
+    (
         &[
             PUT,
             (2, b'a', Delete, 15, 20, NoQuorum),
             (3, b'a', Put(3), 21, 27, Contended),
             (4, b'a', Get, 28, 34, Read(1, 1, 1)),
         ],
-        &[PUT, (2, b'b', Delete, 15, 27, Placed(1))],
-    ];
-    for briefs in cases {
-        assert_eq!(rt; judged(rt.alloc(), briefs)?, LEGAL);
-    }
-    Ok(())
-}
+        LEGAL,
+    ),
+    (&[PUT, (2, b'b', Delete, 15, 27, Placed(1))], LEGAL),
+];
 
-const AGREEMENT_AND_EFFECT: [Case; 6] = [
+const AGREEMENT_AND_EFFECT: &[Case] = &[
     // two writes at one version, by their own answers or by what is read
     (&[PUT, (2, b'a', Put(2), 3, 15, Placed(1))], (1, 1, 2)),
     (&[PUT, (2, b'a', Delete, 3, 15, Placed(1))], (1, 1, 2)),
@@ -113,13 +116,7 @@ const AGREEMENT_AND_EFFECT: [Case; 6] = [
     ),
 ];
 
-#[test]
-fn histories_that_break_agreement_or_effect_at_most_once(rt: HostRuntime) -> Result<(), Fail> {
-    assert_eq!(rt; judged_otherwise(rt.alloc(), &AGREEMENT_AND_EFFECT)?, None);
-    Ok(())
-}
-
-const ORDER: [Case; 7] = [
+const ORDER: &[Case] = &[
     (&[PUT, (2, b'a', Get, 15, 21, Absent)], (3, 1, 2)),
     // a read of what a delete took away
     (
@@ -165,13 +162,7 @@ const ORDER: [Case; 7] = [
     ),
 ];
 
-#[test]
-fn histories_that_break_the_order(rt: HostRuntime) -> Result<(), Fail> {
-    assert_eq!(rt; judged_otherwise(rt.alloc(), &ORDER)?, None);
-    Ok(())
-}
-
-const SOURCES_AND_VALUES: [Case; 11] = [
+const SOURCES_AND_VALUES: &[Case] = &[
     // no such call, the read itself, a call of another object
     (&[(1, b'a', Get, 2, 8, Read(1, 9, 1))], (4, 1, 9)),
     (&[(1, b'a', Get, 2, 8, Gone(1, 9))], (4, 1, 9)),
@@ -216,13 +207,7 @@ const SOURCES_AND_VALUES: [Case; 11] = [
     (&[PUT, (2, b'a', Get, 15, 21, Read(1, 1, 3))], (5, 2, 1)),
 ];
 
-#[test]
-fn histories_that_break_the_sources_or_the_values(rt: HostRuntime) -> Result<(), Fail> {
-    assert_eq!(rt; judged_otherwise(rt.alloc(), &SOURCES_AND_VALUES)?, None);
-    Ok(())
-}
-
-const FIRST_RULES: [Case; 4] = [
+const FIRST_RULES: &[Case] = &[
     // agreement, though an earlier call has a write at two versions
     (
         &[
@@ -263,13 +248,7 @@ const FIRST_RULES: [Case; 4] = [
     ),
 ];
 
-#[test]
-fn the_first_rule_is_told(rt: HostRuntime) -> Result<(), Fail> {
-    assert_eq!(rt; judged_otherwise(rt.alloc(), &FIRST_RULES)?, None);
-    Ok(())
-}
-
-const FIRST_CALLS: [Case; 5] = [
+const FIRST_CALLS: &[Case] = &[
     // the first call, then the first one with it
     (
         &[
@@ -317,8 +296,25 @@ const FIRST_CALLS: [Case; 5] = [
     ),
 ];
 
+const TABLES: &[(&str, &[Case])] = &[
+    ("legal", LEGAL_ONES),
+    ("agreement and effect", AGREEMENT_AND_EFFECT),
+    ("order", ORDER),
+    ("sources and values", SOURCES_AND_VALUES),
+    ("first rules", FIRST_RULES),
+    ("first calls", FIRST_CALLS),
+];
+
+/// Judges each history of each table.
+fn judge_all(alloc: Global) -> Result<(), Otherwise> {
+    for (table, cases) in TABLES {
+        judge(alloc, table, cases)?;
+    }
+    Ok(())
+}
+
 #[test]
-fn the_first_calls_are_told(rt: HostRuntime) -> Result<(), Fail> {
-    assert_eq!(rt; judged_otherwise(rt.alloc(), &FIRST_CALLS)?, None);
+fn histories_are_judged(rt: HostRuntime) -> Result<(), Fail> {
+    judge_all(rt.alloc())?;
     Ok(())
 }

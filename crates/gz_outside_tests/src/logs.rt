@@ -3,7 +3,7 @@ use crate::records::Asked::{Delete, Get, Put, PutNothing};
 use crate::records::Told::{
     Absent, Contended, Gone, NoQuorum, Open, Placed, Read, UnsureContended, UnsureNoQuorum,
 };
-use crate::records::{Brief, record_of};
+use crate::records::{Brief, Numbered, Otherwise, calls_of};
 use gz_history::log_text;
 use std::alloc::Global;
 use std::test::Fail;
@@ -12,29 +12,33 @@ use std::test::Fail;
 type Case = (&'static [Brief], u32, &'static str);
 
 /// The log of these calls of a session, of which there were so many events, three of them skipped.
-fn log(alloc: Global, briefs: &[Brief], events: u32) -> Result<Vec<u8>, Fail> {
-    let mut calls = Vec::new(alloc);
-    let mut seq = 0u32;
-    for brief in briefs {
-        seq = seq.saturating_add(1);
-        calls.push(record_of(alloc, seq, *brief)?)?;
-    }
-    Ok(log_text(alloc, calls.as_slice(), events, 3)?)
+fn log(alloc: Global, briefs: &[Brief], events: u32) -> Option<Vec<u8>> {
+    let calls = calls_of(alloc, briefs, Numbered::InTurn)?;
+    log_text(alloc, calls.as_slice(), events, 3).ok()
 }
 
-/// The place of the first log that reads otherwise.
-fn read_otherwise(alloc: Global, cases: &[Case]) -> Result<Option<usize>, Fail> {
-    for (place, (calls, events, text)) in cases.iter().enumerate() {
-        if log(alloc, calls, *events)?.as_slice() != text.as_bytes() {
-            return Ok(Some(place));
+/// Whether the log of these calls is the text.
+fn reads(alloc: Global, case: &Case) -> bool {
+    let (briefs, events, text) = case;
+    match log(alloc, briefs, *events) {
+        None => false,
+        Some(log) => log.as_slice() == text.as_bytes(),
+    }
+}
+
+/// Reads each log of a table.
+fn read(alloc: Global, table: &'static str, cases: &[Case]) -> Result<(), Otherwise> {
+    for (place, case) in cases.iter().enumerate() {
+        if !reads(alloc, case) {
+            return Err((table, place));
         }
     }
-    Ok(None)
+    Ok(())
 }
 
 const PUT: Brief = (1, b'a', Put(0x0102), 2, 14, Placed(1));
 
-const SEVERAL_CALLS: [Case; 3] = [
+const SEVERAL_CALLS: &[Case] = &[
     (&[], 0, "end 0 0 3\n"),
     (
         &[PUT, (1, b'a', Get, 15, 21, Read(1, 1, 0x0102))],
@@ -52,13 +56,7 @@ const SEVERAL_CALLS: [Case; 3] = [
     ),
 ];
 
-#[test]
-fn logs_of_several_calls(rt: HostRuntime) -> Result<(), Fail> {
-    assert_eq!(rt; read_otherwise(rt.alloc(), &SEVERAL_CALLS)?, None);
-    Ok(())
-}
-
-const PUTS: [Case; 6] = [
+const PUTS: &[Case] = &[
     (
         &[(2, b'a', PutNothing, 2, 14, Placed(1))],
         6,
@@ -92,7 +90,8 @@ const PUTS: [Case; 6] = [
 ];
 
 #[test]
-fn logs_of_a_put(rt: HostRuntime) -> Result<(), Fail> {
-    assert_eq!(rt; read_otherwise(rt.alloc(), &PUTS)?, None);
+fn logs_have_their_texts(rt: HostRuntime) -> Result<(), Fail> {
+    read(rt.alloc(), "several calls", SEVERAL_CALLS)?;
+    read(rt.alloc(), "puts", PUTS)?;
     Ok(())
 }

@@ -5,150 +5,188 @@ use gz_site::{
     Failing, MemShelf, MemSink, MemSite, RowRead, RowWrite, Shelf, ShelfError, Sink, SinkError,
     Site, SiteFault, read_at, write_all, write_at,
 };
-use std::alloc::{AllocError, Global};
+use std::alloc::Global;
 use std::collections::BTreeMap;
-use std::test::Fail;
 
-/// Whether a read shows the empty row under this tag, none standing for no row.
-fn shows(read: &RowRead, tag: Option<Etag>) -> bool {
-    match (read, tag) {
-        (RowRead::Row { etag, row }, Some(tag)) => {
-            etag.number() == tag.number() && row.floor().number() == 0 && row.columns().is_empty()
-        }
-        (RowRead::NoRow, None) => true,
-        _ => false,
+/// What a read shows: the tag of the row, and whether the row is the empty one; none where there is no row.
+type Shown = Option<(Etag, bool)>;
+
+const FIRST: Shown = Some((Etag(1), true));
+
+const SECOND: Shown = Some((Etag(2), true));
+
+fn shown(read: &RowRead) -> Shown {
+    match read {
+        RowRead::NoRow => None,
+        RowRead::Row { etag, row } => {
+            let is_empty = row.floor().number() == 0 && row.columns().is_empty();
+            Some((*etag, is_empty))
+        },
     }
 }
 
-/// Whether a site is read, and shows the empty row under this tag or no row.
-fn reads(
-    alloc: Global,
-    site: &mut MemSite,
-    key: &Key,
-    tag: Option<Etag>,
-) -> Result<bool, SiteFault> {
-    Ok(shows(&site.read_row(alloc, key)?, tag))
+fn read(alloc: Global, site: &mut MemSite, key: &Key) -> Result<Shown, SiteFault> {
+    Ok(shown(&site.read_row(alloc, key)?))
 }
 
-/// Writes the empty row.
-fn write(
-    alloc: Global,
-    site: &mut MemSite,
-    key: &Key,
-    expect: Option<Etag>,
-) -> Result<RowWrite, SiteFault> {
-    site.write_row_if(alloc, key, expect, &Row::empty(alloc))
+/// What came of writing the empty row.
+type Written = Result<RowWrite, SiteFault>;
+
+const WRITTEN_FIRST: Written = Ok(RowWrite::Written { etag: Etag(1) });
+
+const WRITTEN_SECOND: Written = Ok(RowWrite::Written { etag: Etag(2) });
+
+const FAILED: Written = Err(SiteFault::Failed);
+
+fn write(alloc: Global, site: &mut MemSite, key: &Key, expect: Option<Etag>) -> Written {
+    let row = Row::empty(alloc);
+    site.write_row_if(alloc, key, expect, &row)
 }
 
-/// Whether an empty site shows no row, then gives tags 1 and 2 to the writes that name the stored tag, refuses the one
-/// between them that does not, and shows the second.
-fn is_written_by_its_tag(alloc: Global, site: &mut MemSite, key: &Key) -> Result<bool, SiteFault> {
-    let before = reads(alloc, site, key, None)?;
-    let first = write(alloc, site, key, None);
-    let between = write(alloc, site, key, None);
-    let second = write(alloc, site, key, Some(Etag(1)));
-    let after = reads(alloc, site, key, Some(Etag(2)))?;
-    Ok(
-        before
-            && first == Ok(RowWrite::Written { etag: Etag(1) })
-            && between == Ok(RowWrite::Changed)
-            && second == Ok(RowWrite::Written { etag: Etag(2) })
-            && after,
-    )
+/// Two writes that expect no row and one that expects tag 1.
+fn three_writes(alloc: Global, site: &mut MemSite, key: &Key) -> [Written; 3] {
+    [
+        write(alloc, site, key, None),
+        write(alloc, site, key, None),
+        write(alloc, site, key, Some(Etag(1))),
+    ]
 }
 
-#[test]
-fn a_row_is_written_by_its_tag(rt: HostRuntime) -> Result<(), Fail> {
-    let key = key_of(rt.alloc(), b'a')?;
-    let mut site = MemSite::new(rt.alloc(), Vec::new(rt.alloc()));
-    assert!(rt; is_written_by_its_tag(rt.alloc(), &mut site, &key)?);
-    Ok(())
+/// What comes of three writes at an empty site, and what a read shows before them and after.
+fn written_by_tags(alloc: Global) -> Option<([Result<Shown, SiteFault>; 2], [Written; 3])> {
+    let key = key_of(alloc, b'a')?;
+    let mut site = MemSite::new(alloc, Vec::new(alloc));
+    let before = read(alloc, &mut site, &key);
+    let writes = three_writes(alloc, &mut site, &key);
+    let after = read(alloc, &mut site, &key);
+    Some(([before, after], writes))
 }
 
-/// Whether a site's first write fails, and the read after it shows this tag.
-fn fails_first(alloc: Global, key: &Key, effect: bool, tag: Option<Etag>) -> Result<bool, Fail> {
-    let failing = vec![in alloc; Failing { call: 1, effect }]?;
+/// What comes of the first write of a site that is to fail it, and what the read after it shows.
+fn failed_first(alloc: Global, effect: bool) -> Option<(Written, Result<Shown, SiteFault>)> {
+    let key = key_of(alloc, b'a')?;
+    let failing = vec![in alloc; Failing { call: 1, effect }].ok()?;
     let mut site = MemSite::new(alloc, failing);
-    let failed = write(alloc, &mut site, key, None) == Err(SiteFault::Failed);
-    Ok(failed && reads(alloc, &mut site, key, tag)?)
+    let failed = write(alloc, &mut site, &key, None);
+    Some((failed, read(alloc, &mut site, &key)))
 }
 
 #[test]
-fn a_failed_write_has_its_effect_or_none(rt: HostRuntime) -> Result<(), Fail> {
-    let key = key_of(rt.alloc(), b'a')?;
-    assert!(rt; fails_first(rt.alloc(), &key, false, None)?);
-    assert!(rt; fails_first(rt.alloc(), &key, true, Some(Etag(1)))?);
-    Ok(())
+fn rows_are_written_by_their_tags(rt: HostRuntime) {
+    let writes = [WRITTEN_FIRST, Ok(RowWrite::Changed), WRITTEN_SECOND];
+    assert!(rt; written_by_tags(rt.alloc()) == Some(([Ok(None), Ok(SECOND)], writes)));
+    assert!(rt; failed_first(rt.alloc(), false) == Some((FAILED, Ok(None))));
+    assert!(rt; failed_first(rt.alloc(), true) == Some((FAILED, Ok(FIRST))));
 }
 
-/// Whether a write at the second of two sites is told its tag, and shown there alone.
-fn is_written_at_second(alloc: Global, sites: &mut Vec<MemSite>, key: &Key) -> Result<bool, Fail> {
-    if sites.len() != 2 {
-        return Err(Fail::from("not two sites"));
-    }
-    let written = write_at(alloc, sites, 1, key, None, &Row::empty(alloc));
-    let first = read_at(alloc, sites, 0, key)?;
-    let second = read_at(alloc, sites, 1, key)?;
-    Ok(
-        written == Ok(RowWrite::Written { etag: Etag(1) })
-            && shows(&first, None)
-            && shows(&second, Some(Etag(1))),
-    )
-}
-
-fn two_sites(alloc: Global) -> Result<Vec<MemSite>, AllocError> {
+fn two_sites(alloc: Global) -> Option<Vec<MemSite>> {
     let mut sites = Vec::new(alloc);
     for _ in 0..2 {
-        sites.push(MemSite::new(alloc, Vec::new(alloc)))?;
+        sites.push(MemSite::new(alloc, Vec::new(alloc))).ok()?;
     }
-    Ok(sites)
+    Some(sites)
+}
+
+/// What a read of one of two sites shows.
+fn read_one(
+    alloc: Global,
+    sites: &mut Vec<MemSite>,
+    at: usize,
+    key: &Key,
+) -> Result<Shown, SiteFault> {
+    if at >= sites.len() {
+        return Err(SiteFault::Failed);
+    }
+    Ok(shown(&read_at(alloc, sites, at, key)?))
+}
+
+/// What comes of a write at the second of two sites.
+fn write_second(alloc: Global, sites: &mut Vec<MemSite>, key: &Key) -> Written {
+    if sites.len() < 2 {
+        return Err(SiteFault::Failed);
+    }
+    let row = Row::empty(alloc);
+    write_at(alloc, sites, 1, key, None, &row)
+}
+
+/// What comes of a write at the second of two sites, and what reads of both show after it.
+fn written_at_second(alloc: Global) -> Option<(Written, [Result<Shown, SiteFault>; 2])> {
+    let key = key_of(alloc, b'a')?;
+    let mut sites = two_sites(alloc)?;
+    let written = write_second(alloc, &mut sites, &key);
+    let first = read_one(alloc, &mut sites, 0, &key);
+    let second = read_one(alloc, &mut sites, 1, &key);
+    Some((written, [first, second]))
 }
 
 #[test]
-fn sites_by_their_places(rt: HostRuntime) -> Result<(), Fail> {
-    let key = key_of(rt.alloc(), b'a')?;
-    let mut sites = two_sites(rt.alloc())?;
-    assert!(rt; is_written_at_second(rt.alloc(), &mut sites, &key)?);
-    Ok(())
+fn sites_by_their_places(rt: HostRuntime) {
+    assert!(rt; written_at_second(rt.alloc()) == Some((WRITTEN_FIRST, [Ok(None), Ok(FIRST)])));
 }
 
 /// A shelf with one file, that fails its last call of the test.
-fn shelf(alloc: Global) -> Result<MemShelf, AllocError> {
+fn shelf(alloc: Global) -> Option<MemShelf> {
     let mut files = BTreeMap::new(alloc);
-    let name = String::from_str(alloc, "file")?;
-    files.insert(name, Vec::from_slice(alloc, &[1, 2, 3])?)?;
-    Ok(MemShelf::new(files, Vec::from_slice(alloc, &[4])?))
+    let name = String::from_str(alloc, "file").ok()?;
+    let bytes = Vec::from_slice(alloc, &[1, 2, 3]).ok()?;
+    files.insert(name, bytes).ok()?;
+    Some(MemShelf::new(files, Vec::from_slice(alloc, &[4]).ok()?))
 }
 
-#[test]
-fn a_shelf_gives_its_files(rt: HostRuntime) -> Result<(), Fail> {
-    let alloc = rt.alloc();
-    let mut shelf = shelf(alloc)?;
-    let bytes = shelf.read(alloc, "file", 3)?;
-    assert_eq!(rt; bytes.as_slice(), [1, 2, 3].as_slice());
-    let cases = [
-        ("none", 3, ShelfError::NoSuch),
-        ("file", 2, ShelfError::TooLarge),
-        ("file", 3, ShelfError::Failed),
-    ];
-    for (name, limit, error) in cases {
-        assert_eq!(rt; shelf.read(alloc, name, limit).err(), Some(error));
+/// Files with the most bytes that they may have, and what is read of them.
+const READS: [(&'static str, usize, Result<&'static [u8], ShelfError>); 4] = [
+    ("file", 3, Ok(&[1, 2, 3])),
+    ("none", 3, Err(ShelfError::NoSuch)),
+    ("file", 2, Err(ShelfError::TooLarge)),
+    ("file", 3, Err(ShelfError::Failed)),
+];
+
+/// Whether a file is read as it is to be.
+fn is_read(
+    alloc: Global,
+    shelf: &mut MemShelf,
+    name: &str,
+    limit: usize,
+    wanted: Result<&[u8], ShelfError>,
+) -> bool {
+    match shelf.read(alloc, name, limit) {
+        Ok(bytes) => wanted == Ok(bytes.as_slice()),
+        Err(error) => wanted == Err(error),
     }
-    Ok(())
 }
 
-/// A sink that fails its third call.
-fn sink(alloc: Global) -> Result<MemSink, AllocError> {
-    Ok(MemSink::new(alloc, Vec::from_slice(alloc, &[3])?))
+fn are_read(alloc: Global, shelf: &mut MemShelf) -> bool {
+    for (name, limit, wanted) in READS {
+        if !is_read(alloc, shelf, name, limit, wanted) {
+            return false;
+        }
+    }
+    true
+}
+
+fn gives_its_files(alloc: Global) -> Option<bool> {
+    let mut shelf = shelf(alloc)?;
+    Some(are_read(alloc, &mut shelf))
+}
+
+/// What a sink answers to two writes, and to a flush between them and a write of all bytes after them.
+fn told(sink: &mut MemSink) -> ([Result<usize, SinkError>; 2], [Result<(), SinkError>; 2]) {
+    let first = sink.write(&[1, 2]);
+    let flushed = sink.flush();
+    let failed = sink.write(&[9]);
+    let rest = write_all(sink, &[3, 4]);
+    ([first, failed], [flushed, rest])
+}
+
+/// Whether a sink that fails its third call tells so, and keeps what it took.
+fn keeps_what_is_written(alloc: Global) -> Option<bool> {
+    let mut sink = MemSink::new(alloc, Vec::from_slice(alloc, &[3]).ok()?);
+    let wanted = ([Ok(2), Err(SinkError::Failed)], [Ok(()), Ok(())]);
+    Some(told(&mut sink) == wanted && sink.written() == [1, 2, 3, 4].as_slice())
 }
 
 #[test]
-fn a_sink_keeps_what_is_written(rt: HostRuntime) -> Result<(), Fail> {
-    let mut sink = sink(rt.alloc())?;
-    assert_eq!(rt; sink.write(&[1, 2])?, 2);
-    sink.flush()?;
-    assert_eq!(rt; sink.write(&[9]), Err(SinkError::Failed));
-    write_all(&mut sink, &[3, 4])?;
-    assert_eq!(rt; sink.written(), [1, 2, 3, 4].as_slice());
-    Ok(())
+fn shelves_and_sinks(rt: HostRuntime) {
+    assert!(rt; gives_its_files(rt.alloc()) == Some(true));
+    assert!(rt; keeps_what_is_written(rt.alloc()) == Some(true));
 }

@@ -1,84 +1,91 @@
 //! The steps of the acceptor on small rows.
-use crate::acts::{Act, FIRST, row_by, take_named};
-use crate::samples::{HIGH, LOW, ONE, TWO};
+use crate::acts::{Act, FIRST, Named, Of, row_by, take_named};
+use crate::samples::{HIGH, LOW, ONE};
 use gz_accept::{Step, classic_step, decide_step, fast_step, promise_step, trim_step};
-use gz_core::{PutName, Row};
-use std::alloc::{AllocError, Global};
-use std::test::Fail;
+use gz_core::Row;
+use std::alloc::Global;
 
 const BELOW: Step = Step::Below { promised: HIGH };
 
 const TRIMMED: Step = Step::Trimmed { floor: FIRST };
 
-/// A step, with the name of its value.
-type Named = (Act, PutName);
+/// The answer of a step: below the high ballot, and trimmed up to the first version, where it is one of these.
+#[derive(Clone, Copy)]
+enum Answered {
+    Done,
+    Already,
+    Below,
+    Settled,
+    Trimmed,
+}
 
-/// Steps one after another on the empty row, and their answers.
-const RUNS: [([Named; 4], [Step; 4]); 5] = [
-    (
-        [
-            (Act::PromiseHigh, ONE),
-            (Act::PromiseHigh, ONE),
-            (Act::PromiseLow, ONE),
-            (Act::FastVote, ONE),
-        ],
-        [Step::Done, Step::Already, BELOW, BELOW],
-    ),
-    (
-        [
-            (Act::FastVote, ONE),
-            (Act::FastVote, TWO),
-            (Act::VoteLow, TWO),
-            (Act::Decide, TWO),
-        ],
-        [Step::Done, Step::Already, Step::Done, Step::Done],
-    ),
-    (
-        [
-            (Act::VoteHigh, ONE),
-            (Act::VoteHigh, ONE),
-            (Act::VoteLow, TWO),
-            (Act::Trim, ONE),
-        ],
-        [Step::Done, Step::Already, BELOW, Step::Done],
-    ),
-    (
-        [
-            (Act::Trim, ONE),
-            (Act::Trim, ONE),
-            (Act::FastVote, ONE),
-            (Act::DecideSecond, ONE),
-        ],
-        [Step::Done, Step::Already, TRIMMED, Step::Settled],
-    ),
-    (
-        [
-            (Act::DecideSecond, ONE),
-            (Act::DecideSecond, ONE),
-            (Act::Trim, TWO),
-            (Act::Trim, ONE),
-        ],
-        [Step::Done, Step::Settled, Step::Settled, Step::Done],
-    ),
+fn step_of(answered: Answered) -> Step {
+    match answered {
+        Answered::Done => Step::Done,
+        Answered::Already => Step::Already,
+        Answered::Below => BELOW,
+        Answered::Settled => Step::Settled,
+        Answered::Trimmed => TRIMMED,
+    }
+}
+
+/// A step, and its answer.
+type Taken = (Named, Answered);
+
+/// Steps one after another on the empty row.
+const RUNS: &[&[Taken]] = &[
+    &[
+        ((Act::PromiseHigh, Of::One), Answered::Done),
+        ((Act::PromiseHigh, Of::One), Answered::Already),
+        ((Act::PromiseLow, Of::One), Answered::Below),
+        ((Act::FastVote, Of::One), Answered::Below),
+    ],
+    &[
+        ((Act::FastVote, Of::One), Answered::Done),
+        ((Act::FastVote, Of::Two), Answered::Already),
+        ((Act::VoteLow, Of::Two), Answered::Done),
+        ((Act::Decide, Of::Two), Answered::Done),
+    ],
+    &[
+        ((Act::VoteHigh, Of::One), Answered::Done),
+        ((Act::VoteHigh, Of::One), Answered::Already),
+        ((Act::VoteLow, Of::Two), Answered::Below),
+        ((Act::Trim, Of::One), Answered::Done),
+    ],
+    &[
+        ((Act::Trim, Of::One), Answered::Done),
+        ((Act::Trim, Of::One), Answered::Already),
+        ((Act::FastVote, Of::One), Answered::Trimmed),
+        ((Act::DecideSecond, Of::One), Answered::Settled),
+    ],
+    &[
+        ((Act::DecideSecond, Of::One), Answered::Done),
+        ((Act::DecideSecond, Of::One), Answered::Settled),
+        ((Act::Trim, Of::Two), Answered::Settled),
+        ((Act::Trim, Of::One), Answered::Done),
+    ],
 ];
 
-fn steps_of(alloc: Global, acts: &[Named]) -> Result<Vec<Step>, AllocError> {
-    let mut row = Row::empty(alloc);
-    let mut steps = Vec::new(alloc);
-    for (act, name) in acts {
-        let step = take_named(&mut row, *act, *name)?;
-        steps.push(step)?;
+/// Whether each step on a row is answered as it is to be.
+fn takes(row: &mut Row, run: &[Taken]) -> bool {
+    for (named, answered) in run {
+        if take_named(row, *named) != Ok(step_of(*answered)) {
+            return false;
+        }
     }
-    Ok(steps)
+    true
+}
+
+fn takes_from_empty(alloc: Global, run: &[Taken]) -> bool {
+    let mut row = Row::empty(alloc);
+    takes(&mut row, run)
 }
 
 #[test]
-fn steps_on_the_empty_row(rt: HostRuntime) -> Result<(), Fail> {
-    for (acts, steps) in RUNS.as_slice() {
-        let told = steps_of(rt.alloc(), acts.as_slice())?;
-        assert_eq!(rt; told.as_slice(), steps.as_slice());
+fn steps_on_the_empty_row(rt: HostRuntime) {
+    for run in RUNS {
+        assert!(rt; takes_from_empty(rt.alloc(), run));
     }
-    Ok(())
 }
 
 /// What a fast vote, a promise of the low ballot, a vote in the high one, a decision and a collection come to.
@@ -92,15 +99,17 @@ fn answers(row: &Row) -> [Step; 5] {
     ]
 }
 
+/// The answers on the row that a step makes.
+fn answers_after(alloc: Global, act: Act) -> Option<[Step; 5]> {
+    Some(answers(&row_by(alloc, (act, Of::One))?))
+}
+
 const AT_PROMISE: [Step; 5] = [BELOW, BELOW, Step::Done, Step::Done, Step::Done];
 
 const BELOW_FLOOR: [Step; 5] = [TRIMMED, TRIMMED, TRIMMED, TRIMMED, Step::Already];
 
 #[test]
-fn answers_at_a_promise_and_below_the_floor(rt: HostRuntime) -> Result<(), Fail> {
-    let promised = row_by(rt.alloc(), Act::PromiseHigh, ONE)?;
-    let collected = row_by(rt.alloc(), Act::Trim, ONE)?;
-    assert_eq!(rt; answers(&promised), AT_PROMISE);
-    assert_eq!(rt; answers(&collected), BELOW_FLOOR);
-    Ok(())
+fn answers_at_a_promise_and_below_the_floor(rt: HostRuntime) {
+    assert!(rt; answers_after(rt.alloc(), Act::PromiseHigh) == Some(AT_PROMISE));
+    assert!(rt; answers_after(rt.alloc(), Act::Trim) == Some(BELOW_FLOOR));
 }

@@ -1,7 +1,7 @@
 //! Steps of the acceptor, by which the tests make their rows.
-use crate::samples::{HIGH, LOW, tomb};
+use crate::samples::{HIGH, LOW, ONE, TWO, tomb};
 use gz_accept::{Step, classic_vote, decide, fast_vote, promise, trim};
-use gz_core::{PutName, Row, Value, Version};
+use gz_core::{Row, Value, Version};
 use std::alloc::{AllocError, Global};
 
 pub const FIRST: Version = Version(1);
@@ -21,6 +21,16 @@ pub enum Act {
     Trim,
 }
 
+/// Whose value a step is for.
+#[derive(Clone, Copy)]
+pub enum Of {
+    One,
+    Two,
+}
+
+/// A step, and whose value it is for.
+pub type Named = (Act, Of);
+
 /// Takes the step on a row, for the value `x`.
 fn take(row: &mut Row, act: Act, x: &Value) -> Result<Step, AllocError> {
     match act {
@@ -35,15 +45,19 @@ fn take(row: &mut Row, act: Act, x: &Value) -> Result<Step, AllocError> {
     }
 }
 
-/// Takes the step, for a value of this name.
-pub fn take_named(row: &mut Row, act: Act, name: PutName) -> Result<Step, AllocError> {
-    let value = tomb(name);
+/// Takes the step, for the value of its name.
+pub fn take_named(row: &mut Row, named: Named) -> Result<Step, AllocError> {
+    let (act, of) = named;
+    let value = match of {
+        Of::One => tomb(ONE),
+        Of::Two => tomb(TWO),
+    };
     take(row, act, &value)
 }
 
 /// The row that a step makes of the empty one.
-pub fn row_by(alloc: Global, act: Act, name: PutName) -> Result<Row, AllocError> {
+pub fn row_by(alloc: Global, named: Named) -> Option<Row> {
     let mut row = Row::empty(alloc);
-    take_named(&mut row, act, name)?;
-    Ok(row)
+    take_named(&mut row, named).ok()?;
+    Some(row)
 }

@@ -1,55 +1,61 @@
 //! What calls, values and words tell.
 use crate::samples::{ONE, TWO, key_of, tomb};
-use gz_core::{Call, Items, PutValue, Value, Word};
-use std::alloc::{AllocError, Global};
-use std::test::Fail;
+use gz_core::{Call, Items, PutName, PutValue, Value, Word};
+use std::alloc::Global;
 
-fn put(alloc: Global) -> Result<Call, Fail> {
+fn put(alloc: Global) -> Option<Call> {
     let key = key_of(alloc, b"a")?;
     let bytes = Items::new(alloc);
-    Ok(Call::Put { key, bytes })
+    Some(Call::Put { key, bytes })
 }
 
-fn delete(alloc: Global) -> Result<Call, Fail> {
+fn delete(alloc: Global) -> Option<Call> {
     let key = key_of(alloc, b"b")?;
-    Ok(Call::Delete { key })
+    Some(Call::Delete { key })
 }
 
-fn get(alloc: Global) -> Result<Call, Fail> {
+fn get(alloc: Global) -> Option<Call> {
     let key = key_of(alloc, b"c")?;
-    Ok(Call::Get { key })
+    Some(Call::Get { key })
 }
 
-fn is_about(call: &Call, bytes: &[u8]) -> bool {
-    call.key().as_bytes() == bytes
+/// Whether there is a call, and it is about the key of these bytes.
+fn is_about(call: Option<Call>, bytes: &[u8]) -> bool {
+    match call {
+        None => false,
+        Some(call) => call.key().as_bytes() == bytes,
+    }
 }
 
-#[test]
-fn keys_of_calls(rt: HostRuntime) -> Result<(), Fail> {
-    let told = [
-        is_about(&put(rt.alloc())?, b"a"),
-        is_about(&delete(rt.alloc())?, b"b"),
-        is_about(&get(rt.alloc())?, b"c"),
-    ];
-    assert_eq!(rt; told, [true, true, true]);
-    Ok(())
+fn keys_of_calls(alloc: Global) -> [bool; 3] {
+    [
+        is_about(put(alloc), b"a"),
+        is_about(delete(alloc), b"b"),
+        is_about(get(alloc), b"c"),
+    ]
 }
 
-fn put_value(alloc: Global) -> Result<Value, AllocError> {
+/// The name of what a put writes.
+fn name_of_put(alloc: Global) -> PutName {
     let bytes = Items::new(alloc);
-    Ok(Value::Put(PutValue { name: TWO, bytes }))
+    Value::Put(PutValue { name: TWO, bytes }).name()
+}
+
+fn name_of_delete() -> PutName {
+    tomb(ONE).name()
+}
+
+/// Whether a word has its text.
+fn is_word(alloc: Global, text: &str) -> bool {
+    match String::from_str(alloc, text) {
+        Err(_) => false,
+        Ok(string) => Word(string).as_str() == text,
+    }
 }
 
 #[test]
-fn names_of_values(rt: HostRuntime) -> Result<(), Fail> {
-    let put = put_value(rt.alloc())?;
-    assert_eq!(rt; [tomb(ONE).name(), put.name()], [ONE, TWO]);
-    Ok(())
-}
-
-#[test]
-fn texts_of_words(rt: HostRuntime) -> Result<(), Fail> {
-    let word = Word(String::from_str(rt.alloc(), "replay")?);
-    assert_eq!(rt; word.as_str(), "replay");
-    Ok(())
+fn calls_values_and_words(rt: HostRuntime) {
+    assert!(rt; keys_of_calls(rt.alloc()) == [true, true, true]);
+    assert!(rt; [name_of_delete(), name_of_put(rt.alloc())] == [ONE, TWO]);
+    assert!(rt; is_word(rt.alloc(), "replay"));
 }

@@ -75,21 +75,25 @@ const CLASSIC: [Heard; 2] = [
     },
 ];
 
-#[test]
-fn picks_what_may_be_chosen(rt: HostRuntime) {
-    let picks = [
+fn picks() -> [Pick; 5] {
+    [
         pick(&FIVE, MOST.as_slice()),
         pick(&FIVE, SPLIT.as_slice()),
         pick(&FIVE, HALVES.as_slice()),
         pick(&Config::DEFAULT, SINGLE.as_slice()),
         pick(&Config::DEFAULT, CLASSIC.as_slice()),
-    ];
-    let told = [
-        Pick::Forced { at: 0 },
-        Pick::Free,
-        Pick::Free,
-        Pick::Free,
-        Pick::Forced { at: 1 },
-    ];
-    assert_eq!(rt; picks, told);
+    ]
+}
+
+const PICKS: [Pick; 5] = [
+    Pick::Forced { at: 0 },
+    Pick::Free,
+    Pick::Free,
+    Pick::Free,
+    Pick::Forced { at: 1 },
+];
+
+#[test]
+fn picks_what_may_be_chosen(rt: HostRuntime) {
+    assert!(rt; picks() == PICKS);
 }

@@ -49,6 +49,6 @@ const CONFIGS: [(Config, Result<(), ConfigError>); 9] = [
 #[test]
 fn tells_the_first_broken_rule(rt: HostRuntime) {
     for (config, told) in CONFIGS {
-        assert_eq!(rt; config.check(), told, "{config:?}");
+        assert!(rt; config.check() == told);
     }
 }

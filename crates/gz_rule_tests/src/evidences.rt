@@ -1,103 +1,73 @@
 //! Which site shows that a value is chosen.
-use crate::acts::{Act, FIRST, row_by};
-use crate::samples::{FIVE, ONE, TWO};
-use gz_core::{PutName, Row, SiteId, Version};
+use crate::acts::{Act, FIRST, Named, Of, row_by};
+use crate::samples::FIVE;
+use gz_core::Row;
 use gz_pick::{evidence, highest};
-use std::alloc::{AllocError, Global};
-use std::test::Fail;
+use std::alloc::Global;
 
-/// A step, with the name of its value.
-type Named = (Act, PutName);
+/// The step by which a row came about; none where the row is not known.
+type Made = Option<Named>;
 
-/// The rows that the steps make of the empty one, none where there is no step.
-fn rows_of(alloc: Global, steps: &[Option<Named>]) -> Result<Vec<Option<Row>>, AllocError> {
-    let mut rows = Vec::new(alloc);
-    for step in steps {
-        let row = match step {
-            None => None,
-            Some((act, name)) => Some(row_by(alloc, *act, *name)?),
-        };
-        rows.push(row)?;
-    }
-    Ok(rows)
-}
+const FAST: Made = Some((Act::FastVote, Of::One));
 
-/// The steps by which the rows of five sites came about, none where the row is not known, the site that shows the
-/// first version's value to be chosen, and the greatest version shown.
-const SHOWN: [([Option<Named>; 5], Option<SiteId>, Version); 5] = [
-    (
-        [
-            Some((Act::FastVote, ONE)),
-            Some((Act::Decide, ONE)),
-            Some((Act::Decide, ONE)),
-            None,
-            Some((Act::VoteLow, ONE)),
-        ],
-        Some(SiteId(1)),
-        FIRST,
-    ),
-    (
-        [
-            Some((Act::FastVote, TWO)),
-            Some((Act::FastVote, ONE)),
-            Some((Act::FastVote, ONE)),
-            Some((Act::FastVote, ONE)),
-            Some((Act::FastVote, ONE)),
-        ],
-        Some(SiteId(1)),
-        FIRST,
-    ),
-    (
-        [
-            Some((Act::VoteHigh, ONE)),
-            None,
-            Some((Act::VoteLow, ONE)),
-            Some((Act::VoteLow, ONE)),
-            Some((Act::VoteLow, ONE)),
-        ],
-        Some(SiteId(2)),
-        FIRST,
-    ),
-    (
-        [
-            Some((Act::VoteLow, ONE)),
-            Some((Act::VoteLow, ONE)),
-            Some((Act::VoteHigh, ONE)),
-            None,
-            None,
-        ],
-        None,
-        FIRST,
-    ),
-    (
-        [
-            Some((Act::PromiseHigh, ONE)),
-            Some((Act::PromiseHigh, ONE)),
-            Some((Act::PromiseHigh, ONE)),
-            None,
-            None,
-        ],
-        None,
-        Version(0),
-    ),
+const FAST_OF_OTHER: Made = Some((Act::FastVote, Of::Two));
+
+const LOW: Made = Some((Act::VoteLow, Of::One));
+
+const HIGH: Made = Some((Act::VoteHigh, Of::One));
+
+const DECIDED: Made = Some((Act::Decide, Of::One));
+
+const PROMISED: Made = Some((Act::PromiseHigh, Of::One));
+
+/// The place of the site that shows the first version's value to be chosen, and the greatest version shown.
+type Told = (Option<usize>, u64);
+
+/// The rows of five sites, and what they tell.
+const SHOWN: &[(&[Made], Told)] = &[
+    (&[FAST, DECIDED, DECIDED, None, LOW], (Some(1), 1)),
+    (&[FAST_OF_OTHER, FAST, FAST, FAST, FAST], (Some(1), 1)),
+    // two values have votes, and neither has a fast quorum
+    (&[FAST_OF_OTHER, FAST, FAST, FAST, None], (None, 1)),
+    (&[HIGH, None, LOW, LOW, LOW], (Some(2), 1)),
+    (&[LOW, LOW, HIGH, None, None], (None, 1)),
+    (&[PROMISED, PROMISED, PROMISED, None, None], (None, 0)),
 ];
 
-/// The site that shows the first version's value to be chosen by these rows, and the greatest version shown.
-fn told(alloc: Global, steps: &[Option<Named>]) -> Result<(Option<SiteId>, Version), Fail> {
-    let rows = rows_of(alloc, steps)?;
-    if rows.len() != 5 {
-        return Err(Fail::from("not a row for each site"));
+/// Adds the row that a step makes.
+fn add(alloc: Global, rows: &mut Vec<Option<Row>>, made: Made) -> Option<()> {
+    let row = match made {
+        None => None,
+        Some(named) => Some(row_by(alloc, named)?),
+    };
+    rows.push(row).ok()
+}
+
+fn rows_of(alloc: Global, made: &[Made]) -> Option<Vec<Option<Row>>> {
+    let mut rows = Vec::new(alloc);
+    for one in made {
+        add(alloc, &mut rows, *one)?;
     }
-    Ok((
-        evidence(&FIVE, rows.as_slice(), FIRST),
-        highest(rows.as_slice()),
-    ))
+    Some(rows)
+}
+
+/// What five rows tell.
+fn told(alloc: Global, made: &[Made]) -> Option<Told> {
+    let rows = rows_of(alloc, made)?;
+    let rows = rows.as_slice();
+    if rows.len() != 5 {
+        return None;
+    }
+    let at = match evidence(&FIVE, rows, FIRST) {
+        None => None,
+        Some(site) => Some(site.index()),
+    };
+    Some((at, highest(rows).number()))
 }
 
 #[test]
-fn evidence_is_at_the_lowest_site(rt: HostRuntime) -> Result<(), Fail> {
-    for (steps, site, top) in SHOWN.as_slice() {
-        assert_eq!(rt; told(rt.alloc(), steps.as_slice())?, (*site, *top));
+fn evidence_is_at_the_lowest_site(rt: HostRuntime) {
+    for (made, wanted) in SHOWN {
+        assert!(rt; told(rt.alloc(), made) == Some(*wanted));
     }
-    Ok(())
 }

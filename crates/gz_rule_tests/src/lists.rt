@@ -1,72 +1,75 @@
 //! Lists of elements: how they are made, read and changed.
 use gz_core::Items;
 use std::alloc::{AllocError, Global};
-use std::test::Fail;
 
-fn insert_second(items: &mut Items<u8>) -> Result<(), AllocError> {
+/// Each change leaves its own mark: 9 is pushed, 8 inserted, 7 set, 6 put in place of an element, which is told, and
+/// no 3 kept.
+fn change(items: &mut Items<u8>) -> Result<Option<u8>, AllocError> {
+    items.push(9)?;
     if !items.is_empty() {
         items.insert(1, 8)?;
     }
-    Ok(())
-}
-
-fn set_first(items: &mut Items<u8>) {
     if !items.is_empty() {
         items.set(0, 7);
     }
+    items.retain(|item| *item != 3);
+    if items.len() < 3 {
+        return Ok(None);
+    }
+    Ok(Some(items.replace(2, 6)))
 }
 
-/// The element that stood third, if there was one.
-fn replace_third(items: &mut Items<u8>) -> Option<u8> {
-    if items.len() > 2 {
-        Some(items.replace(2, 6))
+/// What a list of the elements 1, 2 and 3 becomes, and the element that was replaced.
+fn changed(alloc: Global) -> Option<(Option<u8>, Vec<u8>)> {
+    let mut items = Items::from_slice(alloc, &[1, 2, 3]).ok()?;
+    let was = change(&mut items).ok()?;
+    let items = Items::from_vec(items.into_vec());
+    Some((was, items.into_vec()))
+}
+
+/// Whether the list came out as it was to.
+fn is_changed(alloc: Global) -> bool {
+    match changed(alloc) {
+        Some((Some(2), items)) => items.as_slice() == [7, 8, 6, 9].as_slice(),
+        _ => false,
+    }
+}
+
+/// What a list shows: its length, whether there is no element, and the elements at places 1 and 3, where there are any,
+/// and at place 2, if there are three.
+type Shown = (usize, bool, [Option<u8>; 3]);
+
+fn shown(items: &Items<u8>) -> Shown {
+    let third = if items.len() == 3 {
+        Some(*items.at(2))
     } else {
         None
-    }
-}
-
-/// Each change leaves its own mark in the list: 9 pushed, 8 inserted, 7 set, 6 in place of 2, and no 3 retained.
-#[test]
-fn lists_made_and_changed(rt: HostRuntime) -> Result<(), Fail> {
-    let mut items = Items::from_slice(rt.alloc(), &[1, 2, 3])?;
-    items.push(9)?;
-    insert_second(&mut items)?;
-    set_first(&mut items);
-    let was = replace_third(&mut items);
-    items.retain(|item| *item != 3);
-    let items = Items::from_vec(items.into_vec());
-    let wanted: &[u8] = &[7, 8, 6, 9];
-    assert_eq!(rt; (was, items.as_slice()), (Some(2), wanted));
-    Ok(())
-}
-
-/// The length, whether there is none, and the elements at places 1 and 3, where there are any.
-fn read(items: &Items<u8>) -> (usize, bool, Option<u8>, Option<u8>) {
+    };
     let second = items.get(1).copied();
     let fourth = items.get(3).copied();
-    (items.len(), items.is_empty(), second, fourth)
+    (items.len(), items.is_empty(), [second, third, fourth])
+}
+
+/// What a list of these elements shows.
+fn shown_of(alloc: Global, items: &[u8]) -> Option<Shown> {
+    Some(shown(&Items::from_slice(alloc, items).ok()?))
 }
 
 #[test]
-fn lists_read(rt: HostRuntime) -> Result<(), Fail> {
-    let items = Items::from_slice(rt.alloc(), &[4, 5, 6])?;
-    let told = [read(&Items::new(rt.alloc())), read(&items)];
-    assert_eq!(rt; told, [(0, true, None, None), (3, false, Some(5), None)]);
-    if items.len() == 3 {
-        assert_eq!(rt; *items.at(2), 6);
-    }
-    Ok(())
+fn lists_made_changed_and_read(rt: HostRuntime) {
+    assert!(rt; is_changed(rt.alloc()));
+    assert!(rt; shown(&Items::new(rt.alloc())) == (0, true, [None, None, None]));
+    assert!(rt; shown_of(rt.alloc(), &[4, 5, 6]) == Some((3, false, [Some(5), Some(6), None])));
 }
 
 /// Whether a copy of the first list is the second, and whether the first stands below the second.
-fn compared(alloc: Global, a: &[u8], b: &[u8]) -> Result<[bool; 2], AllocError> {
-    let a = Items::from_slice(alloc, a)?;
-    let b = Items::from_slice(alloc, b)?;
-    let copy = a.clone()?;
-    Ok([copy == b, a < b])
+fn compared(alloc: Global, a: &[u8], b: &[u8]) -> Option<[bool; 2]> {
+    let a = Items::from_slice(alloc, a).ok()?;
+    let b = Items::from_slice(alloc, b).ok()?;
+    Some([a.clone().ok()? == b, a < b])
 }
 
-const ORDERS: [(&'static [u8], &'static [u8], [bool; 2]); 4] = [
+const ORDERS: &[(&[u8], &[u8], [bool; 2])] = &[
     (&[1, 2], &[1, 2], [true, false]),
     (&[1, 2], &[1, 2, 0], [false, true]),
     (&[1, 2, 0], &[2], [false, true]),
@@ -74,9 +77,8 @@ const ORDERS: [(&'static [u8], &'static [u8], [bool; 2]); 4] = [
 ];
 
 #[test]
-fn lists_compared(rt: HostRuntime) -> Result<(), Fail> {
+fn lists_compared(rt: HostRuntime) {
     for (a, b, wanted) in ORDERS {
-        assert_eq!(rt; compared(rt.alloc(), a, b)?, wanted);
+        assert!(rt; compared(rt.alloc(), a, b) == Some(*wanted));
     }
-    Ok(())
 }

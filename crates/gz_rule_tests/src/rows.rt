@@ -1,95 +1,126 @@
 //! What a row holds, and what it shows of a version.
-use crate::acts::{Act, FIRST, SECOND, row_by, take_named};
-use crate::samples::{LOW, ONE, TWO, tomb};
-use gz_core::{Ballot, Column, PutName, Row, Version, Vote};
+use crate::acts::{Act, FIRST, Of, SECOND, row_by, take_named};
+use crate::samples::{LOW, ONE, TWO};
+use gz_core::{Ballot, Column, PutName, Row, Version};
 use gz_pick::looks::later_of;
 use gz_pick::{decided_at, named_at, top_of, vote_at};
-use std::alloc::{AllocError, Global};
-use std::test::Fail;
+use std::alloc::Global;
 
 const THIRD: Version = Version(3);
 
 /// The first version has a vote, and the second is decided.
-fn sample(alloc: Global) -> Result<Row, AllocError> {
-    let mut row = row_by(alloc, Act::VoteLow, TWO)?;
-    take_named(&mut row, Act::DecideSecond, ONE)?;
-    Ok(row)
+fn sample(alloc: Global) -> Option<Row> {
+    let mut row = row_by(alloc, (Act::VoteLow, Of::Two))?;
+    take_named(&mut row, (Act::DecideSecond, Of::One)).ok()?;
+    Some(row)
 }
 
-fn decided() -> Column {
-    Column::Decided { value: tomb(ONE) }
-}
+/// What a column holds: its promise where it is open, and the name of its value.
+type Brief = (Option<Ballot>, Option<PutName>);
 
-fn voted() -> Column {
-    let vote = Vote {
-        ballot: LOW,
-        value: tomb(TWO),
-    };
-    Column::Open {
-        promise: LOW,
-        vote: Some(vote),
+fn brief_of(column: &Column) -> Brief {
+    match column {
+        Column::Open { promise, vote } => {
+            let name = match vote {
+                None => None,
+                Some(vote) => Some(vote.value.name()),
+            };
+            (Some(*promise), name)
+        },
+        Column::Decided { value } => (None, Some(value.name())),
     }
 }
 
-#[test]
-fn a_row_has_its_columns(rt: HostRuntime) -> Result<(), Fail> {
-    let row = sample(rt.alloc())?;
-    let columns = [(FIRST, voted()), (SECOND, decided())];
-    assert_eq!(rt; row.columns(), columns.as_slice());
-    Ok(())
+/// The two columns of a row that has as many.
+fn columns_of(row: &Row) -> Option<[(Version, Brief); 2]> {
+    match row.columns() {
+        [(v, first), (w, second)] => Some([(*v, brief_of(first)), (*w, brief_of(second))]),
+        _ => None,
+    }
 }
 
+fn column_at(row: &Row, v: Version) -> Option<Brief> {
+    match row.column(v) {
+        None => None,
+        Some(column) => Some(brief_of(column)),
+    }
+}
+
+/// Of a version its column, its vote, its decision and its value.
+type Shown = (
+    Option<Brief>,
+    Option<(Ballot, PutName)>,
+    Option<PutName>,
+    Option<PutName>,
+);
+
+fn shown_at(row: &Row, v: Version) -> Shown {
+    (
+        column_at(row, v),
+        vote_at(row, v),
+        decided_at(row, v),
+        named_at(row, v),
+    )
+}
+
+/// What the sample's two columns are.
+fn columns_of_sample(alloc: Global) -> Option<[(Version, Brief); 2]> {
+    columns_of(&sample(alloc)?)
+}
+
+/// What the sample shows of a version.
+fn shown_by_sample(alloc: Global, v: Version) -> Option<Shown> {
+    Some(shown_at(&sample(alloc)?, v))
+}
+
+const VOTED: Brief = (Some(LOW), Some(TWO));
+
+const DECIDED: Brief = (None, Some(ONE));
+
+const SHOWN: [(Version, Shown); 3] = [
+    (FIRST, (Some(VOTED), Some((LOW, TWO)), None, Some(TWO))),
+    (SECOND, (Some(DECIDED), None, Some(ONE), Some(ONE))),
+    (THIRD, (None, None, None, None)),
+];
+
 #[test]
-fn a_row_has_a_column_of_a_version(rt: HostRuntime) -> Result<(), Fail> {
-    let row = sample(rt.alloc())?;
-    let told = [row.column(FIRST), row.column(SECOND), row.column(THIRD)];
-    assert_eq!(rt; told, [Some(&voted()), Some(&decided()), None]);
-    Ok(())
+fn a_row_shows_its_columns(rt: HostRuntime) {
+    let columns = [(FIRST, VOTED), (SECOND, DECIDED)];
+    assert!(rt; columns_of_sample(rt.alloc()) == Some(columns));
+    for (v, shown) in SHOWN {
+        assert!(rt; shown_by_sample(rt.alloc(), v) == Some(shown));
+    }
 }
 
 /// The floor, how many columns there are, and the latest version shown.
-fn extent(row: &Row) -> (Version, usize, Version) {
-    (row.floor(), row.columns().len(), top_of(row))
+type Extent = (u64, usize, u64);
+
+fn extent(row: &Row) -> Extent {
+    let columns = row.columns().len();
+    (row.floor().number(), columns, top_of(row).number())
+}
+
+fn extent_of_empty(alloc: Global) -> Extent {
+    extent(&Row::empty(alloc))
+}
+
+/// The extent of the row that a step makes.
+fn extent_by(alloc: Global, act: Act) -> Option<Extent> {
+    Some(extent(&row_by(alloc, (act, Of::One))?))
+}
+
+/// The later of two versions, by either order.
+fn later() -> [u64; 2] {
+    [
+        later_of(SECOND, THIRD).number(),
+        later_of(THIRD, SECOND).number(),
+    ]
 }
 
 #[test]
-fn extents_of_rows(rt: HostRuntime) -> Result<(), Fail> {
-    let empty = Row::empty(rt.alloc());
-    let promised = row_by(rt.alloc(), Act::PromiseLow, ONE)?;
-    let collected = row_by(rt.alloc(), Act::Trim, ONE)?;
-    let told = [extent(&empty), extent(&promised), extent(&collected)];
-    let none = Version(0);
-    assert_eq!(rt;
-        told,
-        [(none, 0, none), (none, 1, none), (FIRST, 1, SECOND)]
-    );
-    Ok(())
-}
-
-/// Of a version of the sample its vote, its decision and its value.
-type Shown = (Option<(Ballot, PutName)>, Option<PutName>, Option<PutName>);
-
-const SHOWN: [(Version, Shown); 3] = [
-    (FIRST, (Some((LOW, TWO)), None, Some(TWO))),
-    (SECOND, (None, Some(ONE), Some(ONE))),
-    (THIRD, (None, None, None)),
-];
-
-fn shown_at(row: &Row, v: Version) -> Shown {
-    (vote_at(row, v), decided_at(row, v), named_at(row, v))
-}
-
-#[test]
-fn a_row_shows_votes_and_decisions(rt: HostRuntime) -> Result<(), Fail> {
-    let row = sample(rt.alloc())?;
-    for (v, shown) in SHOWN {
-        assert_eq!(rt; shown_at(&row, v), shown);
-    }
-    Ok(())
-}
-
-#[test]
-fn the_later_version(rt: HostRuntime) {
-    let told = [later_of(SECOND, THIRD), later_of(THIRD, SECOND)];
-    assert_eq!(rt; told, [THIRD, THIRD]);
+fn extents_of_rows(rt: HostRuntime) {
+    assert!(rt; extent_of_empty(rt.alloc()) == (0, 0, 0));
+    assert!(rt; extent_by(rt.alloc(), Act::PromiseLow) == Some((0, 1, 0)));
+    assert!(rt; extent_by(rt.alloc(), Act::Trim) == Some((1, 1, 2)));
+    assert!(rt; later() == [3, 3]);
 }

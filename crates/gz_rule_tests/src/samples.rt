@@ -1,7 +1,6 @@
 //! The names, ballots and values that the tests speak of.
 use gz_core::{Ballot, Config, Key, PutName, Session, Value};
 use std::alloc::Global;
-use std::test::Fail;
 
 pub const ONE: PutName = PutName {
     session: Session(1),
@@ -41,10 +40,7 @@ pub fn tomb(name: PutName) -> Value {
     Value::Tomb { name }
 }
 
-/// The key of these bytes.
-pub fn key_of(alloc: Global, bytes: &[u8]) -> Result<Key, Fail> {
-    match Key::new(Vec::from_slice(alloc, bytes)?) {
-        Some(key) => Ok(key),
-        None => Err(Fail::from("no key")),
-    }
+/// The key of these bytes, where they are one.
+pub fn key_of(alloc: Global, bytes: &[u8]) -> Option<Key> {
+    Key::new(Vec::from_slice(alloc, bytes).ok()?)
 }

@@ -1,32 +1,31 @@
 //! Worlds that are opened over empty sites in memory.
-ghost use Rattle.std.specs.Prelude.{IfOk};
+ghost use Rattle.std.specs.Prelude.{IfSome};
 ghost use Rattle.gz_world.specs.Fits.{IsFitting};
 
 use gz_core::Config;
 use gz_site::MemSite;
 use gz_world::World;
-use std::alloc::{AllocError, Global};
-use std::test::Fail;
+use std::alloc::Global;
 
 /// Empty sites in memory.
-pub fn empty_sites(alloc: Global, count: usize) -> Result<Vec<MemSite>, AllocError> {
+pub fn empty_sites(alloc: Global, count: u16) -> Option<Vec<MemSite>> {
     let mut sites = Vec::new(alloc);
     for _ in 0..count {
-        sites.push(MemSite::new(alloc, Vec::new(alloc)))?;
+        sites.push(MemSite::new(alloc, Vec::new(alloc))).ok()?;
     }
-    Ok(sites)
+    Some(sites)
 }
 
 /// A world over the sites that a configuration needs.
-pub fn opened(alloc: Global, config: Config) -> Result<World<MemSite>, Fail>
-    ensures { IfOk result (λ world. IsFitting world) }
+pub fn opened(alloc: Global, config: Config) -> Option<World<MemSite>>
+    ensures { IfSome result (λ world. IsFitting world) }
 {
     if config.check().is_err() {
-        return Err(Fail::from("no configuration"));
+        return None;
     }
-    let sites = empty_sites(alloc, config.n as usize)?;
+    let sites = empty_sites(alloc, config.n)?;
     match World::open(alloc, config, sites) {
-        Ok(world) => Ok(world),
-        Err(_) => Err(Fail::from("too few sites")),
+        Ok(world) => Some(world),
+        Err(_) => None,
     }
 }

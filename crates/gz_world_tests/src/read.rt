@@ -66,69 +66,90 @@ fn brief_of(line: &Line) -> Brief {
     }
 }
 
-/// The lines of a short text.
-fn read(alloc: Global, text: &str) -> Result<Vec<Brief>, Fail> {
+fn are(lines: &[Line], briefs: &[Brief]) -> bool {
+    for (line, brief) in lines.iter().zip(briefs) {
+        if brief_of(line) != *brief {
+            return false;
+        }
+    }
+    lines.len() == briefs.len()
+}
+
+/// Whether a short text has these lines.
+fn is_read(alloc: Global, text: &str, briefs: &[Brief]) -> bool {
     if text.len() >= 200 {
-        return Err(Fail::from("too long"));
+        return false;
     }
-    let mut briefs = Vec::new(alloc);
-    for line in &read_schedule(alloc, text.as_bytes())? {
-        briefs.push(brief_of(line))?;
+    match read_schedule(alloc, text.as_bytes()) {
+        Err(_) => false,
+        Ok(lines) => are(lines.as_slice(), briefs),
     }
-    Ok(briefs)
 }
 
-#[test]
-fn schedules_are_read(rt: HostRuntime) -> Result<(), Fail> {
-    let cases = [
-        (
-            "session\nput 1 a x:0102\nsettle 1\nget 1 a\nsettle 1\ndelete 1 a\n",
-            0x10102,
-        ),
-        (
-            "session\r\nput 1 a x:0102\r\nsettle 1\r\nget 1 a\r\nsettle 1\r\ndelete 1 a\r\n",
-            0x10102,
-        ),
-        (
-            "session\nput 1 a x:AbcD\nsettle 1\nget 1 a\nsettle 1\ndelete 1 a",
-            0x1abcd,
-        ),
-        (
-            "# c\n\nsession\nput 1 a x:\n  \nsettle 1\nget 1 a\n# d\nsettle 1\n delete  1 a \n",
-            1,
-        ),
-    ];
-    for (text, bytes) in cases {
-        let lines = [
-            ("session", 0, 0, 1),
-            ("put", 1, 0x61, bytes),
-            ("settle", 1, 0, 1),
-            ("get", 1, 0x61, 1),
-            ("settle", 1, 0, 1),
-            ("delete", 1, 0x61, 1),
-        ];
-        assert!(rt; read(rt.alloc(), text)?.as_slice() == lines.as_slice());
-    }
-    Ok(())
-}
+/// Texts of the same six lines, with the bytes of their put.
+const SIX_LINES: &[(&str, u64)] = &[
+    (
+        "session\nput 1 a x:0102\nsettle 1\nget 1 a\nsettle 1\ndelete 1 a\n",
+        0x10102,
+    ),
+    (
+        "session\r\nput 1 a x:0102\r\nsettle 1\r\nget 1 a\r\nsettle 1\r\ndelete 1 a\r\n",
+        0x10102,
+    ),
+    (
+        "session\nput 1 a x:AbcD\nsettle 1\nget 1 a\nsettle 1\ndelete 1 a",
+        0x1abcd,
+    ),
+    (
+        "# c\n\nsession\nput 1 a x:\n  \nsettle 1\nget 1 a\n# d\nsettle 1\n delete  1 a \n",
+        1,
+    ),
+];
 
-#[test]
-fn each_other_line_is_read(rt: HostRuntime) -> Result<(), Fail> {
-    let text =
-        "deliver 0\n reply  7 0 \ngiveup 4294967295\ncrash 2\n#\ntake 10\ndrain 2\nsettle 2 without 0,15,15\nsettle 2 without 3\nsession";
+/// Whether a text has the six lines.
+fn has_six_lines(alloc: Global, text: &str, bytes: u64) -> bool {
     let lines = [
-        ("deliver", 0, 0, 1),
-        ("reply", 7, 0, 1),
-        ("giveup", 4_294_967_295, 0, 1),
-        ("crash", 2, 0, 1),
-        ("take", 10, 0, 1),
-        ("drain", 2, 0, 1),
-        ("settle", 2, 0, 0x1000f0f),
-        ("settle", 2, 0, 0x103),
         ("session", 0, 0, 1),
+        ("put", 1, 0x61, bytes),
+        ("settle", 1, 0, 1),
+        ("get", 1, 0x61, 1),
+        ("settle", 1, 0, 1),
+        ("delete", 1, 0x61, 1),
     ];
-    assert!(rt; read(rt.alloc(), text)?.as_slice() == lines.as_slice());
-    Ok(())
+    is_read(alloc, text, lines.as_slice())
+}
+
+/// Texts of other lines. A call needs no session above it and a put no line below it, and a text may have no line.
+const OTHERS: &[(&str, &[Brief])] = &[
+    (
+        "deliver 0\n reply  7 0 \ngiveup 4294967295\ncrash 2\n#\ntake 10\ndrain 2\nsettle 2 without 0,15,15\nsettle 2 without 3\nsession",
+        &[
+            ("deliver", 0, 0, 1),
+            ("reply", 7, 0, 1),
+            ("giveup", 4_294_967_295, 0, 1),
+            ("crash", 2, 0, 1),
+            ("take", 10, 0, 1),
+            ("drain", 2, 0, 1),
+            ("settle", 2, 0, 0x1000f0f),
+            ("settle", 2, 0, 0x103),
+            ("session", 0, 0, 1),
+        ],
+    ),
+    (
+        "put 1 a x:01\nget 2 a\n",
+        &[("put", 1, 0x61, 0x101), ("get", 2, 0x61, 1)],
+    ),
+    ("", &[]),
+];
+
+#[test]
+fn schedules_are_read(rt: HostRuntime) {
+    for (text, bytes) in SIX_LINES {
+        assert!(rt; has_six_lines(rt.alloc(), text, *bytes));
+    }
+    for (text, briefs) in OTHERS {
+        assert!(rt; is_read(rt.alloc(), text, briefs));
+    }
 }
 
 /// The line that a text is refused at, if it is.
@@ -147,41 +168,45 @@ fn refused_at(alloc: Global, text: &str) -> Option<u32> {
     }
 }
 
-#[test]
-fn the_first_line_that_is_not_built_is_told(rt: HostRuntime) {
-    let cases: [(&str, u32); 23] = [
-        ("session\ngetat 1 a 1\n", 2),
-        ("session\npat 1 a\n", 2),
-        ("# c\n\nsession\nput 1 a x:0\nsettle 1\n", 4),
-        ("session\nput 01 a x:01\nsettle 1\n", 2),
-        ("deliver 1\ndeliver 01\n", 2),
-        ("deliver 4294967296\n", 1),
-        ("deliver\n", 1),
-        ("take 1\ntake -1\n", 2),
-        ("delete 1\n", 1),
-        ("delete 0 a\n", 1),
-        ("session\ndelete 1 a x:01\n", 2),
-        ("giveup 1 2\n", 1),
-        ("crash 1\ncrash 0\n", 2),
-        ("drain x\n", 1),
-        ("reply 1\n", 1),
-        ("reply 1 1\nreply 1 1 1\n", 2),
-        ("settle 0\n", 1),
-        ("settle 1 without\n", 1),
-        ("settle 1 with 1\n", 1),
-        ("settle 1 without 16\n", 1),
-        ("settle 1 without 1,\n", 1),
-        ("settle 1 without 1, 2\n", 1),
-        ("settle 1 without ,1\n", 1),
-    ];
-    for (text, line) in cases {
-        assert_eq!(rt; refused_at(rt.alloc(), text), Some(line), "line {line}");
+/// Texts, and the first line of each that can't be played.
+const REFUSED: &[(&str, u32)] = &[
+    ("session\ngetat 1 a 1\n", 2),
+    ("session\npat 1 a\n", 2),
+    ("# c\n\nsession\nput 1 a x:0\nsettle 1\n", 4),
+    ("session\nput 01 a x:01\nsettle 1\n", 2),
+    ("deliver 1\ndeliver 01\n", 2),
+    ("deliver 4294967296\n", 1),
+    ("deliver\n", 1),
+    ("take 1\ntake -1\n", 2),
+    ("delete 1\n", 1),
+    ("delete 0 a\n", 1),
+    ("session\ndelete 1 a x:01\n", 2),
+    ("giveup 1 2\n", 1),
+    ("crash 1\ncrash 0\n", 2),
+    ("drain x\n", 1),
+    ("reply 1\n", 1),
+    ("reply 1 1\nreply 1 1 1\n", 2),
+    ("settle 0\n", 1),
+    ("settle 1 without\n", 1),
+    ("settle 1 with 1\n", 1),
+    ("settle 1 without 16\n", 1),
+    ("settle 1 without 1,\n", 1),
+    ("settle 1 without 1, 2\n", 1),
+    ("settle 1 without ,1\n", 1),
+];
+
+/// Has each of the texts refused; else the place of the first one that isn't, or at another line.
+fn refuse_each(alloc: Global) -> Result<(), usize> {
+    for (place, (text, line)) in REFUSED.iter().enumerate() {
+        if refused_at(alloc, text) != Some(*line) {
+            return Err(place);
+        }
     }
+    Ok(())
 }
 
 #[test]
-fn calls_need_no_session_above_and_no_line_below(rt: HostRuntime) {
-    assert_eq!(rt; refused_at(rt.alloc(), "put 1 a x:01\nget 2 a\n"), None);
-    assert!(rt; read_schedule(rt.alloc(), b"put 1 a x:01\nget 2 a\n").is_ok());
-    assert!(rt; read_schedule(rt.alloc(), b"").is_ok());
+fn the_first_line_that_is_not_built_is_told(rt: HostRuntime) -> Result<(), Fail> {
+    refuse_each(rt.alloc())?;
+    Ok(())
 }

@@ -1,5 +1,5 @@
 //! Worlds to which events are applied one by one.
-ghost use Rattle.std.specs.Prelude.{IfOk};
+ghost use Rattle.std.specs.Prelude.{IfSome};
 ghost use Rattle.gz_world.specs.Fits.{IsFitting, IsBounded};
 
 use crate::opened::{empty_sites, opened};
@@ -7,53 +7,38 @@ use gz_core::{Answer, Call, Config, Key, Phase, PutName, Session};
 use gz_script::outboxes::{Outboxes, has_reply};
 use gz_site::MemSite;
 use gz_world::{Applied, ApplyError, Event, OpenWhy, Outcome, Request, Skip, World};
-use std::alloc::{AllocError, Global};
-use std::test::Fail;
+use std::alloc::Global;
 
-/// Applies an event, which must be taken.
-fn apply(world: &mut World<MemSite>, event: Event) -> Result<Applied, Fail>
-    requires fits { IsFitting world.old }
-    requires bounded { IsBounded event }
-    ensures { IsFitting world.new }
-{
-    match world.apply(event) {
-        Ok(applied) => Ok(applied),
-        Err(_) => Err(Fail::from("not applied")),
+/// Why a world isn't opened over two sites, and how many sites are handed back.
+fn refused_over_two(alloc: Global) -> Option<(OpenWhy, usize)> {
+    let sites = empty_sites(alloc, 2)?;
+    match World::open(alloc, Config::DEFAULT, sites) {
+        Ok(_) => None,
+        Err(refused) => Some((refused.why, refused.sites.len())),
     }
 }
 
-#[test]
-fn two_sites_are_too_few(rt: HostRuntime) -> Result<(), Fail> {
-    let sites = empty_sites(rt.alloc(), 2)?;
-    match World::open(rt.alloc(), Config::DEFAULT, sites) {
-        Ok(_) => Err(Fail::from("opened")),
-        Err(refused) => {
-            assert_eq!(rt; refused.why, OpenWhy::Sites { given: 2, need: 3 });
-            assert_eq!(rt; refused.sites.len(), 2);
-            Ok(())
-        }
-    }
-}
-
-/// Crashes a session that isn't there, so many times.
-fn crash_often(world: &mut World<MemSite>, session: Session, count: u32) -> Result<(), Fail>
+/// Crashes a session that isn't there so many times, and tells why it can't be done once more.
+fn crash_often(world: &mut World<MemSite>, session: Session, count: u32) -> Option<ApplyError>
     requires { IsFitting world.old }
-    ensures { IsFitting world.new }
 {
     for _ in 0..count {
-        apply(world, Event::Crash { session })?;
+        world.apply(Event::Crash { session }).ok()?;
     }
-    Ok(())
+    world.apply(Event::Crash { session }).err()
+}
+
+/// Why a world that took so many events takes no more.
+fn refused_after(alloc: Global, count: u32) -> Option<ApplyError> {
+    let mut world = opened(alloc, Config::DEFAULT)?;
+    crash_often(&mut world, SESSION, count)
 }
 
 #[test]
-fn four_million_events_are_the_most(rt: HostRuntime) -> Result<(), Fail> {
-    let session = Session(1);
-    let mut world = opened(rt.alloc(), Config::DEFAULT)?;
-    crash_often(&mut world, session, 4_000_000)?;
-    let next = world.apply(Event::Crash { session });
-    assert_eq!(rt; next, Err(ApplyError::Full));
-    Ok(())
+fn too_few_sites_and_too_many_events(rt: HostRuntime) {
+    let too_few = OpenWhy::Sites { given: 2, need: 3 };
+    assert!(rt; refused_over_two(rt.alloc()) == Some((too_few, 2)));
+    assert!(rt; refused_after(rt.alloc(), 4_000_000) == Some(ApplyError::Full));
 }
 
 const SESSION: Session = Session(1);
@@ -68,27 +53,24 @@ enum Step {
     Crashes,
 }
 
-fn event(alloc: Global, step: Step) -> Result<Event, Fail>
-    ensures { IfOk result (λ event. IsBounded event) }
+fn event(alloc: Global, step: Step) -> Option<Event>
+    ensures { IfSome result (λ event. IsBounded event) }
 {
     let session = SESSION;
-    Ok(match step {
-        Step::Opens => Event::OpenSession,
-        Step::Gets => Event::Begin {
+    match step {
+        Step::Opens => Some(Event::OpenSession),
+        Step::Gets => Some(Event::Begin {
             session,
             call: Call::Get { key: key(alloc)? },
-        },
-        Step::Delivers(n) => Event::Deliver { n },
-        Step::GivesUp(n) => Event::GiveUp { n },
-        Step::Crashes => Event::Crash { session },
-    })
+        }),
+        Step::Delivers(n) => Some(Event::Deliver { n }),
+        Step::GivesUp(n) => Some(Event::GiveUp { n }),
+        Step::Crashes => Some(Event::Crash { session }),
+    }
 }
 
-fn key(alloc: Global) -> Result<Key, Fail> {
-    match Key::new(Vec::from_slice(alloc, b"a")?) {
-        Some(key) => Ok(key),
-        None => Err(Fail::from("no key")),
-    }
+fn key(alloc: Global) -> Option<Key> {
+    Key::new(Vec::from_slice(alloc, b"a").ok()?)
 }
 
 /// What is told of an event: its tick and outcome, the session and its last call, its lowest live request, the requests
@@ -123,19 +105,27 @@ fn told_of(applied: &Applied) -> Told {
     )
 }
 
-/// What each step is told.
-fn told(world: &mut World<MemSite>, steps: &[Step]) -> Result<Vec<Told>, Fail>
+/// Takes a step, and gives what is told of it.
+fn told(world: &mut World<MemSite>, step: Step) -> Option<Told>
     requires { IsFitting world.old }
     ensures { IsFitting world.new }
 {
-    let alloc = world.alloc;
-    let mut told = Vec::new(alloc);
+    let event = event(world.alloc, step)?;
+    let applied = world.apply(event).ok()?;
+    Some(told_of(&applied))
+}
+
+/// Whether each step is told of as it is to be.
+fn happen(world: &mut World<MemSite>, steps: &[(Step, Told)]) -> bool
+    requires { IsFitting world.old }
+    ensures { IsFitting world.new }
+{
     for step in steps {
-        let event = event(alloc, *step)?;
-        let applied = apply(world, event)?;
-        told.push(told_of(&applied))?;
+        if told(world, step.0) != Some(step.1) {
+            return false;
+        }
     }
-    Ok(told)
+    true
 }
 
 const GET: PutName = PutName {
@@ -143,75 +133,104 @@ const GET: PutName = PutName {
     seq: 1,
 };
 
-/// What is told of an event of the session, after it began the get.
-fn of_get(
-    tick: u32,
-    outcome: Outcome,
-    live: Option<u32>,
-    sent: (u32, u32),
-    heard: Option<u32>,
-) -> Told {
-    let own = (Some(SESSION), Some(GET));
-    ((tick, outcome), own, live, sent, heard)
-}
+/// The session, and the get that it began.
+const OWN: (Option<Session>, Option<PutName>) = (Some(SESSION), Some(GET));
 
-#[test]
-fn a_call_whose_requests_are_given_up(rt: HostRuntime) -> Result<(), Fail> {
-    let mut world = opened(rt.alloc(), Config::DEFAULT)?;
-    let steps = [
-        Step::Opens,
-        Step::Gets,
+const OPENED: (Step, Told) = (
+    Step::Opens,
+    (
+        (1, Outcome::Done),
+        (Some(SESSION), None),
+        None,
+        (0, 0),
+        None,
+    ),
+);
+
+const BEGUN: (Step, Told) = (Step::Gets, ((2, Outcome::Done), OWN, Some(1), (1, 3), None));
+
+/// A get whose requests are given up, and a session that crashes twice.
+const GIVEN_UP: [(Step, Told); 6] = [
+    OPENED,
+    BEGUN,
+    (
         Step::GivesUp(1),
+        ((3, Outcome::Done), OWN, Some(2), (0, 0), None),
+    ),
+    (
         Step::GivesUp(2),
+        ((4, Outcome::Done), OWN, None, (0, 0), Some(0)),
+    ),
+    (Step::Crashes, ((5, Outcome::Done), OWN, None, (0, 0), None)),
+    (
         Step::Crashes,
-        Step::Crashes,
-    ];
-    let told = told(&mut world, &steps)?;
-    let opened = (Some(SESSION), None);
-    let expected = [
-        ((1, Outcome::Done), opened, None, (0, 0), None),
-        of_get(2, Outcome::Done, Some(1), (1, 3), None),
-        of_get(3, Outcome::Done, Some(2), (0, 0), None),
-        of_get(4, Outcome::Done, None, (0, 0), Some(0)),
-        of_get(5, Outcome::Done, None, (0, 0), None),
-        of_get(
-            6,
-            Outcome::Skipped { why: Skip::Crashed },
+        (
+            (6, Outcome::Skipped { why: Skip::Crashed }),
+            OWN,
             None,
             (0, 0),
             None,
         ),
-    ];
-    assert!(rt; told.as_slice() == expected.as_slice());
-    assert_eq!(rt; world.into_sites().len(), 3);
-    Ok(())
+    ),
+];
+
+/// How many sites a world gives back after these steps.
+fn sites_after_steps(alloc: Global, steps: &[(Step, Told)]) -> Option<usize> {
+    let mut world = opened(alloc, Config::DEFAULT)?;
+    if !happen(&mut world, steps) {
+        return None;
+    }
+    Some(world.into_sites().len())
 }
 
-#[test]
-fn what_is_awaited_of_a_get(rt: HostRuntime) -> Result<(), Fail> {
-    let mut world = opened(rt.alloc(), Config::DEFAULT)?;
-    told(&mut world, &[Step::Opens, Step::Gets, Step::GivesUp(2)])?;
-    assert_eq!(rt; world.last_call(SESSION), Some(GET));
-    assert_eq!(rt; world.lowest_live(SESSION), Some(1));
-    assert_eq!(rt; world.live_count(SESSION), 2);
-    assert_eq!(rt; world.live_at(SESSION, 1), Some(3));
-    assert!(rt; !world.is_full());
-    Ok(())
+/// A get of which one request is delivered and another one given up.
+const AWAITED: [(Step, Told); 4] = [
+    OPENED,
+    BEGUN,
+    (
+        Step::Delivers(2),
+        ((3, Outcome::Done), OWN, Some(1), (0, 0), None),
+    ),
+    (
+        Step::GivesUp(1),
+        ((4, Outcome::Done), OWN, Some(2), (0, 0), None),
+    ),
+];
+
+/// Of the session its last call, its two lowest live requests, how many are live, and whether the world is full.
+type Awaited = (Option<PutName>, [Option<u32>; 2], u32, bool);
+
+fn awaited(world: &World<MemSite>) -> Awaited {
+    let lowest = [world.lowest_live(SESSION), world.live_at(SESSION, 1)];
+    let count = world.live_count(SESSION);
+    (world.last_call(SESSION), lowest, count, world.is_full())
 }
 
-/// The requests of the first session that are listed.
-fn listed(alloc: Global, net: &[Request]) -> Result<Vec<u32>, AllocError> {
+/// Whether requests 1 and 2 have a reply, and whether those of the session that have none are these.
+fn are_listed(alloc: Global, net: &[Request], unanswered: &[u32]) -> Option<([bool; 2], bool)> {
     let mut outboxes = Outboxes::new(alloc);
-    outboxes.look(net, SESSION)?;
-    Vec::from_slice(alloc, outboxes.of(SESSION))
+    outboxes.look(net, SESSION).ok()?;
+    let are = outboxes.of(SESSION) == unanswered;
+    Some(([has_reply(net, 1), has_reply(net, 2)], are))
+}
+
+/// What is awaited after these steps, and what is shown by the requests.
+fn awaited_after_steps(
+    alloc: Global,
+    steps: &[(Step, Told)],
+) -> Option<(Awaited, ([bool; 2], bool))> {
+    let mut world = opened(alloc, Config::DEFAULT)?;
+    if !happen(&mut world, steps) {
+        return None;
+    }
+    let listed = are_listed(alloc, world.net.as_slice(), &[1, 3])?;
+    Some((awaited(&world), listed))
 }
 
 #[test]
-fn requests_that_have_no_reply(rt: HostRuntime) -> Result<(), Fail> {
-    let mut world = opened(rt.alloc(), Config::DEFAULT)?;
-    told(&mut world, &[Step::Opens, Step::Gets, Step::Delivers(2)])?;
-    let net = world.net.as_slice();
-    assert_eq!(rt; [has_reply(net, 1), has_reply(net, 2)], [false, true]);
-    assert_eq!(rt; listed(rt.alloc(), net)?.as_slice(), [1, 3].as_slice());
-    Ok(())
+fn gets_whose_requests_are_given_up_or_delivered(rt: HostRuntime) {
+    assert!(rt; sites_after_steps(rt.alloc(), GIVEN_UP.as_slice()) == Some(3));
+    let awaited = (Some(GET), [Some(2), Some(3)], 2, false);
+    let listed = ([false, true], true);
+    assert!(rt; awaited_after_steps(rt.alloc(), AWAITED.as_slice()) == Some((awaited, listed)));
 }
