@@ -1,7 +1,7 @@
 //! Calls on many objects, played over three sites in memory.
 ghost use Rattle.std.specs.Prelude.{◌≡◌, ◌<◌, ◌≤◌, IfOk, All};
 ghost use Rattle.gz_core.specs.Configurations.{IsConfig};
-ghost use Rattle.gz_script.specs.Schedule.{IsBounded};
+ghost use Rattle.gz_lines.specs.Schedule.{IsBounded};
 ghost use Rattle.gz_world.specs.Fits.{IsFitting};
 
 use anyhow::{Result, bail, ensure};

@@ -1,6 +1,6 @@
 //! Schedules that are played over sites in memory, and the logs of their worlds.
 ghost use Rattle.std.specs.Prelude.{IfOk, All};
-ghost use Rattle.gz_script.specs.Schedule.{IsBounded};
+ghost use Rattle.gz_lines.specs.Schedule.{IsBounded};
 
 use crate::opened::opened;
 use gz_core::{Config, Order};
