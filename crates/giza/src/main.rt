@@ -2,18 +2,15 @@
 //! a code.
 #![tactic(auto)]
 
-use gz_cli::bench::Bench;
-use gz_cli::edge::{FileShelf, StdSink};
-use gz_cli::run::run;
+use gz_cli::start::start;
 use gz_cli::status::Status;
 use gz_core::Word;
-use std::alloc::AllocError;
 use std::process::ExitCode;
 use std::{env, io};
 
 fn main(rt: HostRuntime) -> ExitCode {
     let status = match arguments(&rt) {
-        Ok(words) => start(&rt, words.as_slice()),
+        Ok(words) => start(rt.alloc(), &rt, words.as_slice()),
         Err(error) => unread(&error),
     };
     if !matches!(&status, Status::Done) {
@@ -39,19 +36,5 @@ fn unread(error: &io::Error) -> Status {
         Status::NoMemory
     } else {
         Status::Usage
-    }
-}
-
-// Runs the words over the files of the folder, with the output on standard output.
-fn start(rt: &HostRuntime, words: &[Word]) -> Status {
-    match Bench::new(rt.alloc()) {
-        Ok(mut bench) => run(
-            rt.alloc(),
-            words,
-            &mut FileShelf::new(rt),
-            &mut StdSink::new(rt),
-            &mut bench,
-        ),
-        Err(AllocError) => Status::NoMemory,
     }
 }

@@ -9,6 +9,7 @@ mod output;
 mod pieces;
 mod replay;
 pub mod run;
+pub mod start;
 pub mod status;
 mod words;
 
