@@ -4,7 +4,7 @@ use gz_site::{Shelf, ShelfError, Sink};
 use std::alloc::Global;
 use std::rt::Files;
 use std::test::Fail;
-use std::{env, fs};
+use std::{env, fs, io};
 
 /// Whether a file of the shelf that may have so many bytes has the bytes `four`.
 fn has_four<R: Files>(
@@ -25,19 +25,23 @@ fn folder(rt: &HostRuntime) -> Result<String, Fail> {
     }
 }
 
+/// What the shelf gives of a file: whole, where it may have fewer bytes only, and once it is gone.
+fn reads(rt: &HostRuntime, path: &str) -> io::Result<[Result<bool, ShelfError>; 3]> {
+    let mut shelf = FileShelf::new(rt);
+    fs::write(rt, path, "four")?;
+    let whole = has_four(&mut shelf, rt.alloc(), path, 4);
+    let long = has_four(&mut shelf, rt.alloc(), path, 3);
+    fs::remove_file(rt, path)?;
+    Ok([whole, long, has_four(&mut shelf, rt.alloc(), path, 4)])
+}
+
 #[test]
 fn a_real_file(rt: HostRuntime) -> Result<(), Fail> {
     let mut folder = folder(&rt)?;
-    let mut shelf = FileShelf::new(&rt);
-    let failed = has_four(&mut shelf, rt.alloc(), folder.as_str(), 4);
+    let read = has_four(&mut FileShelf::new(&rt), rt.alloc(), folder.as_str(), 4);
+    assert!(rt; read == Err(ShelfError::Failed));
     folder.push_str("/giza-shelf-test")?;
-    let path = folder.as_str();
-    fs::write(&rt, path, "four")?;
-    let whole = has_four(&mut shelf, rt.alloc(), path, 4);
-    let long = has_four(&mut shelf, rt.alloc(), path, 3);
-    fs::remove_file(&rt, path)?;
-    let gone = has_four(&mut shelf, rt.alloc(), path, 4);
-    assert!(rt; failed == Err(ShelfError::Failed));
+    let [whole, long, gone] = reads(&rt, folder.as_str())?;
     assert!(rt; whole == Ok(true));
     assert!(rt; long == Err(ShelfError::TooLarge));
     assert!(rt; gone == Err(ShelfError::NoSuch));

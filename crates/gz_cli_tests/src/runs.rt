@@ -320,6 +320,18 @@ fn codes_and_words_of_no_form(rt: HostRuntime) -> Result<(), Fail> {
     Ok(())
 }
 
+/// Whether the replay of a comment of so many bytes ends so.
+fn comment_ends(
+    alloc: Global,
+    length: usize,
+    number: u8,
+    status: &str,
+    log: &str,
+) -> Result<bool, AllocError> {
+    let comment = vec![in alloc; b'#'; length]?;
+    holds(alloc, &played(&comment, number, status, log))
+}
+
 #[test]
 fn each_status_of_a_file(rt: HostRuntime) -> Result<(), Fail> {
     let none = Case {
@@ -327,11 +339,8 @@ fn each_status_of_a_file(rt: HostRuntime) -> Result<(), Fail> {
         ..played(b"", 4, "no file none", "")
     };
     assert!(rt; holds(rt.alloc(), &none)?);
-    let comment = vec![in rt.alloc(); b'#'; 65_537]?;
-    let long = played(&comment, 5, "file too large s", "");
-    let short = played(&comment[..65_536], 0, "done", "end 0 0 0\n");
-    assert!(rt; holds(rt.alloc(), &long)?);
-    assert!(rt; holds(rt.alloc(), &short)?);
+    assert!(rt; comment_ends(rt.alloc(), 65_537, 5, "file too large s", "")?);
+    assert!(rt; comment_ends(rt.alloc(), 65_536, 0, "done", "end 0 0 0\n")?);
     Ok(())
 }
 
@@ -346,17 +355,6 @@ fn a_full_world_is_told(rt: HostRuntime) -> Result<(), Fail> {
     Ok(())
 }
 
-/// The world that the replay of `PUT_GET` leaves.
-fn world_left(alloc: Global) -> Result<Option<World<MemSite>>, AllocError> {
-    let case = played(PUT_GET.as_bytes(), 0, "done", PUT_GET_LOG);
-    let words = words_of(alloc, case.words)?;
-    let mut shelf = shelf_of(alloc, &case)?;
-    let mut out = MemSink::new(alloc, failing(alloc, 0)?);
-    let mut bench = Bench::new(alloc)?;
-    run(alloc, words.as_slice(), &mut shelf, &mut out, &mut bench);
-    Ok(bench.world.take())
-}
-
 /// How many of a world's sites have a row of a key.
 fn rows(alloc: Global, world: World<MemSite>, key: &Key) -> u32 {
     let mut rows = 0u32;
@@ -368,10 +366,23 @@ fn rows(alloc: Global, world: World<MemSite>, key: &Key) -> u32 {
     rows
 }
 
+/// How many sites have a row of a key in the world that the replay of `PUT_GET` leaves.
+fn rows_left(alloc: Global, key: &Key) -> Result<u32, AllocError> {
+    let case = played(PUT_GET.as_bytes(), 0, "done", PUT_GET_LOG);
+    let words = words_of(alloc, case.words)?;
+    let mut shelf = shelf_of(alloc, &case)?;
+    let mut out = MemSink::new(alloc, failing(alloc, 0)?);
+    let mut bench = Bench::new(alloc)?;
+    run(alloc, words.as_slice(), &mut shelf, &mut out, &mut bench);
+    match bench.world.take() {
+        Some(world) => Ok(rows(alloc, world, key)),
+        None => Ok(0),
+    }
+}
+
 #[test]
 fn a_put_is_left_at_three_sites(rt: HostRuntime) -> Result<(), Fail> {
     let key = Key::new(Vec::from_slice(rt.alloc(), b"a")?).ok_or("a key")?;
-    let world = world_left(rt.alloc())?.ok_or("a world")?;
-    assert!(rt; rows(rt.alloc(), world, &key) == 3);
+    assert!(rt; rows_left(rt.alloc(), &key)? == 3);
     Ok(())
 }
