@@ -374,6 +374,10 @@ fn rows_left(alloc: Global, key: &Key) -> Result<u32, AllocError> {
     let mut out = MemSink::new(alloc, failing(alloc, 0)?);
     let mut bench = Bench::new(alloc)?;
     run(alloc, words.as_slice(), &mut shelf, &mut out, &mut bench);
+    // (the sites went into the world)
+    if !bench.sites.is_empty() {
+        return Ok(0);
+    }
     match bench.world.take() {
         Some(world) => Ok(rows(alloc, world, key)),
         None => Ok(0),
