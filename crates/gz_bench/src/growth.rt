@@ -1,7 +1,8 @@
 //! Calls on many objects, played over three sites in memory.
 ghost use Rattle.std.specs.Prelude.{◌≡◌, ◌<◌, ◌≤◌, IfOk, All};
 ghost use Rattle.gz_core.specs.Configurations.{IsConfig};
-ghost use Rattle.gz_script.specs.Schedule.{IsBounded};
+ghost use Rattle.gz_lines.specs.Schedule.{IsBounded};
+ghost use Rattle.gz_round.specs.Starting.{IsWithin};
 ghost use Rattle.gz_world.specs.Fits.{IsFitting};
 
 use anyhow::{Result, bail, ensure};
@@ -9,7 +10,7 @@ use gz_core::{Call, Config, Items, Key, Session};
 use gz_script::{Line, play};
 use gz_site::MemSite;
 use gz_world::World;
-use std::alloc::Global;
+use std::alloc::{AllocError, Global};
 use std::time::Instant;
 
 /// What a run took.
@@ -47,17 +48,22 @@ fn play_once(rt: &HostRuntime, lines: &[Line]) -> Result<Played>
     })
 }
 
+/// Three empty sites.
+fn sites(alloc: Global) -> Result<Vec<MemSite>, AllocError> {
+    let mut sites = Vec::new(alloc);
+    for _ in 0..3 {
+        sites.push(MemSite::new(alloc, Vec::new(alloc)))?;
+    }
+    Ok(sites)
+}
+
 /// A world over three empty sites.
 fn open(alloc: Global) -> Result<World<MemSite>>
     ensures { IfOk result (λ world. IsFitting world) }
 {
     let config = Config::DEFAULT;
     ensure!(config.check().is_ok(), "no configuration");
-    let mut sites = Vec::new(alloc);
-    for _ in 0..3 {
-        sites.push(MemSite::new(alloc, Vec::new(alloc)))?;
-    }
-    match World::open(alloc, config, sites) {
+    match World::open(alloc, config, sites(alloc)?) {
         Ok(world) => Ok(world),
         Err(_) => bail!("too few sites"),
     }
@@ -70,31 +76,41 @@ fn lines_of(alloc: Global, calls: u32) -> Result<Vec<Line>>
     let mut lines = Vec::new(alloc);
     lines.push(Line::OpenSession)?;
     for i in 0..calls {
-        lines.push(begin(alloc, i)?)?;
+        lines.push(begin(call_of(alloc, i)?))?;
         lines.push(settle(alloc))?;
     }
     Ok(lines)
 }
 
+/// The key of the calls `i` and `i + 1`, where `i` is even.
+fn key_of(alloc: Global, i: u32) -> Result<Key> {
+    match Key::new(format!(in alloc; "key-{}", i / 2)?.into_bytes()) {
+        Some(key) => Ok(key),
+        None => bail!("no key"),
+    }
+}
+
 /// A put of eight bytes, or a get of what the call before put.
-fn begin(alloc: Global, i: u32) -> Result<Line>
-    ensures { IfOk result (λ line. IsBounded line) }
+fn call_of(alloc: Global, i: u32) -> Result<Call>
+    ensures { IfOk result (λ call. IsWithin call) }
 {
-    let Some(key) = Key::new(format!(in alloc; "key-{}", i / 2)?.into_bytes()) else {
-        bail!("no key");
-    };
-    let call = if i.is_multiple_of(2) {
-        Call::Put {
-            key,
-            bytes: Items::from_slice(alloc, &[1, 2, 3, 4, 5, 6, 7, 8])?,
-        }
-    } else {
-        Call::Get { key }
-    };
-    Ok(Line::Begin {
+    let key = key_of(alloc, i)?;
+    if !i.is_multiple_of(2) {
+        return Ok(Call::Get { key });
+    }
+    let bytes = Items::from_slice(alloc, &[1, 2, 3, 4, 5, 6, 7, 8])?;
+    Ok(Call::Put { key, bytes })
+}
+
+/// The line that begins a call.
+fn begin(call: Call) -> Line
+    requires { IsWithin call }
+    ensures { IsBounded result }
+{
+    Line::Begin {
         session: Session(1),
         call,
-    })
+    }
 }
 
 fn settle(alloc: Global) -> Line

@@ -1,6 +1,9 @@
 //! Objects to code, and sums of what comes of them.
 use std::alloc::{AllocError, Global};
 
+/// A piece, with its index.
+pub type Piece = (usize, Vec<u8>);
+
 /// `len` bytes of a linear congruential generator.
 pub fn object_of(alloc: Global, seed: u32, len: usize) -> Result<Vec<u8>, AllocError> {
     let mut object = Vec::with_capacity(alloc, len)?;
@@ -30,7 +33,7 @@ pub fn last_pieces(
     alloc: Global,
     pieces: Vec<Vec<u8>>,
     count: usize,
-) -> Result<Vec<(usize, Vec<u8>)>, AllocError> {
+) -> Result<Vec<Piece>, AllocError> {
     let skipped = pieces.len().saturating_sub(count);
     let mut last = Vec::new(alloc);
     let mut index = 0usize;

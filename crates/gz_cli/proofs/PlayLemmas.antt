@@ -4,8 +4,8 @@ use Rattle.gz_world.specs.States.{State}
 use Rattle.gz_world.specs.Steps.{Step}
 use Rattle.gz_world.specs.declared.events.Event.{Event}
 use Rattle.gz_world.specs.declared.events.Event.TheVariants as events
-use Rattle.gz_script.specs.declared.line.Line.{Line}
-use Rattle.gz_script.specs.declared.line.Line.TheVariants.{OpenSession, Begin, Deliver, Reply, GiveUp, Crash, Take, Settle, Drain}
+use Rattle.gz_lines.specs.declared.line.Line.{Line}
+use Rattle.gz_lines.specs.declared.line.Line.TheVariants.{OpenSession, Begin, Deliver, Reply, GiveUp, Crash, Take, Settle, Drain}
 use Rattle.gz_script.specs.Plays.{Happen, HappenInPart, taken, settled, SettlesTimes, Settles, SettlesInPart, drained, PlaysLine, PlaysLineInPart, Plays, PlaysInPart}
 use Rattle.gz_cli.specs.Worlds.{PlaysSome}
 

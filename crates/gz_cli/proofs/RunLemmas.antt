@@ -2,7 +2,7 @@
 use Rattle.std.proofs.Common.{ℕ, ◌≡◌, ◌-◌, ◌≤◌, ◌<◌, List, length, subst, arith}
 use Rattle.std.specs.Prelude.{true, false, Option, Some, None}
 use Rattle.gz_site.specs.Files.{Exceeds}
-use Rattle.gz_script.specs.Schedule.{readings, AreBuilt, IsFirstUnbuilt, is_built_at}
+use Rattle.gz_lines.specs.Schedule.{readings, AreBuilt, IsFirstUnbuilt, is_built_at}
 use Rattle.gz_cli.specs.declared.status.Status.{Status}
 use Rattle.gz_cli.specs.declared.status.Status.TheVariants.{Done, Usage, ShelfFault, NoFile, FileTooLarge, BadText, Full, SinkFault, NoMemory}
 use Rattle.gz_cli.specs.Runs.{Files, Counts, FileIs, IsUnbuiltAt, Cause, TellsBytes, IsPlayable, AreSteady, IsAnswered}

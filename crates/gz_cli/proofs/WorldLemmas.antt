@@ -10,7 +10,7 @@ use Rattle.gz_site.specs.declared.memory.MemSite.{MemSite}
 use Rattle.gz_site.specs.Many.{told_at}
 use Rattle.gz_history.specs.Legal.{IsLegal}
 use Rattle.gz_script.specs.Plays.{Plays, PlaysInPart, ChangesBy}
-use Rattle.gz_script.specs.declared.line.Line.{Line}
+use Rattle.gz_lines.specs.declared.line.Line.{Line}
 use Rattle.gz_world.specs.Bridge.{state_of, crashed_in}
 use Rattle.gz_world.specs.Fits.{Fits}
 use Rattle.gz_world.specs.Opening.{AreEmpty, IsOpened}

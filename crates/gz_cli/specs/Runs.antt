@@ -10,8 +10,8 @@ use Rattle.gz_site.specs.declared.shelves.ShelfError.TheVariants.{Failed, NoSuch
 use Rattle.gz_site.specs.declared.sinks.SinkError.{SinkError}
 use Rattle.gz_site.specs.declared.sinks.SinkError.TheVariants.{Failed as SinkFailed, NoMemory as NoSinkMemory}
 use Rattle.gz_script.specs.Plays.{Plays, PlaysInPart}
-use Rattle.gz_script.specs.Schedule.{readings, line_of, AreBuilt, IsFirstUnbuilt}
-use Rattle.gz_script.specs.declared.line.Line.{Line}
+use Rattle.gz_lines.specs.Schedule.{readings, line_of, AreBuilt, IsFirstUnbuilt}
+use Rattle.gz_lines.specs.declared.line.Line.{Line}
 use Rattle.gz_world.specs.States.{State}
 use Rattle.gz_world.specs.declared.world.World.{World}
 use Rattle.gz_cli.specs.declared.status.Status.{Status}

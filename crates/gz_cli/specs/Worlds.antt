@@ -7,7 +7,7 @@ use Rattle.gz_site.specs.Told.{Told}
 use Rattle.gz_site.specs.Many.{told_at}
 use Rattle.gz_history.specs.Log.{log_of}
 use Rattle.gz_script.specs.Plays.{Plays, PlaysInPart}
-use Rattle.gz_script.specs.declared.line.Line.{Line}
+use Rattle.gz_lines.specs.declared.line.Line.{Line}
 use Rattle.gz_laws.specs.Agreed.{AreAgreed}
 use Rattle.gz_world.specs.Bridge.{state_of}
 use Rattle.gz_world.specs.Counting.{IsFull}

@@ -7,10 +7,15 @@ use gz_world::World;
 use std::alloc::{AllocError, Global};
 
 /// The sites that a run is given, and the world that it leaves. A world that was opened holds the sites.
-#[derive(Drop)]
 pub struct Bench<S: Site> {
     pub sites: Vec<S>,
     pub world: Option<World<S>>,
+}
+
+impl<S: Site> Drop for Bench<S> {
+    fn drop(self) {
+        let Bench { sites: _, world: _ } = self;
+    }
 }
 
 /// How many sites the program makes.

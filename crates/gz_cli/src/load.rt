@@ -1,6 +1,6 @@
 //! A schedule is read from a shelf.
 ghost use Rattle.std.specs.Prelude.{◌≡◌, ◌≤◌, length, All, IfOk, IfErr};
-ghost use Rattle.gz_script.specs.Schedule.{IsBounded};
+ghost use Rattle.gz_lines.specs.Schedule.{IsBounded};
 ghost use Rattle.gz_cli.specs.Runs.{Loads, LoadCause, ShelfCause, IsTextFault, text_status};
 
 use crate::status::Status;

@@ -3,7 +3,7 @@ ghost use Rattle.std.specs.Prelude.{◌≡◌, ◌≤◌, ℕ, length, All, coun
 ghost use Rattle.gz_site.specs.Files.{IsSomePart};
 ghost use Rattle.gz_history.specs.Legal.{IsLegal};
 ghost use Rattle.gz_script.specs.Plays.{Plays, PlaysInPart, ChangesBy};
-ghost use Rattle.gz_script.specs.Schedule.{IsBounded};
+ghost use Rattle.gz_lines.specs.Schedule.{IsBounded};
 ghost use Rattle.gz_world.specs.Fits.{IsFitting};
 ghost use Rattle.gz_world.specs.Opening.{AreEmpty, IsOpened};
 ghost use Rattle.gz_world.specs.Told.{IsReachedBy};

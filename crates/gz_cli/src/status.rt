@@ -6,7 +6,6 @@ use gz_core::{Why, Word};
 use std::fmt;
 
 /// How a run ends, with its number and its text.
-#[derive(Debug, Drop)]
 pub enum Status {
     Done,
     /// The words are of no form.
@@ -23,6 +22,22 @@ pub enum Status {
     /// The sink failed.
     SinkFault,
     NoMemory,
+}
+
+impl Drop for Status {
+    fn drop(self) {
+        match self {
+            Status::Done => {},
+            Status::Usage => {},
+            Status::ShelfFault { name: _ } => {},
+            Status::NoFile { name: _ } => {},
+            Status::FileTooLarge { name: _ } => {},
+            Status::BadText { line: _, why: _ } => {},
+            Status::Full { events: _, held: _ } => {},
+            Status::SinkFault => {},
+            Status::NoMemory => {},
+        }
+    }
 }
 
 impl Status {

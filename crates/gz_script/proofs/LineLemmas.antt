@@ -12,7 +12,7 @@ use Rattle.gz_world.specs.States.{State, request_of}
 use Rattle.gz_world.specs.declared.events.Event.{Event}
 use Rattle.gz_world.specs.declared.events.Event.TheVariants as events
 use Rattle.gz_world.specs.declared.world.World.{World}
-use Rattle.gz_script.specs.declared.line.Line.{Line}
+use Rattle.gz_lines.specs.declared.line.Line.{Line}
 use Rattle.gz_script.specs.Plays.{Happen, HappenInPart, settled, SettlesTimes, Settles, SettlesInPart, waiting, drained, PlaysLine, PlaysLineInPart, Plays, PlaysInPart, ChangesBy}
 use Rattle.gz_script.proofs.PlayLemmas.{changes_as, changes_then, happen_as, happen_then}
 

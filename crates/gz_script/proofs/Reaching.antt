@@ -9,8 +9,8 @@ use Rattle.gz_world.specs.Told.{IsReachedBy}
 use Rattle.gz_world.specs.declared.events.Event.{Event}
 use Rattle.gz_world.specs.declared.events.Event.TheVariants as events
 use Rattle.gz_world.specs.declared.world.World.{World}
-use Rattle.gz_script.specs.declared.line.Line.{Line}
-use Rattle.gz_script.specs.declared.line.Line.TheVariants.{OpenSession, Begin, Deliver, Reply, GiveUp, Crash, Take, Settle, Drain}
+use Rattle.gz_lines.specs.declared.line.Line.{Line}
+use Rattle.gz_lines.specs.declared.line.Line.TheVariants.{OpenSession, Begin, Deliver, Reply, GiveUp, Crash, Take, Settle, Drain}
 use Rattle.gz_script.specs.Plays.{Happen, HappenInPart, taken, settled, SettlesTimes, drained, PlaysLine, PlaysLineInPart, Plays, PlaysInPart, ChangesBy}
 
 happen_reached : (es : List Event) (x y : State) → Happen es x y → IsReached x → IsReached y

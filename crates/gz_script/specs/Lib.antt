@@ -1,6 +1,2 @@
-pub mod Texts
-pub mod Fields
-pub mod Grammar
-pub mod Schedule
 pub mod Plays
 pub mod Outboxes

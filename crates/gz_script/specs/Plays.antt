@@ -11,8 +11,8 @@ use Rattle.gz_world.specs.Steps.{Step}
 use Rattle.gz_world.specs.declared.events.Event.{Event}
 use Rattle.gz_world.specs.declared.events.Event.TheVariants as events
 use Rattle.gz_world.specs.declared.world.World.{World}
-use Rattle.gz_script.specs.declared.line.Line.{Line}
-use Rattle.gz_script.specs.declared.line.Line.TheVariants.{OpenSession, Begin, Deliver, Reply, GiveUp, Crash, Take, Settle, Drain}
+use Rattle.gz_lines.specs.declared.line.Line.{Line}
+use Rattle.gz_lines.specs.declared.line.Line.TheVariants.{OpenSession, Begin, Deliver, Reply, GiveUp, Crash, Take, Settle, Drain}
 
 -- events happen one after another
 abbrev pub Happen : List Event → State → State → Type 0

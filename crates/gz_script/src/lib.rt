@@ -1,14 +1,8 @@
-//! Schedules: their texts, and how they are played.
+//! Schedules: how their lines are played. The lines themselves and how they are read stand in `gz_lines`, and are passed on.
 #![tactic(auto)]
 
-mod cut;
-pub mod fields;
-mod grammar;
-pub mod line;
 pub mod outboxes;
 pub mod playing;
-pub mod schedule;
 
-pub use line::Line;
+pub use gz_lines::{Line, fields, line, read_schedule, schedule};
 pub use playing::play;
-pub use schedule::read_schedule;

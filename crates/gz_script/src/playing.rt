@@ -8,11 +8,11 @@ ghost use Rattle.gz_world.specs.States.{request_of, numbered};
 ghost use Rattle.gz_world.specs.Told.{IsReachedBy};
 ghost use Rattle.gz_script.specs.Outboxes.{AreListed};
 ghost use Rattle.gz_script.specs.Plays.{Happen, HappenInPart, taken, is_left_out, settled, Settles, SettlesInPart, drained, PlaysLine, PlaysLineInPart, Plays, PlaysInPart, ChangesBy};
-ghost use Rattle.gz_script.specs.Schedule.{IsBounded};
+ghost use Rattle.gz_lines.specs.Schedule.{IsBounded};
 
-use crate::line::Line;
 use crate::outboxes::{Outboxes, has_reply};
 use gz_core::{Call, Session, SiteId};
+use gz_lines::Line;
 use gz_site::Site;
 use gz_world::{ApplyError, Event, World};
 use std::alloc::AllocError;

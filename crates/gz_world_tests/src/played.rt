@@ -1,6 +1,6 @@
 //! Schedules that are played over sites in memory, and the logs of their worlds.
 ghost use Rattle.std.specs.Prelude.{IfSome, All};
-ghost use Rattle.gz_script.specs.Schedule.{IsBounded};
+ghost use Rattle.gz_lines.specs.Schedule.{IsBounded};
 ghost use Rattle.gz_world.specs.Fits.{IsFitting};
 
 use crate::opened::opened;

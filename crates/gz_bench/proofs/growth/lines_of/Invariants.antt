@@ -1,5 +1,5 @@
 use Rattle.std.proofs.Common.{All}
-use Rattle.gz_script.specs.Schedule.{IsBounded}
+use Rattle.gz_lines.specs.Schedule.{IsBounded}
 use Rattle.gz_bench.proofs.growth.lines_of.Given as goal
 
 abbrev pub invariant-loop-i : goal.invariant-loop-i

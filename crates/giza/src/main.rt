@@ -1,0 +1,40 @@
+//! The program `giza`: it replays a schedule in a world of sites in memory and prints the log, or cuts bytes into the pieces of
+//! a code.
+#![tactic(auto)]
+
+use gz_cli::start::start;
+use gz_cli::status::Status;
+use gz_core::Word;
+use std::process::ExitCode;
+use std::{env, io};
+
+fn main(rt: HostRuntime) -> ExitCode {
+    let status = match arguments(&rt) {
+        Ok(words) => start(rt.alloc(), &rt, words.as_slice()),
+        Err(error) => unread(&error),
+    };
+    if !matches!(&status, Status::Done) {
+        let _ = eprintln!(rt; "giza: {status}");
+    }
+    ExitCode::from(status.number())
+}
+
+// The words of the command line, without the program's own name.
+fn arguments(rt: &HostRuntime) -> io::Result<Vec<Word>> {
+    let mut words = Vec::new(rt.alloc());
+    let mut arguments = env::args(rt)?;
+    let _program = arguments.next();
+    for word in arguments {
+        words.push(Word(word))?;
+    }
+    Ok(words)
+}
+
+// Words that are no text are of no form.
+fn unread(error: &io::Error) -> Status {
+    if error.kind() == io::ErrorKind::OutOfMemory {
+        Status::NoMemory
+    } else {
+        Status::Usage
+    }
+}

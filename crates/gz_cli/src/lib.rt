@@ -1,0 +1,18 @@
+//! What the program does: it replays a schedule in a world of sites and writes the log of its calls, or cuts bytes into the
+//! pieces of a code. The program itself is the crate `giza`.
+#![tactic(auto)]
+
+pub mod bench;
+pub mod edge;
+mod load;
+mod output;
+mod pieces;
+mod replay;
+pub mod run;
+pub mod start;
+pub mod status;
+mod words;
+
+pub use bench::Bench;
+pub use edge::{FileShelf, StdSink};
+pub use status::Status;

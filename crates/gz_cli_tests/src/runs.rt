@@ -1,0 +1,392 @@
+//! Runs over a shelf and a sink in memory: how each ends, and what it writes.
+ghost use Rattle.std.specs.Prelude.{◌<◌, ◌-◌, ◌^◌, All, IfOk};
+
+use gz_cli::bench::Bench;
+use gz_cli::run::run;
+use gz_cli::status::Status;
+use gz_core::{Key, Word};
+use gz_site::{MemShelf, MemSink, MemSite, RowRead, Site};
+use gz_world::World;
+use std::alloc::{AllocError, Global};
+use std::collections::BTreeMap;
+use std::test::Fail;
+
+const PUT_GET: &str = "session\nput 1 a x:0102\nsettle 1\nget 1 a\nsettle 1\n";
+
+const PUT_GET_LOG: &str =
+    "1.1 put a 0102 2 14 ok 1\n1.2 get a - 15 21 bytes 1 1.1 0102\nend 2 21 0\n";
+
+/// The words of a run, the text of its one file `s`, the calls of the shelf and of the sink that fail (counted from 1, 0 for none), and the
+/// number and the text of its status and what it writes.
+#[derive(Clone, Copy)]
+struct Case<'a> {
+    words: &'a [&'a str],
+    text: &'a [u8],
+    shelf_fails: u32,
+    sink_fails: u32,
+    number: u8,
+    status: &'a str,
+    log: &'a str,
+}
+
+/// The replay of a text, in which nothing fails.
+fn played<'a>(text: &'a [u8], number: u8, status: &'a str, log: &'a str) -> Case<'a> {
+    Case {
+        words: &["replay", "s"],
+        text,
+        shelf_fails: 0,
+        sink_fails: 0,
+        number,
+        status,
+        log,
+    }
+}
+
+/// A list of one call that fails.
+fn failing(alloc: Global, call: u32) -> Result<Vec<u64>, AllocError>
+    ensures { IfOk result (λ calls. All (λ call. call < 2 ^ 64 - 1) calls.items) }
+{
+    let mut calls = Vec::new(alloc);
+    calls.push(call as u64)?;
+    Ok(calls)
+}
+
+fn word_of(alloc: Global, text: &str) -> Result<Word, AllocError> {
+    Ok(Word(String::from_str(alloc, text)?))
+}
+
+fn words_of(alloc: Global, texts: &[&str]) -> Result<Vec<Word>, AllocError> {
+    let mut words = Vec::new(alloc);
+    for text in texts {
+        words.push(word_of(alloc, text)?)?;
+    }
+    Ok(words)
+}
+
+/// The one file `s`.
+fn files_of(alloc: Global, text: &[u8]) -> Result<BTreeMap<String, Vec<u8>>, AllocError> {
+    let mut files = BTreeMap::new(alloc);
+    let name = String::from_str(alloc, "s")?;
+    files.insert(name, Vec::from_slice(alloc, text)?)?;
+    Ok(files)
+}
+
+fn shelf_of(alloc: Global, case: &Case) -> Result<MemShelf, AllocError> {
+    let files = files_of(alloc, case.text)?;
+    Ok(MemShelf::new(files, failing(alloc, case.shelf_fails)?))
+}
+
+/// Whether a status has the number and the text of a case.
+fn is_told(alloc: Global, status: &Status, case: &Case) -> Result<bool, AllocError> {
+    let text = status.to_string(alloc)?;
+    Ok(status.number() == case.number && text.as_str() == case.status)
+}
+
+/// Whether a run over these sites ends as the case says.
+fn ends(
+    alloc: Global,
+    words: &[Word],
+    shelf: &mut MemShelf,
+    case: &Case,
+) -> Result<bool, AllocError> {
+    let mut out = MemSink::new(alloc, failing(alloc, case.sink_fails)?);
+    let mut bench = Bench::new(alloc)?;
+    let status = run(alloc, words, shelf, &mut out, &mut bench);
+    Ok(is_told(alloc, &status, case)? && out.written() == case.log.as_bytes())
+}
+
+/// Whether the run of a case ends as it says.
+fn holds(alloc: Global, case: &Case) -> Result<bool, AllocError> {
+    let words = words_of(alloc, case.words)?;
+    let mut shelf = shelf_of(alloc, case)?;
+    ends(alloc, words.as_slice(), &mut shelf, case)
+}
+
+/// Schedules, each with the status and the log of its replay.
+static SCHEDULES: [(&str, u8, &str, &str); 20] = [
+    (PUT_GET, 0, "done", PUT_GET_LOG),
+    (
+        "session\nget 1 a\nsettle 1\n",
+        0,
+        "done",
+        "1.1 get a - 2 6 absent\nend 1 6 0\n",
+    ),
+    ("", 0, "done", "end 0 0 0\n"),
+    ("# none\n  \r\nsettle 9\nsession", 0, "done", "end 0 1 0\n"),
+    (
+        "session\nsession\nput 2 b x:\nsettle 2\nput 1 b x:Ff\n\nsettle 1\nget 2 b\nsettle 2\n",
+        0,
+        "done",
+        "2.1 put b - 3 15 ok 1\n1.1 put b ff 16 28 ok 2\n2.2 get b - 29 35 bytes 2 1.1 ff\nend 3 35 0\n",
+    ),
+    (
+        "session\nput 1 a x:01\n",
+        0,
+        "done",
+        "1.1 put a 01 2 - open\nend 1 2 0\n",
+    ),
+    (
+        "session\nreply 99 1\ncrash 1\ncrash 1\n",
+        0,
+        "done",
+        "end 0 4 2\n",
+    ),
+    (
+        "session\nput 1 a x:0102\ntake 1\ntake 2\ndeliver 4\ndeliver 4\nreply 4 2\nsettle 1\n",
+        0,
+        "done",
+        "1.1 put a 0102 2 17 ok 1\nend 1 17 0\n",
+    ),
+    (
+        "session\nput 1 a x:0102\nsettle 1 without 1,2\n",
+        0,
+        "done",
+        "1.1 put a 0102 2 6 noquorum look 1\nend 1 6 0\n",
+    ),
+    (
+        "session\nput 1 a x:0102\ntake 1\ntake 2\ndeliver 4\ndeliver 5\ngiveup 4\ngiveup 5\n",
+        0,
+        "done",
+        "1.1 put a 0102 2 10 unsure noquorum fast 0\nend 1 10 0\n",
+    ),
+    (
+        "session\nput 1 a x:0102\nsettle 1 without 2\n",
+        0,
+        "done",
+        "1.1 put a 0102 2 19 ok 1\nend 1 19 0\n",
+    ),
+    (
+        "session\nput 1 a x:0102\ntake 1\ntake 2\ntake 3\ndeliver 4\ncrash 1\nsession\nget 2 a\nsettle 2\n",
+        0,
+        "done",
+        "1.1 put a 0102 2 - open\n2.1 get a - 12 28 bytes 1 1.1 0102\nend 2 28 0\n",
+    ),
+    (
+        "session\nput 1 a x:01\nsettle 1\ndelete 1 a\nsettle 1\nget 1 a\nsettle 1\n",
+        0,
+        "done",
+        "1.1 put a 01 2 14 ok 1\n1.2 delete a - 15 27 ok 2\n1.3 get a - 28 34 gone 2 1.2\nend 3 34 0\n",
+    ),
+    (
+        "put 2 a x:01\nsession\nput 1 a x:02\nput 1 b x:03\ndrain 1\nreply 1 0\nreply 1 1\nreply 1 1\ndeliver 0\ngiveup 4\n",
+        0,
+        "done",
+        "1.1 put a 02 3 - open\nend 1 12 6\n",
+    ),
+    (
+        "session\nsession\nput 1 a x:01\nput 2 a x:02\ntake 1\ntake 2\ntake 3\ntake 4\ntake 5\ntake 6\ndeliver 7\ndeliver 11\ndeliver 9\nsettle 1\nsettle 2\nget 1 a\nsettle 1\n",
+        0,
+        "done",
+        "1.1 put a 01 3 35 ok 1\n2.1 put a 02 4 62 ok 2\n1.2 get a - 63 69 bytes 2 2.1 02\nend 3 69 0\n",
+    ),
+    (
+        "session\nput 1 a x:01\nsettle 1\nput 1 a x:02\ntake 10\ntake 11\ntake 12\ncrash 1\nsession\nget 2 a\nsettle 2\ndeliver 13\nget 2 a\nsettle 2\n",
+        0,
+        "done",
+        "1.1 put a 01 2 14 ok 1\n1.2 put a 02 15 - open\n2.1 get a - 24 30 bytes 1 1.1 01\n2.2 get a - 32 48 bytes 2 1.2 02\nend 4 48 0\n",
+    ),
+    (
+        "session\nput 1 a x:0102\ntake 1\ntake 2\ntake 3\ndeliver 4\ncrash 1\nsession\nget 2 a\nsettle 2\nget 2 a\nsettle 2\n",
+        0,
+        "done",
+        "1.1 put a 0102 2 - open\n2.1 get a - 12 28 bytes 1 1.1 0102\n2.2 get a - 29 33 bytes 1 1.1 0102\nend 3 33 0\n",
+    ),
+    ("session\ngetat 1 a 1\n", 7, "line 2: unbuilt", ""),
+    ("session\npat 1 a\n", 7, "line 2: unbuilt", ""),
+    (
+        "session\nput 0 a x:01\nsettle 1\n",
+        7,
+        "line 2: unbuilt",
+        "",
+    ),
+];
+
+/// Calls of the shelf and the sink that fail in the replay of `PUT_GET`, or none, and what comes of it.
+static FAILURES: [(u32, u32, u8, &str, &str); 5] = [
+    (1, 0, 3, "cannot read s", ""),
+    (2, 0, 0, "done", PUT_GET_LOG),
+    (0, 1, 11, "cannot write", ""),
+    (0, 2, 11, "cannot write", PUT_GET_LOG),
+    (0, 3, 0, "done", PUT_GET_LOG),
+];
+
+/// Words with no schedule, a call of the sink that fails, or none, and what comes of it.
+static WORDS: [(&[&str], u32, u8, &str, &str); 29] = [
+    (
+        &["code", "2", "1", "0102"],
+        0,
+        0,
+        "done",
+        "0 01\n1 02\n2 07\n",
+    ),
+    (
+        &["code", "2", "1", "8000"],
+        0,
+        0,
+        "done",
+        "0 80\n1 00\n2 9d\n",
+    ),
+    (
+        &["code", "2", "1", "010203"],
+        0,
+        0,
+        "done",
+        "0 0102\n1 0300\n2 0506\n",
+    ),
+    (
+        &["code", "3", "1", "050607"],
+        0,
+        0,
+        "done",
+        "0 05\n1 06\n2 07\n3 04\n",
+    ),
+    (&["code", "1", "0", "00"], 0, 0, "done", "0 00\n"),
+    (&["code", "2", "1", ""], 0, 0, "done", "0 -\n1 -\n2 -\n"),
+    (
+        &["code", "1", "1", "aBcD"],
+        0,
+        0,
+        "done",
+        "0 abcd\n1 abcd\n",
+    ),
+    (&["code", "2", "1", "0102"], 1, 11, "cannot write", ""),
+    (
+        &["code", "2", "1", "0102"],
+        2,
+        11,
+        "cannot write",
+        "0 01\n1 02\n2 07\n",
+    ),
+    (
+        &["code", "2", "1", "0102"],
+        3,
+        0,
+        "done",
+        "0 01\n1 02\n2 07\n",
+    ),
+    (&[], 0, 2, "usage", ""),
+    (&["replay"], 0, 2, "usage", ""),
+    (&["replay", "-x"], 0, 2, "usage", ""),
+    (&["play", "s"], 0, 2, "usage", ""),
+    (&["replay", "s", "s"], 0, 2, "usage", ""),
+    (&["code", "0", "1", "00"], 0, 2, "usage", ""),
+    (&["code", "2", "1", "123"], 0, 2, "usage", ""),
+    (&["code", "2", "255", "00"], 0, 2, "usage", ""),
+    (&["code", "4294967297", "1", "00"], 0, 2, "usage", ""),
+    (&["code", "02", "1", "00"], 0, 2, "usage", ""),
+    (&["code", "2", "+1", "00"], 0, 2, "usage", ""),
+    (&["code", "2", "x", "00"], 0, 2, "usage", ""),
+    (&["code", "", "1", "00"], 0, 2, "usage", ""),
+    (&["code", "2", "1", "0g"], 0, 2, "usage", ""),
+    (&["code", "2", "1", "0x00"], 0, 2, "usage", ""),
+    (&["code", "2", "1", "--"], 0, 2, "usage", ""),
+    (&["code", "2", "1"], 0, 2, "usage", ""),
+    (&["code", "2", "1", "00", "00"], 0, 2, "usage", ""),
+    (&["cod", "2", "1", "00"], 0, 2, "usage", ""),
+];
+
+#[test]
+fn replays(rt: HostRuntime) -> Result<(), Fail> {
+    for (text, number, status, log) in &SCHEDULES {
+        let case = played(text.as_bytes(), *number, status, log);
+        assert!(rt; holds(rt.alloc(), &case)?);
+    }
+    Ok(())
+}
+
+#[test]
+fn each_outside_call_fails_in_turn(rt: HostRuntime) -> Result<(), Fail> {
+    for (shelf_fails, sink_fails, number, status, log) in &FAILURES {
+        let case = Case {
+            shelf_fails: *shelf_fails,
+            sink_fails: *sink_fails,
+            ..played(PUT_GET.as_bytes(), *number, status, log)
+        };
+        assert!(rt; holds(rt.alloc(), &case)?);
+    }
+    Ok(())
+}
+
+#[test]
+fn codes_and_words_of_no_form(rt: HostRuntime) -> Result<(), Fail> {
+    for (words, sink_fails, number, status, log) in &WORDS {
+        let case = Case {
+            words,
+            sink_fails: *sink_fails,
+            ..played(b"", *number, status, log)
+        };
+        assert!(rt; holds(rt.alloc(), &case)?);
+    }
+    Ok(())
+}
+
+/// Whether the replay of a comment of so many bytes ends so.
+fn comment_ends(
+    alloc: Global,
+    length: usize,
+    number: u8,
+    status: &str,
+    log: &str,
+) -> Result<bool, AllocError> {
+    let comment = vec![in alloc; b'#'; length]?;
+    holds(alloc, &played(&comment, number, status, log))
+}
+
+#[test]
+fn each_status_of_a_file(rt: HostRuntime) -> Result<(), Fail> {
+    let none = Case {
+        words: &["replay", "none"],
+        ..played(b"", 4, "no file none", "")
+    };
+    assert!(rt; holds(rt.alloc(), &none)?);
+    assert!(rt; comment_ends(rt.alloc(), 65_537, 5, "file too large s", "")?);
+    assert!(rt; comment_ends(rt.alloc(), 65_536, 0, "done", "end 0 0 0\n")?);
+    Ok(())
+}
+
+#[test]
+fn a_full_world_is_told(rt: HostRuntime) -> Result<(), Fail> {
+    let full = Status::Full {
+        events: 4_000_000,
+        held: 0,
+    };
+    let case = played(b"", 9, "full after 4000000 events, 0 bytes", "");
+    assert!(rt; is_told(rt.alloc(), &full, &case)?);
+    Ok(())
+}
+
+/// How many of a world's sites have a row of a key.
+fn rows(alloc: Global, world: World<MemSite>, key: &Key) -> u32 {
+    let mut rows = 0u32;
+    for mut site in world.into_sites() {
+        if let Ok(RowRead::Row { .. }) = site.read_row(alloc, key) {
+            rows = rows.saturating_add(1);
+        }
+    }
+    rows
+}
+
+/// How many sites have a row of a key in the world that the replay of `PUT_GET` leaves.
+fn rows_left(alloc: Global, key: &Key) -> Result<u32, AllocError> {
+    let case = played(PUT_GET.as_bytes(), 0, "done", PUT_GET_LOG);
+    let words = words_of(alloc, case.words)?;
+    let mut shelf = shelf_of(alloc, &case)?;
+    let mut out = MemSink::new(alloc, failing(alloc, 0)?);
+    let mut bench = Bench::new(alloc)?;
+    run(alloc, words.as_slice(), &mut shelf, &mut out, &mut bench);
+    // (the sites went into the world)
+    if !bench.sites.is_empty() {
+        return Ok(0);
+    }
+    match bench.world.take() {
+        Some(world) => Ok(rows(alloc, world, key)),
+        None => Ok(0),
+    }
+}
+
+#[test]
+fn a_put_is_left_at_three_sites(rt: HostRuntime) -> Result<(), Fail> {
+    let key = Key::new(Vec::from_slice(rt.alloc(), b"a")?).ok_or("a key")?;
+    assert!(rt; rows_left(rt.alloc(), &key)? == 3);
+    Ok(())
+}

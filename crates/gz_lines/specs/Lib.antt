@@ -1,0 +1,4 @@
+pub mod Texts
+pub mod Fields
+pub mod Grammar
+pub mod Schedule

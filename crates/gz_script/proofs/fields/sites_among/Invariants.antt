@@ -1,6 +1,0 @@
-use Rattle.std.proofs.Common.{◌≡◌, map, take, filter_map}
-use Rattle.gz_script.specs.Fields.{site_of}
-use Rattle.gz_script.proofs.fields.sites_among.Given as goal
-
-abbrev pub invariant-loop-part : goal.invariant-loop-part
-invariant-loop-part l = l.sites.items ≡ filter_map site_of (map (λ x. x.now) (take l.part-index l.parts))

@@ -1,9 +1,0 @@
-use Rattle.std.proofs.Common.{◌≡◌, ◌≤◌, length, filter_map}
-use Rattle.gz_script.specs.Schedule.{line_of}
-use Rattle.gz_script.proofs.schedule.lines_read.Given as goal
-
-abbrev pub invariant-loop-reading : goal.invariant-loop-reading
-invariant-loop-reading l = record {
-  exact : l.lines.items ≡ filter_map line_of l.yielded;
-  bounded : length l.lines.items ≤ length l.yielded;
-}
