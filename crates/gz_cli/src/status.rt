@@ -91,5 +91,17 @@ impl fmt::Display for Status {
 fn word(why: Why) -> &'static str {
     match why {
         Why::Unbuilt => "unbuilt",
+        Why::Word => "word",
+        Why::Count => "count",
+        Why::Number => "number",
+        Why::Key => "key",
+        Why::Name => "name",
+        Why::Bytes => "bytes",
+        Why::List => "list",
+        Why::Client => "client",
+        Why::Many => "many",
+        Why::Order => "order",
+        Why::Answer => "answer",
+        Why::End => "end",
     }
 }

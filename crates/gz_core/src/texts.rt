@@ -30,6 +30,30 @@ impl Word {
 pub enum Why {
     /// The line is none of those that can be played.
     Unbuilt,
+    /// The first field, or a fixed word after it, is none of those that may stand there.
+    Word,
+    /// Too many fields, or too few.
+    Count,
+    /// A number of another form, or out of its range.
+    Number,
+    /// A key of another form.
+    Key,
+    /// A name of another form, or one that stood before.
+    Name,
+    /// Bytes of another form.
+    Bytes,
+    /// A list of sites of another form.
+    List,
+    /// A call before the first client.
+    Client,
+    /// More clients or calls than a script may have.
+    Many,
+    /// Moments that are out of order.
+    Order,
+    /// An answer of another form, or of another kind of call.
+    Answer,
+    /// The last line is missing, stands too early, or counts other calls.
+    End,
 }
 
 /// Why a text could not be read. Lines count from 1, skipped ones too.

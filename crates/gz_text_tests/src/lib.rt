@@ -1,0 +1,5 @@
+//! Tests of what texts read as: configurations.
+#![tactic(auto)]
+
+#[cfg(test)]
+mod settings;
