@@ -1,3 +1,4 @@
+pub mod Blobs
 pub mod Calls
 pub mod Causes
 pub mod Configurations

@@ -2,6 +2,7 @@
 //! columns, and calls with their answers.
 #![tactic(auto)]
 
+pub mod blobs;
 pub mod calls;
 pub mod keys;
 pub mod lists;
@@ -12,6 +13,7 @@ pub mod slots;
 pub mod texts;
 pub mod values;
 
+pub use blobs::BlobName;
 pub use calls::{Answer, Call, Phase, UnsureWhy};
 pub use gz_config::{Config, ConfigError, Order};
 pub use keys::Key;
