@@ -17,7 +17,7 @@ use Rattle.gz_history.specs.declared.record.CallRec.{CallRec}
 use Rattle.gz_model.specs.Casts.{is_at, is_vote, has_cast, IsChosen}
 use Rattle.gz_model.specs.Choosing.{IsSafe}
 use Rattle.gz_model.specs.declared.casts.Cast.{Cast}
-use Rattle.gz_ledger.specs.Acceptors.{Acceptor, slot_votes, slot_voted, slot_lets, slot_backs}
+use Rattle.gz_ledger.specs.Acceptors.{Acceptor, HasValue, slot_votes, slot_voted, slot_lets, slot_backs}
 use Rattle.gz_ledger.specs.Histories.{Seen, Write, IsIn, cast, cast_in, IsShown, IsChosenAt}
 use Rattle.gz_ledger.specs.Ledgers.{votes, voted, stands, backs}
 use Rattle.gz_ledger.specs.Deeds.{Deed, acceptor_of, after_deeds, ledger_of, seen_after, sent_after}
@@ -176,6 +176,11 @@ are_agreed key s ds k =
           let next : v + 1 ≡ suc v = omega arith in
           let y = a.chained v b x i positive (subst (λ u. cast (seen_after unused ds) u b x i ≡ true) next (sym (k.run.casts (v + 1) b x i) ∙ h)) in
           (y.0, seen_chosen key s ds v y.0 k.run y.1);
+      founded = λ v i positive below h.
+          let next : v + 1 ≡ suc v = omega arith in
+          let y = a.founded v i positive (subst (λ (r : Acceptor). HasValue (r (suc v))) (row_same key s ds i k below) (subst (λ u. HasValue (acceptor_at s key i u)) next h)) in
+          (y.0, seen_chosen key s ds v y.0 k.run y.1);
+      decided = λ v i x below e. seen_chosen key s ds v x k.run (a.decided v i x (sym (ap (λ (r : Acceptor). r v) (row_same key s ds i k below)) ∙ e));
       chosen = λ v x h. seen_chosen key s ds v x k.run (a.chosen v x (shown_in key s ds h.0 v x (s.tales h.0) k.run (k.listed.told h.0) (k.carries h.0) h.1)).0;
       one = λ v x y h g. a.one v x y (inl (chosen_seen key s ds v x k.run h)) (inl (chosen_seen key s ds v y k.run g));
       once = λ u v x h g. a.once u v x (inl (chosen_seen key s ds u x k.run h)) (inl (chosen_seen key s ds v x k.run g));

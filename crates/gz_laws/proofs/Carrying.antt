@@ -23,28 +23,25 @@ use Rattle.gz_world.proofs.Places.{get_set_same, get_set_other, get_append}
 use Rattle.gz_laws.proofs.Listing.{tales_here, tales_there}
 
 -- a request as it stands later: the same request, with the replies that it had and perhaps more
-record IsLater (r q : RequestAt) : Type 0 where
+pub record IsLater (r q : RequestAt) : Type 0 where
   pub name : q.name ≡ r.name
   pub site : q.site ≡ r.site
   pub op : q.op ≡ r.op
   pub replies : (i : ℕ) (x : ℕ × Reply) → slice_get r.replies i ≡ Some x → slice_get q.replies i ≡ Some x
 
-Grows : List RequestAt → List RequestAt → Type 0
+abbrev pub Grows : List RequestAt → List RequestAt → Type 0
 Grows old new = (n : ℕ) (r : RequestAt) → numbered old n ≡ Some r → (q : RequestAt) × ((numbered new n ≡ Some q) × IsLater r q)
 
 itself : (r : RequestAt) → IsLater r r
 itself r = record { name = refl; site = refl; op = refl; replies = λ i x h. h }
 
-grows_same : (old new : List RequestAt) → new ≡ old → Grows old new
-unfolding Grows
+pub grows_same : (old new : List RequestAt) → new ≡ old → Grows old new
 grows_same old new e = λ n r h. (r, (ap (λ xs. numbered xs n) e ∙ h, itself r))
 
-grows_append : (xs ys : List RequestAt) → Grows xs (xs ++ ys)
-unfolding Grows
+pub grows_append : (xs ys : List RequestAt) → Grows xs (xs ++ ys)
 grows_append xs ys = λ n r h. let p = numbered_place xs n r h in (r, (place_numbered (xs ++ ys) n r p.0 (get_append xs ys (n - 1) r p.1), itself r))
 
-grows_set : (xs : List RequestAt) (i : ℕ) (old new : RequestAt) → slice_get xs i ≡ Some old → IsLater old new → Grows xs (slice_set xs i new)
-unfolding Grows
+pub grows_set : (xs : List RequestAt) (i : ℕ) (old new : RequestAt) → slice_get xs i ≡ Some old → IsLater old new → Grows xs (slice_set xs i new)
 grows_set xs i old new at later = λ n r h.
     let p = numbered_place xs n r h in
     elim (cases_eq (n - 1) i) [
@@ -54,8 +51,7 @@ grows_set xs i old new at later = λ n r h.
       | inr ne ↦ (r, (place_numbered (slice_set xs i new) n r p.0 (get_set_other xs i (n - 1) new ne ∙ p.1), itself r))
     ]
 
-grows_then : (xs ys zs : List RequestAt) → Grows xs ys → Grows ys zs → Grows xs zs
-unfolding Grows
+pub grows_then : (xs ys zs : List RequestAt) → Grows xs ys → Grows ys zs → Grows xs zs
 grows_then xs ys zs f g = λ n r h.
     let a = f n r h in
     let b = g n a.0 a.1.0 in
@@ -64,7 +60,6 @@ grows_then xs ys zs f g = λ n r h.
     (b.0, (b.1.0, record { name = y.name ∙ x.name; site = y.site ∙ x.site; op = y.op ∙ x.op; replies = λ i z k. y.replies i z (x.replies i z k) }))
 
 request_later : (old new : List RequestAt) (name : Name) (a : Asked) (r : RequestAt) → Grows old new → IsRequestOf old name a r → (q : RequestAt) × (IsRequestOf new name a q × IsLater r q)
-unfolding Grows
 request_later old new name a r grows is =
     let k = grows a.number r is.there in
     let l = k.1.1 in
@@ -200,13 +195,13 @@ turn_carried old new n r marked moment by effect t later carry h =
     moved_carried old new r.name.session (turned (next_of old) by.turn (moment by.asked) by.closing by.tale ∷ by.earlier) t.moves grows
     (closes_carried new.net name by.closing (sent_from (next_of old) by.turn.send (moment by.asked ∷ by.tale.moments)) t.closing sent, tales_later old.net new.net by.earlier grows before.1) h
 
-handed_later : (tick which : ℕ) (r : RequestAt) → IsLater r (with_handed tick which r)
+pub handed_later : (tick which : ℕ) (r : RequestAt) → IsLater r (with_handed tick which r)
 handed_later tick which r = record { name = refl; site = refl; op = refl; replies = λ i x h. h }
 
-given_up_later : (tick : ℕ) (r : RequestAt) → IsLater r (with_given_up tick r)
+pub given_up_later : (tick : ℕ) (r : RequestAt) → IsLater r (with_given_up tick r)
 given_up_later tick r = record { name = refl; site = refl; op = refl; replies = λ i x h. h }
 
-replied_later : (tick : ℕ) (reply : Reply) (r : RequestAt) → IsLater r (with_reply tick reply r)
+pub replied_later : (tick : ℕ) (reply : Reply) (r : RequestAt) → IsLater r (with_reply tick reply r)
 replied_later tick reply r = record { name = refl; site = refl; op = refl; replies = λ i x h. get_append r.replies ((tick, reply) ∷ []) i x h }
 
 deliver_carried : (old new : State) (n : ℕ) (r : RequestAt) (reply : Reply) (effect : Effect) → DeliversBy old n r reply effect new → AreCarried old → AreCarried new

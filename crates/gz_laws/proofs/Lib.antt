@@ -1,8 +1,11 @@
 pub mod Agreeing
 pub mod Agreement
+pub mod Beginning
 pub mod Carrying
 pub mod CastRuns
 pub mod Currents
+pub mod Exchanges
+pub mod Exchanging
 pub mod Growing
 pub mod Guarding
 pub mod Hearing
@@ -10,6 +13,8 @@ pub mod Keeping
 pub mod Keys
 pub mod Legality
 pub mod Listing
+pub mod Nets
+pub mod Overtaking
 pub mod Placing
 pub mod Promising
 pub mod Recording

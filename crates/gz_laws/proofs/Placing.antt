@@ -1,7 +1,7 @@
 -- Each step keeps the places of requests and the ticks of calls.
 use Rattle.std.proofs.Common.{◌≡◌, ℕ, zero, suc, ◌+◌, ◌<◌, ◌≤◌, ◌⊎◌, inl, inr, List, [], ◌∷◌, Some, None, length, refl, ap, sym, ◌∙◌, subst, arith, length-append}
 use Rattle.std.proofs.lemmas.Bool.{cases_eq}
-use Rattle.std.specs.Prelude.{Option, MatchOption, slice_get}
+use Rattle.std.specs.Prelude.{Option, MatchOption, is_some, slice_get, slice_set}
 use Rattle.gz_core.specs.Names.{Name}
 use Rattle.gz_core.specs.Configurations.{IsConfig}
 use Rattle.gz_core.specs.declared.calls.Answer.{Answer}
@@ -12,6 +12,7 @@ use Rattle.gz_core.specs.declared.requests.Reply.{Reply}
 use Rattle.gz_core.specs.declared.requests.Turn.{Turn}
 use Rattle.gz_round.specs.History.{Asked, Moment, Sent, Handed, GaveUp, Caller, Tale, asked_of, sent_from, begun, turned}
 use Rattle.gz_round.specs.Sending.{AreAllowed}
+use Rattle.gz_history.specs.Broken.{IsHistory}
 use Rattle.gz_history.specs.declared.record.CallRec.{CallRec}
 use Rattle.gz_world.specs.declared.events.Effect.{Effect}
 use Rattle.gz_world.specs.declared.events.Entry.{Entry}
@@ -21,11 +22,12 @@ use Rattle.gz_laws.specs.Placed.{IsOfCall, ArePlacedBy, ArePlaced}
 use Rattle.gz_world.specs.Reached.{IsOpening, IsReached, opened, stepped}
 use Rattle.gz_world.specs.Refusals.{refusal_of}
 use Rattle.gz_world.specs.States.{RequestAt, State, tick_of, next_of, numbered, with_reply, with_handed, with_given_up, sent_request, end_at}
-use Rattle.gz_world.specs.Steps.{SessionMoves, BeginsBy, DeliversBy, TurnBy, TakesTurn, Acts, Does, Skips, Step}
+use Rattle.gz_world.specs.Steps.{SessionMoves, BeginsBy, DeliversBy, TurnBy, TakesTurn, CallEnds, answered, Acts, Does, Skips, Step}
+use Rattle.gz_laws.proofs.Beginning.{begun_open}
 use Rattle.gz_laws.proofs.Growing.{allowed_base}
-use Rattle.gz_laws.proofs.Listing.{tales_here, tales_there}
+use Rattle.gz_laws.proofs.Listing.{listed, tales_here, tales_there}
 use Rattle.gz_world.proofs.Members.{numbered_place}
-use Rattle.gz_world.proofs.Places.{get_of_two, get_one}
+use Rattle.gz_world.proofs.Places.{get_of_two, get_one, get_below, get_set_same, get_set_other}
 use Rattle.gz_laws.proofs.RunBegins.{begin_net}
 use Rattle.gz_laws.proofs.RunSends.{NetFrom, closing_allowed, call_before}
 use Rattle.gz_laws.proofs.RunTools.{IsAlike, set_cases}
@@ -60,6 +62,10 @@ placed_same ticks more old new le cfg tales net calls p = record {
   began = λ i c h. let k = p.began i c (subst (λ xs. slice_get xs i ≡ Some c) calls h) in omega (arith, k, le);
   over = λ i end c h e. let k = p.over i end c (subst (λ xs. slice_get xs i ≡ Some c) calls h) e in omega (arith, k, le);
   apart = λ i j a b h k e. p.apart i j a b (subst (λ xs. slice_get xs i ≡ Some a) calls h) (subst (λ xs. slice_get xs j ≡ Some b) calls k) e;
+  order = λ i j a b h k l. p.order i j a b (subst (λ xs. slice_get xs i ≡ Some a) calls h) (subst (λ xs. slice_get xs j ≡ Some b) calls k) l;
+  later = λ i end a h e. p.later i end a (subst (λ xs. slice_get xs i ≡ Some a) calls h) e;
+  ends = λ i j end a b h k e f. p.ends i j end a b (subst (λ xs. slice_get xs i ≡ Some a) calls h) (subst (λ xs. slice_get xs j ≡ Some b) calls k) e f;
+  answered = λ i a h. p.answered i a (subst (λ xs. slice_get xs i ≡ Some a) calls h);
 }
 
 -- each request that a call sends goes to a site
@@ -85,6 +91,10 @@ end_now : (tick end : ℕ) (o : Option Answer) → end_at tick o ≡ Some end �
 end_now tick end None e = cc
 end_now tick end (Some answer) e = cc
 
+end_answer : (tick : ℕ) (o : Option Answer) → is_some (end_at tick o) ≡ is_some o
+end_answer tick None = refl
+end_answer tick (Some answer) = refl
+
 begin_placed : (old new : State) (session : ℕ) (call : Call) (turn : Turn) (effect : Effect) → BeginsBy old session call turn effect new → ArePlaced old → ArePlacedBy (tick_of old) new
 begin_placed old new session call turn effect b p =
     let past = old.tales session in
@@ -106,6 +116,7 @@ begin_placed old new session call turn effect b p =
       | inr k ↦ (let now = end_now tick end turn.answer (ap (λ (c : CallRec). c.end) k.0 ∙ e) in omega (arith, now))
     ] in
     let here : new.tales session ≡ t ∷ past = tales_here old new session (t ∷ past) b.moves in
+    let unanswered : turn.answer ≡ None = begun_open old.cfg past session call (next_of old) turn past p.config b.moves.told.0 in
     record {
       config = subst IsConfig (sym b.frame.cfg) p.config;
       requests = sent_placed old new w past (next_of old) tick turn.send [] b.frame.cfg (moved_longer old new session (t ∷ past) b.moves (omega arith)) (begin_net old new name tick turn.send b.net) b.moves.told.0.allowed
@@ -122,7 +133,49 @@ begin_placed old new session call turn effect b p =
           | inr y ↦ x.1 ∙ sym y.1
         ]
       ];
+      order = λ i j a d h k l. elim (cases i a h) [
+        | inl x ↦ elim (cases j d k) [
+          | inl y ↦ p.order i j a d x y l
+          | inr y ↦ (let m = p.began i a x in let now : tick ≡ d.begin = ap (λ (c : CallRec). c.begin) y.0 in omega (arith, m, now))
+        ]
+        | inr x ↦ (let at = x.1 in elim (cases j d k) [
+          | inl y ↦ (let m = get_below old.calls j d y in absurd (omega (arith, at, m, l)))
+          | inr y ↦ (let too = y.1 in absurd (omega (arith, at, too, l)))
+        ])
+      ];
+      later = λ i end d h e. elim (cases i d h) [
+        | inl x ↦ p.later i end d x e
+        | inr x ↦ (let bad : end_at tick None ≡ Some end = sym (ap (end_at tick) unanswered) ∙ ap (λ (c : CallRec). c.end) x.0 ∙ e in cc)
+      ];
+      ends = λ i j end a d h k e f. elim (cases i a h) [
+        | inl x ↦ elim (cases j d k) [
+          | inl y ↦ p.ends i j end a d x y e f
+          | inr y ↦ (let m = p.over i end a x e in let now = end_now tick end turn.answer (ap (λ (c : CallRec). c.end) y.0 ∙ f) in absurd (omega (arith, m, now)))
+        ]
+        | inr x ↦ elim (cases j d k) [
+          | inl y ↦ (let m = p.over j end d y f in let now = end_now tick end turn.answer (ap (λ (c : CallRec). c.end) x.0 ∙ e) in absurd (omega (arith, m, now)))
+          | inr y ↦ x.1 ∙ sym y.1
+        ]
+      ];
+      answered = λ i d h. elim (cases i d h) [
+        | inl x ↦ p.answered i d x
+        | inr x ↦ subst (λ (c : CallRec). is_some c.end ≡ is_some c.answer) x.0 (end_answer tick turn.answer)
+      ];
     }
+
+-- a record of a call after a turn is one from before it, or that of the call whose turn it was
+ended_cases : (old new : List CallRec) (name : Name) (tick : ℕ) (o : Option Answer) → (ends : CallEnds old name tick o new) → (j : ℕ) (d : CallRec) → slice_get new j ≡ Some d → (slice_get old j ≡ Some d) ⊎ ((j ≡ ends.0) × (answered tick o ends.1.0 ≡ d))
+ended_cases old new name tick o ends j d h =
+    let ended = answered tick o ends.1.0 in
+    let k : slice_get (slice_set old ends.0 ended) j ≡ Some d = subst (λ xs. slice_get xs j ≡ Some d) ends.1.1.1.1 h in
+    elim (cases_eq j ends.0) [
+      | inl e ↦ (let both : Some ended ≡ Some d = sym (get_set_same old ends.0 ends.1.0 ended ends.1.1.0) ∙ ap (slice_get (slice_set old ends.0 ended)) (sym e) ∙ k in inr (e, cc))
+      | inr ne ↦ inl (sym (get_set_other old ends.0 j ended ne) ∙ k)
+    ]
+
+answered_both : (tick : ℕ) (o : Option Answer) (c : CallRec) → is_some c.end ≡ is_some c.answer → is_some (answered tick o c).end ≡ is_some (answered tick o c).answer
+answered_both tick None c h = h
+answered_both tick (Some answer) c h = refl
 
 turn_placed : (old new : State) (n : ℕ) (r marked : RequestAt) (moment : Asked → Moment) (by : TurnBy) (effect : Effect) → TakesTurn old n r moment by marked effect new → IsAlike r marked → ArePlaced old → ArePlacedBy (tick_of old) new
 turn_placed old new n r marked moment by effect t alike p =
@@ -136,6 +189,9 @@ turn_placed old new n r marked moment by effect t alike p =
     let told = t.moves.told in
     let allowed = closing_allowed old.cfg w by.earlier by.closing (sent_from first by.turn.send ms) t.closing told.0.allowed in
     let before = call_before old.calls new.calls w.name tick by.turn.answer t.calls in
+    let cases = ended_cases old.calls new.calls w.name tick by.turn.answer t.calls in
+    let at_end : (i : ℕ) (d : CallRec) → slice_get new.calls i ≡ Some d → d.end ≡ Some tick → i ≡ t.calls.0
+    = λ i d h e. elim (cases i d h) [ inl x ↦ (let m = p.over i tick d x e in absurd (omega (arith, m))) | inr x ↦ x.0 ] in
     let len : length (old.tales session) ≡ length (by.tale ∷ by.earlier) = ap length t.tales in
     let seq : w.name.seq ≡ length by.earlier + 1 = ap (λ (x : Name). x.seq) told.1 in
     let here : length (new.tales w.name.session) ≡ length ts = ap length (ap new.tales (ap (λ (x : Name). x.session) told.1) ∙ tales_here old new session ts t.moves) in
@@ -158,6 +214,42 @@ turn_placed old new n r marked moment by effect t alike p =
                 let l = p.began j y.0 y.1.0 in
                 absurd (omega (arith, z, b, l)))
           ];
+      order = λ i j a d h k l.
+          let x = before i a h in
+          let y = before j d k in
+          let m = p.order i j x.0 y.0 x.1.0 y.1.0 l in
+          let e = x.1.1.begin_is in
+          let f = y.1.1.begin_is in
+          omega (arith, m, e, f);
+      later = λ i end d h e.
+          let x = before i d h in
+          let b = x.1.1.begin_is in
+          elim x.1.1.end_is [
+            | inl same ↦ (let m = p.later i end x.0 x.1.0 (sym same.0 ∙ e) in omega (arith, m, b))
+            | inr now ↦ (let k : Some tick ≡ Some end = sym now ∙ e in
+                let z : tick ≡ end = cc in
+                let l = p.began i x.0 x.1.0 in
+                omega (arith, z, b, l))
+          ];
+      ends = λ i j end a d h k e f.
+          let x = before i a h in
+          let y = before j d k in
+          elim x.1.1.end_is [
+            | inl same ↦ elim y.1.1.end_is [
+              | inl too ↦ p.ends i j end x.0 y.0 x.1.0 y.1.0 (sym same.0 ∙ e) (sym too.0 ∙ f)
+              | inr now ↦ (let q : Some tick ≡ Some end = sym now ∙ f in let z : tick ≡ end = cc in let m = p.over i end x.0 x.1.0 (sym same.0 ∙ e) in absurd (omega (arith, z, m)))
+            ]
+            | inr now ↦ (let q : Some tick ≡ Some end = sym now ∙ e in
+                let z : tick ≡ end = cc in
+                elim y.1.1.end_is [
+                  | inl too ↦ (let m = p.over j end y.0 y.1.0 (sym too.0 ∙ f) in absurd (omega (arith, z, m)))
+                  | inr also ↦ at_end i a h now ∙ sym (at_end j d k also)
+                ])
+          ];
+      answered = λ i d h. elim (cases i d h) [
+        | inl x ↦ p.answered i d x
+        | inr x ↦ subst (λ (c : CallRec). is_some c.end ≡ is_some c.answer) x.1 (answered_both tick by.turn.answer t.calls.1.0 (p.answered t.calls.0 t.calls.1.0 t.calls.1.1.0))
+      ];
     }
 
 deliver_placed : (old new : State) (n : ℕ) (r : RequestAt) (reply : Reply) (effect : Effect) → DeliversBy old n r reply effect new → ArePlaced old → ArePlacedBy (tick_of old) new
@@ -170,6 +262,10 @@ deliver_placed old new n r reply effect d p = record {
   began = λ i c h. let k = p.began i c (subst (λ xs. slice_get xs i ≡ Some c) d.sessions.calls h) in omega (arith, k);
   over = λ i end c h e. let k = p.over i end c (subst (λ xs. slice_get xs i ≡ Some c) d.sessions.calls h) e in omega (arith, k);
   apart = λ i j a b h k e. p.apart i j a b (subst (λ xs. slice_get xs i ≡ Some a) d.sessions.calls h) (subst (λ xs. slice_get xs j ≡ Some b) d.sessions.calls k) e;
+  order = λ i j a b h k l. p.order i j a b (subst (λ xs. slice_get xs i ≡ Some a) d.sessions.calls h) (subst (λ xs. slice_get xs j ≡ Some b) d.sessions.calls k) l;
+  later = λ i end a h e. p.later i end a (subst (λ xs. slice_get xs i ≡ Some a) d.sessions.calls h) e;
+  ends = λ i j end a b h k e f. p.ends i j end a b (subst (λ xs. slice_get xs i ≡ Some a) d.sessions.calls h) (subst (λ xs. slice_get xs j ≡ Some b) d.sessions.calls k) e f;
+  answered = λ i a h. p.answered i a (subst (λ xs. slice_get xs i ≡ Some a) d.sessions.calls h);
 }
 
 pub handed_alike : (tick which : ℕ) (r : RequestAt) → IsAlike r (with_handed tick which r)
@@ -201,7 +297,7 @@ does_journal old new (events.Reply n which) effect d = d.1.1.1.1.frame.journal
 does_journal old new (events.GiveUp n) effect d = d.1.1.frame.journal
 does_journal old new (events.Crash session) effect d = d.frame.journal
 
-acts_journal : (old new : State) (event : Event) (effect : Effect) → Acts old event effect new → new.journal ≡ old.journal
+pub acts_journal : (old new : State) (event : Event) (effect : Effect) → Acts old event effect new → new.journal ≡ old.journal
 acts_journal old new event effect acts =
     elim (refusal_of old event) as (λ o. MatchOption o (Does old event effect new) (λ why. Skips old event why effect new) → new.journal ≡ old.journal) [
       | None ↦ λ d. does_journal old new event effect d
@@ -224,6 +320,10 @@ opening_placed s o = record {
   began = λ i c h. let bad : slice_get [] i ≡ Some c = subst (λ xs. slice_get xs i ≡ Some c) o.calls h in cc;
   over = λ i end c h e. let bad : slice_get [] i ≡ Some c = subst (λ xs. slice_get xs i ≡ Some c) o.calls h in cc;
   apart = λ i j a b h k e. let bad : slice_get [] i ≡ Some a = subst (λ xs. slice_get xs i ≡ Some a) o.calls h in cc;
+  order = λ i j a b h k l. let bad : slice_get [] i ≡ Some a = subst (λ xs. slice_get xs i ≡ Some a) o.calls h in cc;
+  later = λ i end a h e. let bad : slice_get [] i ≡ Some a = subst (λ xs. slice_get xs i ≡ Some a) o.calls h in cc;
+  ends = λ i j end a b h k e f. let bad : slice_get [] i ≡ Some a = subst (λ xs. slice_get xs i ≡ Some a) o.calls h in cc;
+  answered = λ i a h. let bad : slice_get [] i ≡ Some a = subst (λ xs. slice_get xs i ≡ Some a) o.calls h in cc;
 }
   where
     none_numbered : (n : ℕ) (r : RequestAt) → numbered [] n ≡ Some r → ⊥
@@ -233,3 +333,13 @@ opening_placed s o = record {
 pub placed : (s : State) → IsReached s → ArePlaced s
 placed _ (opened s o) = opening_placed s o
 placed _ (stepped old new event h step) = step_placed old new event step (placed old h)
+
+-- so the calls are a history: they began one after another, with names of their own, and each ended after it began
+pub history : (s : State) → IsReached s → IsHistory s.calls
+history s reached =
+    let p = placed s reached in
+    let l = listed s reached in
+    record {
+      order = λ i j lt below a b h k. record { began = p.order i j a b h k lt; name = λ e. let same = l.apart i j a b h k e in absurd (omega (arith, same, lt)) };
+      ends = λ i a below h end e. p.later i end a h e;
+    }

@@ -99,7 +99,7 @@ acts_run key old new ds event effect acts tell l c p run =
     ] acts
 
 -- a site that tells has always told
-told_before : (o p : Option Told) (R : Told → Told → Type 0) → Tells o p R → IsSome p → IsSome o
+pub told_before : (o p : Option Told) (R : Told → Told → Type 0) → Tells o p R → IsSome p → IsSome o
 told_before None None R h some = some
 told_before None (Some new) R h some = absurd h
 told_before (Some old) p R h some = refl

@@ -5,7 +5,7 @@ use Rattle.gz_core.specs.Names.{Name, BallotAt, fast, same_ballot}
 use Rattle.gz_core.specs.Calls.{key_of}
 use Rattle.gz_core.specs.Counts.{count_sites}
 use Rattle.gz_core.specs.Rows.{RowAt}
-use Rattle.gz_core.specs.Slots.{Act, VotesClassic, slots}
+use Rattle.gz_core.specs.Slots.{DecidedAs, Act, VotesClassic, slots}
 use Rattle.gz_config.specs.declared.Config.{Config}
 use Rattle.gz_round.specs.History.{Tale}
 use Rattle.gz_round.specs.Shown.{IsShown}
@@ -15,7 +15,7 @@ use Rattle.gz_history.specs.declared.record.CallRec.{CallRec}
 use Rattle.gz_model.specs.Casts.{is_at, has_cast, IsChosen}
 use Rattle.gz_model.specs.Choosing.{Votes, IsSafe}
 use Rattle.gz_model.specs.declared.casts.Cast.{Cast}
-use Rattle.gz_ledger.specs.Acceptors.{Acceptor, new_acceptor, slot_votes, slot_voted, slot_lets, slot_backs}
+use Rattle.gz_ledger.specs.Acceptors.{Acceptor, HasValue, new_acceptor, slot_votes, slot_voted, slot_lets, slot_backs}
 use Rattle.gz_laws.specs.Heard.{SentStep}
 use Rattle.gz_world.specs.States.{State}
 
@@ -72,6 +72,10 @@ pub record AreAgreed (key : List ℕ) (s : State) : Type 0 where
   pub standing : (v i : ℕ) (b : BallotAt) (x : Name) → i < s.cfg.n → same_ballot b fast ≡ false → has_voted s key v b x i ≡ true → IsSafe s.cfg.n s.cfg.qc s.cfg.qf (stands_for s key v) b x
   -- a vote that was cast at a version tells that a value is chosen at the one before
   pub chained : (v i : ℕ) (b : BallotAt) (x : Name) → 1 ≤ v → has_cast s.casts key (v + 1) b x i ≡ true → (y : Name) × IsChosen s.cfg s.casts key v y
+  -- a vote or a decision that a site has at a version tells it too
+  pub founded : (v i : ℕ) → 1 ≤ v → i < s.cfg.n → HasValue (acceptor_at s key i (v + 1)) → (y : Name) × IsChosen s.cfg s.casts key v y
+  -- what a site has decided is chosen
+  pub decided : (v i : ℕ) (x : Name) → i < s.cfg.n → acceptor_at s key i v ≡ DecidedAs x → IsChosen s.cfg s.casts key v x
   -- what is shown to a call is chosen
   pub chosen : (v : ℕ) (x : Name) → IsShownIn s key v x → IsChosen s.cfg s.casts key v x
   -- one value is chosen at a version, and a value is chosen at one version

@@ -1,7 +1,9 @@
 pub mod Agreed
 pub mod Carried
+pub mod Exchanged
 pub mod Heard
 pub mod Listed
+pub mod Overtaken
 pub mod Placed
 pub mod Recorded
 pub mod Runs

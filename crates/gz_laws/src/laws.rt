@@ -6,21 +6,35 @@ ghost use Rattle.gz_world.specs.Reached.{IsReached, AllTell};
 ghost use Rattle.gz_laws.specs.Runs.{IsRun};
 ghost use Rattle.gz_laws.specs.Listed.{AreListed};
 ghost use Rattle.gz_laws.specs.Carried.{AreCarried};
+ghost use Rattle.gz_laws.specs.Exchanged.{AreExchanged};
+ghost use Rattle.gz_laws.specs.Overtaken.{AreOvertaken};
 ghost use Rattle.gz_laws.specs.Placed.{ArePlaced};
 ghost use Rattle.gz_laws.specs.Recorded.{AreRecorded};
 ghost use Rattle.gz_laws.specs.Valued.{AreValued};
 ghost use Rattle.gz_laws.specs.Agreed.{AreAgreed};
+ghost use Rattle.gz_history.specs.Broken.{IsHistory};
 ghost use Rattle.gz_history.specs.Legal.{IsLegal};
 
 /// Of every world that is reached: the names of the calls differ, each call is that of a tale of its session, each
 /// moment of a tale was allowed when it came, and its answer, which is the call's, has its cause in what the call was
 /// handed; what the call was handed are replies, in the world, to requests that the call sent; each tale is that of a
-/// call; and requests and calls are of sites, sessions and ticks that there are.
+/// call; and requests and calls are of sites, sessions and ticks that there are. The world's requests and the tales agree
+/// in both directions, so that a call's counts can be read off the world; and the calls are a history: they began one
+/// after another, with names of their own, and each ended after it began.
 pub fn world_laws()
     ensures listed { (s : State) → IsReached s → AreListed s }
     ensures carried { (s : State) → IsReached s → AreCarried s }
     ensures placed { (s : State) → IsReached s → ArePlaced s }
     ensures recorded { (s : State) → IsReached s → AreRecorded s }
+    ensures exchanged { (s : State) → IsReached s → AreExchanged s }
+    ensures history { (s : State) → IsReached s → IsHistory s.calls }
+{}
+
+/// In every world that is reached: a write goes out on the tag of a row that a reply showed to its call before, and at a
+/// site that tells what it holds it is refused as overtaken only where the row was written between: whichever reply had shown
+/// the tag that the write expects, another delivery of a write of the row came after it was made, and before the refusal.
+pub fn overtaken_only_by_writes()
+    ensures { (s : State) → IsReached s → AreOvertaken s }
 {}
 
 /// What has happened to an object, in a world that is reached and whose sites tell what they hold, is a run of the

@@ -3,9 +3,10 @@ use Rattle.std.specs.Prelude.{ℕ, ◌≡◌, ◌≤◌, ◌<◌, suc, true, fal
 use Rattle.gz_core.specs.Names.{Name, BallotAt, fast, same_ballot}
 use Rattle.gz_core.specs.Counts.{count_sites}
 use Rattle.gz_core.specs.Configurations.{AreQuorums}
-use Rattle.gz_core.specs.Slots.{VotesClassic}
+use Rattle.gz_core.specs.Slots.{DecidedAs, VotesClassic}
 use Rattle.gz_config.specs.declared.Config.{Config}
 use Rattle.gz_model.specs.Choosing.{IsSafe}
+use Rattle.gz_ledger.specs.Acceptors.{HasValue}
 use Rattle.gz_ledger.specs.Histories.{IsIn, Write, cast, IsChosenAt, IsShown, IsCurrent, VotesFor, IsProposed}
 use Rattle.gz_ledger.specs.Ledgers.{Ledger, Move, Shows, Sends, Takes, after_moves, AreMoves, votes, stands, backs, late_seen}
 
@@ -29,6 +30,10 @@ pub record IsAgreed (cfg : Config) (l : Ledger) : Type 0 where
   pub one : (v : ℕ) (x y : Name) → IsShown cfg l.seen v x → IsShown cfg l.seen v y → x ≡ y
   -- a value is shown at one version
   pub once : (u v : ℕ) (x : Name) → IsShown cfg l.seen u x → IsShown cfg l.seen v x → u ≡ v
+  -- a value that a site has at a version tells that a value is chosen at the one before
+  pub founded : (v s : ℕ) → 1 ≤ v → HasValue (l.told s (suc v)) → (y : Name) × IsChosenAt cfg l.seen v y
+  -- what a site has decided is chosen
+  pub decided : (v s : ℕ) (x : Name) → l.told s v ≡ DecidedAs x → IsChosenAt cfg l.seen v x
   -- what is shown is backed by the rows of a classic quorum
   pub backed : (v : ℕ) (x : Name) → IsShown cfg l.seen v x → cfg.qc ≤ count_sites cfg.n (backs l v x)
 
