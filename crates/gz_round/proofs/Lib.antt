@@ -1,4 +1,5 @@
 pub mod Lists
+pub mod Untaken
 pub mod Moments
 pub mod Heard
 pub mod Columns
