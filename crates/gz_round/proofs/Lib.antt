@@ -15,6 +15,7 @@ pub mod Passes
 pub mod Turns
 pub mod GivingIn
 pub mod Prepares
+pub mod Bounds
 pub mod Opens
 pub mod Arms
 pub mod Proposals

@@ -101,7 +101,7 @@ back_sent c a ms v b =
       | inr e ↦ (
           let none : has_promised_at ms v b ≡ false = (or_parts (passes_sent (λ p. (p.0 == v) && same_ballot p.1 b) (of_sent promise_by (Sent a))) (has_promised_at ms v b) e).1 in
           ap (lowest_vote c.n v) (before_none v b (Sent a ∷ ms) e)
-          ∙ (lowest_vote_same c.n v ms (Sent a ∷ ms) (λ (s : ℕ). row_after_sent a ms s) ∙ ap (lowest_vote c.n v) (sym (before_none v b ms none))))
+          ∙ (lowest_vote_same c.n v ms (Sent a ∷ ms) (λ (s : ℕ). sym (row_after_sent a ms s)) ∙ ap (lowest_vote c.n v) (sym (before_none v b ms none))))
     ]
 
 pub back_sent_from : (c : Config) (first : ℕ) (sent : List Out) (ms : List Moment) (v : ℕ) (b : BallotAt) → lowest_vote c.n v (before_promise v b (sent_from first sent ms)) ≡ lowest_vote c.n v (before_promise v b ms)

@@ -27,7 +27,7 @@ use Rattle.gz_round.specs.Standing.{Knows, Stands, IsSound, mark_of, etag_seen, 
 use Rattle.gz_round.specs.Following.{MayMakeOf}
 use Rattle.gz_round.proofs.Lists.{told_after_set, told_same}
 use Rattle.gz_round.proofs.Moments.{is_to_same, is_to_other, now_here, now_other, each_site}
-use Rattle.gz_round.proofs.Known.{known_last, out_sent, known_after_sent}
+use Rattle.gz_round.proofs.Known.{known_last, known_after_sent}
 use Rattle.gz_round.proofs.Guards.{IsOf}
 
 -- a step that is done makes its row

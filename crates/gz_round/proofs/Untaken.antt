@@ -1,7 +1,7 @@
 -- Why a row doesn't take the step of a classic ballot: it has taken it already, or its version was collected.
-use Rattle.std.proofs.Common.{◌≡◌, ◌≢◌, ℕ, zero, suc, ◌+◌, ◌<◌, ◌≤◌, Bool, true, false, cond, ◌&&◌, Option, Some, None, refl, sym, ap, ◌∙◌, subst, inl, inr, ◌⊎◌, arith, leb}
+use Rattle.std.proofs.Common.{◌≡◌, ◌≢◌, ℕ, zero, suc, ◌<◌, ◌≤◌, Bool, true, false, cond, ◌&&◌, Option, Some, None, refl, sym, ap, ◌∙◌, subst, inl, inr, ◌⊎◌, arith, leb}
 use Rattle.std.specs.Prelude.{nat_lt, List}
-use Rattle.std.proofs.lemmas.Bool.{cases_Bool, cases_lt, cond-true, cond-false, false≢true, both_ways, and_right, false_from_ne_true, leb-true}
+use Rattle.std.proofs.lemmas.Bool.{cases_lt, cond-true, cond-false, false≢true, and_right, false_from_ne_true, leb-true}
 use Rattle.std.proofs.lemmas.Bool.Decides.{nat_tests}
 use Rattle.gz_core.specs.Names.{BallotAt, fast, is_below, same_ballot}
 use Rattle.gz_core.specs.Values.{name_of}
@@ -18,7 +18,7 @@ use Rattle.gz_accept.specs.Steps.{column_or_blank, open_answer, is_cast_in, prom
 use Rattle.gz_core.proofs.Ballots.{same_means, name_refl}
 use Rattle.gz_core.proofs.Counting.{count_found}
 use Rattle.gz_pick.specs.Looks.{column_decision}
-use Rattle.gz_pick.specs.Evidences.{IsEvident, decides, is_named}
+use Rattle.gz_pick.specs.Evidences.{decides, is_named}
 use Rattle.gz_round.specs.History.{Moment}
 use Rattle.gz_round.specs.Rounds.{slot_round, slot_promises_above, promises_above}
 use Rattle.gz_round.specs.Sending.{rows_known, NoEvidence}
@@ -79,7 +79,7 @@ undecided_known c ms v s row none l e value is =
 kept_slot : (row : RowAt) (v : ℕ) → leb v row.floor ≡ false → slots row v ≡ slot_of (column_in row.columns v)
 kept_slot row v e = cond-false (nat_lt 0 row.floor && leb v row.floor) Gone (slot_of (column_in row.columns v)) (and_right (nat_lt 0 row.floor) (leb v row.floor) e)
 
-kept_answer : (row : RowAt) (v : ℕ) (answer : Column → Step) → leb v row.floor ≡ false → (if leb v row.floor then Trimmed row.floor else answer (column_or_blank (column_in row.columns v))) ≡ answer (column_or_blank (column_in row.columns v))
+kept_answer : (row : RowAt) (v : ℕ) (answer : Column → Step) → leb v row.floor ≡ false → cond (leb v row.floor) (Trimmed row.floor) (answer (column_or_blank (column_in row.columns v))) ≡ answer (column_or_blank (column_in row.columns v))
 kept_answer row v answer e = cond-false (leb v row.floor) (Trimmed row.floor) (answer (column_or_blank (column_in row.columns v))) e
 
 open_untaken : (promise b : BallotAt) (taken : Bool) → is_below b promise ≡ false → open_answer promise b taken ≢ Done → open_answer promise b taken ≡ Already

@@ -1,5 +1,5 @@
 -- What a call does at an event, once what came was noted.
-use Rattle.std.specs.Prelude.{ℕ, ◌≡◌, ◌≢◌, ◌≤◌, ◌<◌, ◌+◌, ◌^◌, ◌⊎◌, ◌||◌, nat_lt, nat_le, max, Bool, true, false, List, [], ◌∷◌, if◌then◌else◌, Option, Some, None, is_some, IsSome, slice_get}
+use Rattle.std.specs.Prelude.{ℕ, ◌≡◌, ◌≢◌, ◌≤◌, ◌<◌, ◌+◌, ◌⊎◌, ◌||◌, nat_lt, nat_le, max, Bool, true, false, List, [], ◌∷◌, if◌then◌else◌, Option, Some, None, is_some, IsSome, slice_get}
 use Rattle.gz_core.specs.Names.{BallotAt, IsClassic}
 use Rattle.gz_core.specs.Calls.{own_value}
 use Rattle.gz_core.specs.Rows.{RowAt}
