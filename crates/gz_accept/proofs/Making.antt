@@ -13,7 +13,6 @@ use Rattle.gz_core.specs.declared.values.Value.{Value}
 use Rattle.gz_core.specs.declared.rows.Vote.{Vote}
 use Rattle.gz_core.specs.declared.rows.Column.{Column}
 use Rattle.gz_core.specs.declared.rows.Column.TheVariants.{Open, Decided}
-use Rattle.gz_accept.specs.declared.answers.Step.{Step}
 use Rattle.gz_accept.specs.declared.answers.Step.TheVariants.{Done, Already, Below, Settled}
 use Rattle.gz_accept.specs.Steps.{is_cast_in, vote_in, fast_at, promise_at, classic_at, decide_at, trim_at, fast_answer, promise_answer, classic_answer, decide_answer, trim_answer, fast_voted, promised, classic_voted, decided, trimmed_to}
 use Rattle.gz_core.proofs.Ballots.{same_refl, name_means}

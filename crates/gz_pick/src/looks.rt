@@ -1,6 +1,6 @@
 //! What the columns of a row show of a version.
 ghost use Rattle.std.specs.Prelude.{◌≡◌, max};
-ghost use Rattle.gz_pick.specs.Looks.{row_vote, row_decision, row_name, row_top, top_in, shows_value};
+ghost use Rattle.gz_pick.specs.Looks.{row_vote, row_decision, row_name, row_top, shows_value};
 
 use gz_core::{Ballot, Column, PutName, Row, Version};
 

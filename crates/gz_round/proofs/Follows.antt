@@ -4,13 +4,10 @@ use Rattle.std.specs.List.{slice_get, list_all}
 use Rattle.std.proofs.lemmas.Bool.{cases_Bool, cases_eq, cond-true, cond-false, and_parts, and_from, true≢false, false≢true, both_ways, or_cases, or_left, or_right, le-leb, leb-true, eqb-true, eq-eqb}
 use Rattle.std.proofs.lemmas.Option.{same_Some, none-some, slice_get_within}
 use Rattle.gz_core.specs.Names.{Name, BallotAt, same_ballot, fast}
-use Rattle.gz_core.specs.Values.{name_of}
 use Rattle.gz_core.specs.Rows.{RowAt, column_in}
 use Rattle.gz_core.specs.Configurations.{IsConfig, need}
 use Rattle.gz_core.specs.Calls.{own_value}
 use Rattle.gz_core.specs.declared.values.Value.{Value}
-use Rattle.gz_core.specs.declared.rows.Column.{Column}
-use Rattle.gz_core.specs.declared.rows.Column.TheVariants.{Open, Decided}
 use Rattle.gz_config.specs.declared.Config.{Config}
 use Rattle.gz_core.proofs.Counting.{count_found, count_weaker}
 use Rattle.gz_pick.specs.Looks.{row_top, row_name, row_vote, row_decision, highest_of}
