@@ -49,11 +49,13 @@ HoldsRun c next None ts = AreOver ts
 HoldsRun c next (Some run) [] = ⊥
 HoldsRun c next (Some run) (t ∷ ts) = (t.answer ≡ None) × Runs c t.caller ts run t.moments × AreNumbered c t.moments next × AreOver ts
 
--- the client stands for these tales of its session
+-- the client stands for these tales of its session, whose requests have numbers below the next one; the rounds that it
+-- used rose by at most one with each of them
 pub record Holds (client : Client) (next : ℕ) (ts : List Tale) : Type 0 where
   pub sizes : IsConfig client.config
   pub calls_are : client.calls ≡ length ts
   pub round_is : client.round ≡ top_rounds ts
+  pub round_low : client.round < 2 ^ 31 + next
   pub told : AreTold client.config client.session ts
   pub run_is : HoldsRun client.config next client.run ts
 

@@ -56,7 +56,7 @@ impl Client {
         requires within { IsWithin call }
         requires first { first < 2 ^ 31 }
 
-        ensures ok { IfOk result (λ turn. (next : ℕ) (ts : List Tale) → Holds self.old next ts
+        ensures ok { IfOk result (λ turn. (next : ℕ) (ts : List Tale) → Holds self.old next ts → next ≤ first
             → Holds self.new (first + length turn.send) (begun self.old.session call first turn ts ∷ ts)) }
         ensures same { IsSameClient self.old self.new }
         ensures err { OnErr result (self.new ≡ self.old) }
@@ -115,6 +115,7 @@ impl Client {
     fn act(&mut self, alloc: Global, run: Run, first: u32) -> Result<Turn, AllocError>
         requires config { IsConfig self.old.config }
         requires first { first < 2 ^ 31 }
+        requires round { run.round < 2 ^ 31 + first }
         requires ready { IsReady self.old.config run }
 
         ensures ok { IfOk result (λ turn. HasActed self.old self.new run first turn) }
