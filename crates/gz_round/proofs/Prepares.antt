@@ -34,7 +34,7 @@ use Rattle.gz_round.specs.Sites.{SiteNow, site_now, some_heard}
 use Rattle.gz_round.specs.Sent.{promise_by, of_step, of_sent, passes_sent, some_sent, has_promised, has_promised_at, top_round, round_after}
 use Rattle.gz_round.specs.Shown.{heard_at}
 use Rattle.gz_round.specs.LookBack.{lowest_vote, IsLookedBack}
-use Rattle.gz_round.specs.Rounds.{IsUnused, Cast, cast_by, has_cast, passed_since, above_known, round_known, slot_round, slot_promises_above, greatest, top_rounds}
+use Rattle.gz_round.specs.Rounds.{IsUnused, Cast, cast_by, has_cast, passed_since, above_known, round_known, slot_round, slot_promises_above, greatest, next_round, top_rounds}
 use Rattle.gz_round.specs.Sending.{Collected, IsIdle, NoEvidence, NoneAbove, AreAllowed, MayAsk, MayMake, rows_known}
 use Rattle.gz_round.specs.Counting.{known_count, IsGoing}
 use Rattle.gz_round.specs.Asking.{IsLeftBy}
@@ -75,8 +75,12 @@ promised_round ms b e = some_round (λ p. same_ballot p.1 b) b ms (λ (q : ℕ �
 pub promised_round_at : (ms : List Moment) (v : ℕ) (b : BallotAt) → has_promised_at ms v b ≡ true → b.round ≤ top_round ms
 promised_round_at ms v b e = some_round (λ p. (p.0 == v) && same_ballot p.1 b) b ms (λ (q : ℕ × BallotAt) (k : ((q.0 == v) && same_ballot q.1 b) ≡ true). same_means q.1 b (and_parts (q.0 == v) (same_ballot q.1 b) k).1) e
 
-pub unpromised_above : (ms : List Moment) (b : BallotAt) → top_round ms < b.round → has_promised ms b ≡ false
+unpromised_above : (ms : List Moment) (b : BallotAt) → top_round ms < b.round → has_promised ms b ≡ false
 unpromised_above ms b l = false_from_ne_true (has_promised ms b) (λ (e : has_promised ms b ≡ true). let low = promised_round ms b e in omega arith)
+
+-- the next ballot was not promised yet
+pub next_unpromised : (c : Config) (past : List Tale) (ms : List Moment) (v : ℕ) (b : BallotAt) → b.round ≡ next_round c past ms v → has_promised ms b ≡ false
+next_unpromised c past ms v b e = unpromised_above ms b (omega arith)
 
 unpromised_at_above : (ms : List Moment) (v : ℕ) (b : BallotAt) → top_round ms < b.round → has_promised_at ms v b ≡ false
 unpromised_at_above ms v b l = false_from_ne_true (has_promised_at ms v b) (λ (e : has_promised_at ms v b ≡ true). let low = promised_round_at ms v b e in omega arith)
