@@ -137,7 +137,7 @@ early_deeds cfg used [] early all = all
 early_deeds cfg used (d ∷ late) early all = early_deeds cfg used late early all.0
 
 -- both lead to the same ledger
-both_moves : (cfg : Config) (used : ℕ → ℕ) (late early : List Deed) → AreDeeds cfg used (late ++ early) → AreMoves cfg (moves_of late ++ moves_of early) × (after_moves (moves_of late ++ moves_of early) ≡ ledger_of (after_deeds used (late ++ early)))
+pub both_moves : (cfg : Config) (used : ℕ → ℕ) (late early : List Deed) → AreDeeds cfg used (late ++ early) → AreMoves cfg (moves_of late ++ moves_of early) × (after_moves (moves_of late ++ moves_of early) ≡ ledger_of (after_deeds used (late ++ early)))
 both_moves cfg used late early all =
     let w = deeds_are_moves cfg used (late ++ early) all in
     (subst (λ (ms : List Move). AreMoves cfg ms) (moves_split late early) w.0, ap after_moves (sym (moves_split late early)) ∙ w.1)
