@@ -27,5 +27,6 @@ pub mod RunTools
 pub mod RunTurns
 pub mod Running
 pub mod Sending
+pub mod Tales
 pub mod Values
 pub mod Valuing
