@@ -8,6 +8,7 @@ pub mod Exchanges
 pub mod Exchanging
 pub mod Growing
 pub mod Guarding
+pub mod HeardOrder
 pub mod Hearing
 pub mod Keeping
 pub mod Keys

@@ -94,7 +94,7 @@ does_run key old new ds (events.Reply n which) effect d tell l c p run = hand_ru
 does_run key old new ds (events.GiveUp n) effect d tell l c p run = give_up_run key old new ds n d.0 d.1.0 effect d.1.1 l c p run
 does_run key old new ds (events.Crash session) effect d tell l c p run = same_run key old new ds d.frame.cfg d.sites.sites d.tales d.net d.calls d.sites.casts run
 
-acts_run : (key : List ℕ) (old new : State) (ds : List Deed) (event : Event) (effect : Effect) → Acts old event effect new → AllTell old → AreListed old → AreCarried old → ArePlaced old → IsRun key old ds → (more : List Deed) × IsRun key new more
+pub acts_run : (key : List ℕ) (old new : State) (ds : List Deed) (event : Event) (effect : Effect) → Acts old event effect new → AllTell old → AreListed old → AreCarried old → ArePlaced old → IsRun key old ds → (more : List Deed) × IsRun key new more
 acts_run key old new ds event effect acts tell l c p run =
     elim (refusal_of old event) as (λ o. MatchOption o (Does old event effect new) (λ why. Skips old event why effect new) → (more : List Deed) × IsRun key new more) [
       | None ↦ λ d. does_run key old new ds event effect d tell l c p run
