@@ -39,7 +39,7 @@ use Rattle.gz_laws.proofs.RunAnswers.{call_tale, call_told, answer_tells, tale_s
 use Rattle.gz_laws.proofs.Running.{runs}
 
 -- the row of a site, as the store has it
-kept_same : (o : Option (ℕ × RowAt)) → acceptor_of (stored_of o) ≡ acceptor_kept o
+pub kept_same : (o : Option (ℕ × RowAt)) → acceptor_of (stored_of o) ≡ acceptor_kept o
 kept_same None = refl
 kept_same (Some kept) = refl
 

@@ -97,7 +97,7 @@ still_awaits m ms s a none e =
       | false ↦ λ k. k
     ] e
 
-sent_or_before : (b : Asked) (now : SiteNow) (a : Asked) → (after_sent b now).awaits ≡ Some a → (b ≡ a) ⊎ (now.awaits ≡ Some a)
+pub sent_or_before : (b : Asked) (now : SiteNow) (a : Asked) → (after_sent b now).awaits ≡ Some a → (b ≡ a) ⊎ (now.awaits ≡ Some a)
 sent_or_before b now a e =
     elim b.awaited as (λ w. (if w then (let n : SiteNow = record { row = now.row; changed = now.changed; out = now.out; awaits = Some b; unanswered = true } in n) else now).awaits ≡ Some a → (b ≡ a) ⊎ (now.awaits ≡ Some a)) [
       | true ↦ λ k. inl cc
@@ -226,7 +226,7 @@ does_carried old new (events.GiveUp n) effect d h =
     turn_carried old new n d.0 (with_given_up (tick_of old) d.0) (λ a. GaveUp a) d.1.0 effect d.1.1 (given_up_later (tick_of old) d.0) (λ q later is. (q, is)) h
 does_carried old new (events.Crash session) effect d h = carried_same old new d.tales (grows_same old.net new.net d.net) h
 
-acts_carried : (old new : State) (event : Event) (effect : Effect) → Acts old event effect new → AreCarried old → AreCarried new
+pub acts_carried : (old new : State) (event : Event) (effect : Effect) → Acts old event effect new → AreCarried old → AreCarried new
 acts_carried old new event effect acts h =
     elim (refusal_of old event) as (λ o. MatchOption o (Does old event effect new) (λ why. Skips old event why effect new) → AreCarried new) [
       | None ↦ λ d. does_carried old new event effect d h

@@ -5,6 +5,7 @@ use Rattle.std.proofs.lemmas.Bool.Decides.{nat_tests}
 use Rattle.std.specs.Prelude.{◌==◌, if◌then◌else◌, slice_get, slice_set}
 use Rattle.gz_core.specs.Names.{Name, same_name}
 use Rattle.gz_core.proofs.Ballots.{name_means, name_refl}
+use Rattle.gz_laws.proofs.Keys.{name_apart}
 use Rattle.gz_core.specs.declared.requests.Out.{Out}
 use Rattle.gz_round.specs.History.{Moment, Sent, IsClosing, asked_of, sent_from}
 use Rattle.gz_world.specs.States.{RequestAt, sent_request, sent_requests}
@@ -35,9 +36,6 @@ sent_exchanges n name tick [] = refl
 sent_exchanges n name tick (o ∷ os) =
     ap (λ b. named_or b (exchange_of n (sent_request name tick o)) (exchanges_from (n + 1) (sent_requests name tick os) name)) (name_refl name)
     ∙ ap (λ xs. just_sent (asked_of n o) ∷ xs) (sent_exchanges (n + 1) name tick os)
-
-name_apart : (x y : Name) → (x ≡ y → ⊥) → same_name x y ≡ false
-name_apart x y apart = elim (cases_Bool (same_name x y)) [ inl e ↦ absurd (apart (name_means x y e)) | inr e ↦ e ]
 
 -- and they are no other call's
 pub sent_others : (n : ℕ) (name other : Name) (tick : ℕ) (outs : List Out) → (name ≡ other → ⊥) → exchanges_from n (sent_requests name tick outs) other ≡ []

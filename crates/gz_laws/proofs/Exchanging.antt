@@ -14,7 +14,8 @@ use Rattle.gz_world.specs.declared.events.Effect.{Effect}
 use Rattle.gz_world.specs.declared.events.Event.{Event}
 use Rattle.gz_world.specs.declared.events.Event.TheVariants as events
 use Rattle.gz_laws.specs.Carried.{AreCarried}
-use Rattle.gz_laws.specs.Exchanged.{Exchange, reply_handed, exchange_of, exchanges_from, exchanges_in, with_answer, without_answer, changed_at, exchanges_told, TalesExchanged, IsCallOf, IsHandedOne, AreExchanged}
+use Rattle.gz_laws.specs.Exchanged.{Exchange, reply_handed, exchange_of, exchanges_from, exchanges_in, with_answer, without_answer, changed_at, exchanges_told, IsExchanged, IsCallOf, IsHandedOne, AreExchanged}
+use Rattle.gz_laws.specs.Each.{EachTale}
 use Rattle.gz_laws.specs.Listed.{AreListed}
 use Rattle.gz_world.specs.Reached.{IsOpening, IsReached, opened, stepped}
 use Rattle.gz_world.specs.Refusals.{refusal_of}
@@ -27,6 +28,7 @@ use Rattle.gz_laws.proofs.Exchanges.{exchanges_append, exchanges_sent, sent_exch
 use Rattle.gz_laws.proofs.Listing.{listed, tales_here, tales_there}
 use Rattle.gz_laws.proofs.RunTools.{set_cases, two_cases, fresh_request}
 use Rattle.gz_laws.proofs.Running.{told_request}
+use Rattle.gz_laws.proofs.Tales.{each_on, each_moved}
 
 -- the name of one of a session's calls is of the session, and counts no more than they are
 call_of_name : (c : Config) (session : ℕ) (ts : List Tale) (name : Name) → AreTold c session ts → IsCallOf ts name → (name.session ≡ session) × (name.seq ≤ length ts)
@@ -41,35 +43,6 @@ call_of_name c session (t ∷ ts) name told (inr e) = let r = call_of_name c ses
 abbrev OthersKeep : List RequestAt → List RequestAt → Name → Type 0
 OthersKeep old new name = (other : Name) → (name ≡ other → ⊥) → exchanges_in new other ≡ exchanges_in old other
 
--- of calls before the one of this name
-tales_kept : (c : Config) (session : ℕ) (old new : List RequestAt) (name : Name) (ts : List Tale) → AreTold c session ts → (name.session ≢ session) ⊎ (length ts < name.seq) → OthersKeep old new name → TalesExchanged old ts → TalesExchanged new ts
-tales_kept c session old new name [] told apart keep h = tt
-tales_kept c session old new name (t ∷ ts) told apart keep h = (
-  keep t.caller.name (λ e.
-      let n : name ≡ record { session = session; seq = length ts + 1 } = e ∙ told.1 in
-      let q : name.seq ≡ length ts + 1 = ap (λ (x : Name). x.seq) n in
-      elim apart [ inl ne ↦ ne (ap (λ (x : Name). x.session) n) | inr l ↦ omega (arith, l, q) ]) ∙ h.0,
-  tales_kept c session old new name ts told.2 (elim apart [ inl ne ↦ inl ne | inr l ↦ inr (omega (arith, l)) ]) keep h.1,
-)
-
-all_kept : (old new : List RequestAt) (ts : List Tale) → ((name : Name) → exchanges_in new name ≡ exchanges_in old name) → TalesExchanged old ts → TalesExchanged new ts
-all_kept old new [] keep h = tt
-all_kept old new (t ∷ ts) keep h = (keep t.caller.name ∙ h.0, all_kept old new ts keep h.1)
-
--- the tales of the session of a call that moves, and of the others
-moved_exchanged : (old new : State) (session : ℕ) (name : Name) (t : Tale) (ts : List Tale) → SessionMoves old session (t ∷ ts) new → ((n : ℕ) → AreTold old.cfg n (old.tales n)) → t.caller.name ≡ name → OthersKeep old.net new.net name
-    → exchanges_in new.net name ≡ exchanges_told t.moments → TalesExchanged old.net ts → ((n : ℕ) → TalesExchanged old.net (old.tales n)) → (n : ℕ) → TalesExchanged new.net (new.tales n)
-moved_exchanged old new session name t ts moves told is keep here before all n =
-    let named : name ≡ record { session = session; seq = length ts + 1 } = sym is ∙ moves.told.1 in
-    let seq : name.seq ≡ length ts + 1 = ap (λ (x : Name). x.seq) named in
-    let place : name.session ≡ session = ap (λ (x : Name). x.session) named in
-    elim (cases_eq n session) [
-      | inl e ↦ subst (TalesExchanged new.net) (sym (ap new.tales e ∙ tales_here old new session (t ∷ ts) moves))
-          (ap (exchanges_in new.net) is ∙ here, tales_kept old.cfg session old.net new.net name ts moves.told.2 (inr (omega (arith, seq))) keep before)
-      | inr ne ↦ subst (TalesExchanged new.net) (sym (tales_there old new session n (t ∷ ts) moves ne))
-          (tales_kept old.cfg n old.net new.net name (old.tales n) (told n) (inl (λ e. ne (sym e ∙ place))) keep (all n))
-    ]
-
 -- a session's call keeps its name
 call_kept : (old new : State) (session : ℕ) (ts : List Tale) (name : Name) → SessionMoves old session ts new → (IsCallOf (old.tales session) name → IsCallOf ts name) → IsCallOf (old.tales name.session) name → IsCallOf (new.tales name.session) name
 call_kept old new session ts name moves more h = elim (cases_eq name.session session) [
@@ -83,7 +56,7 @@ grown_call t after ts name same (inr e) = inr e
 
 exchanged_same : (old new : State) → ((n : ℕ) → new.tales n ≡ old.tales n) → new.net ≡ old.net → AreExchanged old → AreExchanged new
 exchanged_same old new tales net x = record {
-  tales = λ n. subst (TalesExchanged new.net) (sym (tales n)) (subst (λ ks. TalesExchanged ks (old.tales n)) (sym net) (x.tales n));
+  tales = λ n. subst (EachTale (IsExchanged new.net)) (sym (tales n)) (subst (λ ks. EachTale (IsExchanged ks) (old.tales n)) (sym net) (x.tales n));
   calls = λ n r h. subst (λ k. IsCallOf k r.name) (sym (tales r.name.session)) (x.calls n r (subst (λ ks. numbered ks n ≡ Some r) net h));
   handed = λ n r h. x.handed n r (subst (λ ks. numbered ks n ≡ Some r) net h);
 }
@@ -118,7 +91,7 @@ begin_exchanged old new session call turn effect b l x =
     let cases : (n : ℕ) (r : RequestAt) → numbered new.net n ≡ Some r → (numbered old.net n ≡ Some r) ⊎ ((o : Out) × (sent_request name tick o ≡ r))
     = λ n r h. elim (two_cases old.net sent n r (subst (λ ks. numbered ks n ≡ Some r) b.net h)) [ inl e ↦ inl e | inr e ↦ (let k = fresh_request name tick outs e.0 r e.1 in inr (k.0, k.1.1)) ] in
     record {
-      tales = moved_exchanged old new session name t past b.moves l.told refl keep here (x.tales session) x.tales;
+      tales = each_moved (IsExchanged old.net) (IsExchanged new.net) old new session t past b.moves l.told (λ u apart h. keep u.caller.name apart ∙ h) here (x.tales session) x.tales;
       calls = λ n r h. elim (cases n r h) [
         | inl e ↦ call_kept old new session (t ∷ past) r.name b.moves (λ k. inr k) (x.calls n r e)
         | inr e ↦ (let own : IsCallOf (new.tales name.session) name = subst (λ k. IsCallOf k name) (sym (tales_here old new session (t ∷ past) b.moves)) (inl refl) in
@@ -148,7 +121,7 @@ turn_exchanged old new n r marked moment by effect f t own is tells handed l car
     let mine : r.name ≡ name = request.name_is in
     let ms = moment by.asked ∷ by.tale.moments in
     let after = turned (next_of old) by.turn (moment by.asked) by.closing by.tale in
-    let before : TalesExchanged old.net (by.tale ∷ by.earlier) = subst (TalesExchanged old.net) t.tales (x.tales session) in
+    let before : EachTale (IsExchanged old.net) (by.tale ∷ by.earlier) = subst (EachTale (IsExchanged old.net)) t.tales (x.tales session) in
     let len : 1 + length mid ≡ next_of old = ap (λ k. 1 + k) (length-set old.net (n - 1) marked) ∙ omega arith in
     let changed : exchanges_in mid r.name ≡ map (changed_at n f) (exchanges_in old.net r.name)
     = exchanges_changed 1 (n - 1) f old.net r marked place.1 own (ap (λ k. exchange_of k marked) number ∙ is ∙ ap (λ k. f (exchange_of k r)) (sym number)) ∙ ap (λ k. map (changed_at k f) (exchanges_in old.net r.name)) number in
@@ -172,7 +145,7 @@ turn_exchanged old new n r marked moment by effect f t own is tells handed l car
     = λ q. call_kept old new session (after ∷ by.earlier) q t.moves (λ k. grown_call by.tale after by.earlier q refl (subst (λ ts. IsCallOf ts q) t.tales k)) in
     let first : IsCallOf (new.tales r.name.session) r.name = stay r.name (x.calls n r t.request) in
     record {
-      tales = moved_exchanged old new session name after by.earlier t.moves l.told refl keep here before.1 x.tales;
+      tales = each_moved (IsExchanged old.net) (IsExchanged new.net) old new session after by.earlier t.moves l.told (λ u apart h. keep u.caller.name apart ∙ h) here before.1 x.tales;
       calls = λ m q h. elim (cases m q h) [
         | inl e ↦ elim e [ inl k ↦ subst (λ (y : Name). IsCallOf (new.tales y.session) y) (sym (ap (λ (y : RequestAt). y.name) k ∙ own)) first | inr k ↦ stay q.name (x.calls m q k) ]
         | inr e ↦ subst (λ (y : Name). IsCallOf (new.tales y.session) y) (mine ∙ ap (λ (y : RequestAt). y.name) e.1) first
@@ -212,7 +185,7 @@ deliver_exchanged old new n r reply effect d x =
     = λ m q h. set_cases old.net n m r marked q d.request (subst (λ ks. numbered ks m ≡ Some q) d.net h) in
     let stay : (q : Name) → IsCallOf (old.tales q.session) q → IsCallOf (new.tales q.session) q = λ q h. subst (λ ts. IsCallOf ts q) (sym (d.sessions.tales q.session)) h in
     record {
-      tales = λ m. subst (TalesExchanged new.net) (sym (d.sessions.tales m)) (all_kept old.net new.net (old.tales m) keep (x.tales m));
+      tales = λ m. subst (EachTale (IsExchanged new.net)) (sym (d.sessions.tales m)) (each_on (IsExchanged old.net) (IsExchanged new.net) (old.tales m) (λ u h. keep u.caller.name ∙ h) (x.tales m));
       calls = λ m q h. elim (cases m q h) [
         | inl e ↦ subst (λ (y : RequestAt). IsCallOf (new.tales y.name.session) y.name) (sym e) (stay r.name (x.calls n r d.request))
         | inr e ↦ stay q.name (x.calls m q e)
@@ -260,7 +233,7 @@ step_exchanged old new event step l c x =
 
 opening_exchanged : (s : State) → IsOpening s → AreExchanged s
 opening_exchanged s o = record {
-  tales = λ n. subst (TalesExchanged s.net) (sym (o.tales n)) tt;
+  tales = λ n. subst (EachTale (IsExchanged s.net)) (sym (o.tales n)) tt;
   calls = λ n r h. absurd (none_there n r (subst (λ ks. numbered ks n ≡ Some r) o.net h));
   handed = λ n r h. absurd (none_there n r (subst (λ ks. numbered ks n ≡ Some r) o.net h));
 }

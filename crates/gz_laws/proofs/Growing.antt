@@ -1,8 +1,8 @@
 -- What a client sends at one event grows the store of its object by deeds of the machine of agreement.
-use Rattle.std.proofs.Common.{◌≡◌, ℕ, zero, suc, ◌+◌, ◌⊎◌, ◌≤◌, Bool, true, inl, inr, List, [], ◌∷◌, ◌++◌, Option, Some, None, refl, ap, sym, ◌∙◌, subst, arith}
-use Rattle.std.specs.Prelude.{slice_get}
+use Rattle.std.proofs.Common.{◌≡◌, ℕ, zero, suc, ◌+◌, ◌⊎◌, ◌≤◌, Bool, true, inl, inr, List, [], ◌∷◌, ◌++◌, Option, Some, None, refl, ap, sym, ◌∙◌, subst, arith, false}
+use Rattle.std.specs.Prelude.{slice_get, if◌then◌else◌}
 use Rattle.std.proofs.lemmas.Bool.{cases_lt, false≢true}
-use Rattle.gz_core.specs.Names.{Name, BallotAt}
+use Rattle.gz_core.specs.Names.{Name, BallotAt, same_name}
 use Rattle.gz_core.specs.Values.{name_of}
 use Rattle.gz_core.specs.Rows.{RowAt, column_in}
 use Rattle.gz_core.specs.Slots.{Act, Promises, act_of, slots, slot_of, slot_vote, slot_decision}
@@ -11,6 +11,8 @@ use Rattle.gz_core.proofs.Columns.{none_below}
 use Rattle.gz_core.proofs.Counting.{count_found}
 use Rattle.gz_core.proofs.Quorums.{need_some}
 use Rattle.gz_pick.specs.Evidences.{votes_for, decides, is_for, is_named}
+use Rattle.gz_accept.proofs.Making.{done_above}
+use Rattle.gz_core.proofs.Ballots.{name_refl}
 use Rattle.gz_config.specs.declared.Config.{Config}
 use Rattle.gz_core.specs.declared.requests.RowStep.{RowStep}
 use Rattle.gz_core.specs.declared.requests.RowStep.TheVariants.{FastVote, Promise, ClassicVote, Decide, Trim}
@@ -27,8 +29,10 @@ use Rattle.gz_ledger.specs.Histories.{Seen, Write, IsIn, IsProposed, VotesFor}
 use Rattle.gz_ledger.specs.Agreements.{HasQuorums}
 use Rattle.gz_ledger.specs.Deeds.{Store, Deed, Begins, Asked as AskedOf, AreDeeds, after_deeds, writes_of, late_rows, sent_after, AreCurrentDeeds}
 use Rattle.gz_ledger.proofs.Shown.{current_more}
+use Rattle.gz_laws.specs.Begun.{begins_of, step_sent, sends_of}
 use Rattle.gz_laws.specs.Heard.{unused, IsClean, heard_of, MomentsStand, IsStepOf, SentStep, PastStep, Keeps, AskedHere, CleanOp}
 use Rattle.gz_laws.proofs.Hearing.{IsLastRow, heard_found, heard_known, last_stands, stand_more}
+use Rattle.gz_laws.proofs.Keys.{name_apart}
 use Rattle.gz_laws.proofs.Sending.{step_makes}
 use Rattle.gz_laws.proofs.Guarding.{may_send}
 use Rattle.gz_laws.proofs.Currents.{own_current}
@@ -137,7 +141,13 @@ pub record Asks (c : Config) (w : Caller) (past : List Tale) (ms : List Moment) 
   pub here : AskedHere w.name site op (after_deeds unused more)
   pub clean : CleanOp op
   pub from : (q : Write) → IsIn q (writes_of (after_deeds unused more).asked) → IsIn q (writes_of (after_deeds unused ds).asked) ⊎ IsNewOf w ds op q
+  pub begun : (x : Name) → begins_of x more ≡ (if same_name w.name x then step_sent op (heard_of ms) (begins_of x ds) else begins_of x ds)
   pub on : GoOn c w.name ms ds more
+
+-- a read begins no write
+read_begun : (b : Bool) (xs : List (List Seen × Act)) → xs ≡ (if b then xs else xs)
+read_begun true xs = refl
+read_begun false xs = refl
 
 pub step_drawn : (c : Config) (w : Caller) (past : List Tale) (ms : List Moment) (step : RowStep) (v : ℕ) (b : BallotAt) → MayMake c w past ms step → act_of step ≡ Promises v b → b.session ≡ w.name.session
 step_drawn c w past ms (FastVote u x) v b may e = cc
@@ -190,6 +200,7 @@ ask_op c w past ms ds site now (ReadRow key) quorums are keeps allowed last may 
     here = tt;
     clean = tt;
     from = λ q h. inl h;
+    begun = λ x. read_begun (same_name w.name x) (begins_of x ds);
     on = same_on c w.name ms ds;
   },
 )
@@ -217,9 +228,21 @@ ask_op c w past ms ds site now (WriteRow key expect step row) quorums are keeps 
         here = (qa, ((slots m.before, refl), inl refl));
         clean = clean_made c w past ms step m.before row (λ v x. first_shown c (after_deeds unused ds) ms v x quorums keeps.stands) m.guard m.made known.0;
         from = λ q h. write_from c w past ms ds step wr q quorums are keeps.stands m.guard refl refl h;
+        begun = λ x. refl;
         on = ask_on c w past ms ds step qa quorums are keeps.stands m.guard refl refl;
       },
     )
+
+-- the writes that a call began are those that it sends, and no other call's have changed
+pub record HasBegun (name : Name) (first : ℕ) (outs : List Out) (ms : List Moment) (ds more : List Deed) : Type 0 where
+  pub others : (x : Name) → (name ≡ x → ⊥) → begins_of x more ≡ begins_of x ds
+  pub own : begins_of name ds ≡ sends_of ms → begins_of name more ≡ sends_of (sent_from first outs ms)
+
+begun_then : (c : Config) (w : Caller) (past : List Tale) (first : ℕ) (out : Out) (outs : List Out) (ms : List Moment) (ds mid more : List Deed) → Asks c w past ms ds out.site out.op mid → HasBegun w.name (first + 1) outs (Sent (asked_of first out) ∷ ms) mid more → HasBegun w.name first (out ∷ outs) ms ds more
+begun_then c w past first out outs ms ds mid more one rest = record {
+  others = λ x apart. rest.others x apart ∙ one.begun x ∙ ap (λ b. if b then step_sent out.op (heard_of ms) (begins_of x ds) else begins_of x ds) (name_apart w.name x apart);
+  own = λ e. rest.own (one.begun w.name ∙ ap (λ b. if b then step_sent out.op (heard_of ms) (begins_of w.name ds) else begins_of w.name ds) (name_refl w.name) ∙ ap (step_sent out.op (heard_of ms)) e);
+}
 
 -- the deeds of the requests that are sent at one event
 pub record Sends (c : Config) (w : Caller) (past : List Tale) (first : ℕ) (outs : List Out) (ms : List Moment) (ds more : List Deed) : Type 0 where
@@ -228,6 +251,7 @@ pub record Sends (c : Config) (w : Caller) (past : List Tale) (first : ℕ) (out
   pub keeps : Keeps w.name past (sent_from first outs ms) (after_deeds unused more)
   pub here : (j : ℕ) (o : Out) → slice_get outs j ≡ Some o → AskedHere w.name o.site o.op (after_deeds unused more) × CleanOp o.op
   pub from : (q : Write) → IsIn q (writes_of (after_deeds unused more).asked) → IsIn q (writes_of (after_deeds unused ds).asked) ⊎ ((q.call ≡ w.name) × IsOwnVote w ds q.act)
+  pub begun : HasBegun w.name first outs ms ds more
   pub on : GoOn c w.name ms ds more
 
 pub allowed_base : (c : Config) (w : Caller) (past : List Tale) (first : ℕ) (outs : List Out) (ms : List Moment) → AreAllowed c w past (sent_from first outs ms) → AreAllowed c w past ms
@@ -257,7 +281,7 @@ sent_new c w past ms site op ds mid one q (inl h) = elim (one.from q h) [ inl e 
 sent_new c w past ms site op ds mid one q (inr h) = inr (h.0, λ v votes. elim (h.1 v votes) [ inl p ↦ write_before c w past ms site op ds mid v q.act one p | inr k ↦ inr k ])
 
 pub sends : (c : Config) (w : Caller) (past : List Tale) (first : ℕ) (outs : List Out) (ms : List Moment) (ds : List Deed) → HasQuorums c → AreDeeds c unused ds → Keeps w.name past ms (after_deeds unused ds) → AreAllowed c w past (sent_from first outs ms) → (more : List Deed) × Sends c w past first outs ms ds more
-sends c w past first [] ms ds quorums are keeps allowed = (ds, record { are = are; only = only_itself (after_deeds unused ds); keeps = keeps; here = λ j o e. cc; from = λ q h. inl h; on = same_on c w.name ms ds })
+sends c w past first [] ms ds quorums are keeps allowed = (ds, record { are = are; only = only_itself (after_deeds unused ds); keeps = keeps; here = λ j o e. cc; from = λ q h. inl h; begun = record { others = λ x apart. refl; own = λ e. e }; on = same_on c w.name ms ds })
 sends c w past first (out ∷ outs) ms ds quorums are keeps allowed =
     let a = asked_of first out in
     let base = allowed_base c w past (first + 1) outs (Sent a ∷ ms) allowed in
@@ -274,6 +298,7 @@ sends c w past first (out ∷ outs) ms ds quorums are keeps allowed =
         keeps = rest.keeps;
         here = here_cons w.name (after_deeds unused r.0) out outs (here_more w.name out.site out.op (after_deeds unused k.0) (after_deeds unused r.0) rest.only one.here, one.clean) rest.here;
         from = λ q h. sent_new c w past ms out.site out.op ds k.0 one q (rest.from q h);
+        begun = begun_then c w past first out outs ms ds k.0 r.0 one rest.begun;
         on = on_then c w.name ms ds k.0 r.0 one.on rest.on;
       },
     )

@@ -1,7 +1,10 @@
--- Two keys are the same one exactly where the comparison says so.
+-- Two keys, or two names, are the same one exactly where the comparison says so.
 use Rattle.std.proofs.Common.{◌≡◌, ◌≢◌, ℕ, List, true, false, ◌⊎◌, inl, inr, refl, sym, ap, ◌∙◌}
+use Rattle.std.proofs.lemmas.Bool.{cases_Bool}
 use Rattle.std.proofs.lemmas.Map.Text.{is_eq-slice_cmp}
 use Rattle.std.proofs.lemmas.Slice.Eq.{bytes_eq-Decides}
+use Rattle.gz_core.specs.Names.{Name, same_name}
+use Rattle.gz_core.proofs.Ballots.{name_means}
 use Rattle.gz_site.specs.Told.{same_key}
 
 pub same_key-eq : (a b : List ℕ) → same_key a b ≡ true → a ≡ b
@@ -15,3 +18,6 @@ key_cases a b = elim (same_key a b) as (λ t. same_key a b ≡ t → (a ≡ b) �
   | true ↦ λ e. inl (same_key-eq a b e)
   | false ↦ λ e. inr (λ same. let bad : true ≡ false = sym (same_key-refl a) ∙ ap (same_key a) same ∙ e in cc, e)
 ] refl
+
+pub name_apart : (x y : Name) → (x ≡ y → ⊥) → same_name x y ≡ false
+name_apart x y apart = elim (cases_Bool (same_name x y)) [ inl e ↦ absurd (apart (name_means x y e)) | inr e ↦ e ]

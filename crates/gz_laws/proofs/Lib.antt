@@ -8,6 +8,7 @@ pub mod Exchanges
 pub mod Exchanging
 pub mod Growing
 pub mod Guarding
+pub mod HeardOrder
 pub mod Hearing
 pub mod Keeping
 pub mod Keys
@@ -27,5 +28,6 @@ pub mod RunTools
 pub mod RunTurns
 pub mod Running
 pub mod Sending
+pub mod Tales
 pub mod Values
 pub mod Valuing

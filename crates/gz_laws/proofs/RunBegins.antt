@@ -1,7 +1,7 @@
 -- A call that begins keeps the run of each object.
 use Rattle.std.proofs.Common.{◌≡◌, ℕ, ◌+◌, ◌≤◌, inl, inr, List, [], ◌∷◌, ◌++◌, Some, None, length, refl, ap, sym, ◌∙◌, subst, arith}
 use Rattle.std.proofs.lemmas.Bool.{cases_eq}
-use Rattle.std.specs.Prelude.{Option, slice_get}
+use Rattle.std.specs.Prelude.{Option, if◌then◌else◌, slice_get}
 use Rattle.gz_core.specs.Names.{Name}
 use Rattle.gz_core.specs.Calls.{key_of}
 use Rattle.gz_core.specs.Slots.{Act}
@@ -16,8 +16,9 @@ use Rattle.gz_history.specs.Answers.{shows}
 use Rattle.gz_history.specs.Legal.{IsBefore}
 use Rattle.gz_history.specs.declared.record.CallRec.{CallRec}
 use Rattle.gz_ledger.specs.Histories.{Write, IsIn, VotesFor}
-use Rattle.gz_ledger.specs.Deeds.{Deed, after_deeds, late_rows, sent_after, AreCurrentDeeds}
+use Rattle.gz_ledger.specs.Deeds.{Deed, Reads, Begins, Written, Failed, Elsewhere, after_deeds, late_rows, sent_after, AreCurrentDeeds}
 use Rattle.gz_world.specs.declared.events.Effect.{Effect}
+use Rattle.gz_laws.specs.Begun.{begins_of, IsBegunIn}
 use Rattle.gz_laws.specs.Carried.{AreCarried}
 use Rattle.gz_laws.specs.Heard.{unused}
 use Rattle.gz_laws.specs.Listed.{AreListed}
@@ -32,6 +33,8 @@ use Rattle.gz_laws.proofs.RunAnswers.{call_shown}
 use Rattle.gz_laws.proofs.RunSends.{has_sent, NetFrom, sent_run}
 use Rattle.gz_laws.proofs.RunTools.{alike_itself, two_cases, fresh_request, row_in_more, since_on}
 use Rattle.gz_laws.proofs.RunTurns.{net_heard}
+use Rattle.gz_laws.proofs.Tales.{each_moved}
+use Rattle.gz_laws.proofs.Keys.{name_apart}
 
 pub begin_net : (old new : State) (name : Name) (tick : ℕ) (outs : List Out) → new.net ≡ old.net ++ sent_requests name tick outs → NetFrom old.net new.net name tick outs
 begin_net old new name tick outs net = λ m q at. elim (two_cases old.net (sent_requests name tick outs) m q (subst (λ xs. numbered xs m ≡ Some q) net at)) [
@@ -46,6 +49,16 @@ new_name old key session name act told is h =
     let seq : name.seq ≡ length (old.tales session) + 1 = ap (λ (x : Name). x.seq) is in
     let same : length (old.tales name.session) ≡ length (old.tales session) = ap (λ (x : Name). length (old.tales x.session)) is in
     omega (arith, most, seq, same)
+
+-- a call that sent no write began none
+none_begun : (name : Name) (ds : List Deed) → ((q : Write) → IsIn q (sent_after unused ds) → q.call ≡ name → ⊥) → begins_of name ds ≡ []
+none_begun name [] unsent = refl
+none_begun name (Reads s ∷ ds) unsent = none_begun name ds unsent
+none_begun name (Begins heard a ∷ ds) unsent =
+    ap (λ b. if b then (heard, a.write.act) ∷ begins_of name ds else begins_of name ds) (name_apart a.write.call name (unsent a.write (inl refl))) ∙ none_begun name ds (λ q i. unsent q (inr i))
+none_begun name (Written a e ∷ ds) unsent = none_begun name ds unsent
+none_begun name (Failed a e ∷ ds) unsent = none_begun name ds unsent
+none_begun name (Elsewhere s e ∷ ds) unsent = none_begun name ds unsent
 
 -- a call that has ended did so before this tick, or began and ended now
 not_yet : (tick begin : ℕ) (o : Option Answer) → begin ≤ tick → IsBefore (end_at tick o) begin → ⊥
@@ -93,6 +106,8 @@ begin_run key old new ds session call turn effect b listed carries placed run =
                   write = λ v votes. elim (h.vote v (subst (VotesFor q.act v) h.call votes)) [ inl p ↦ absurd (unsent p.write p.found p.own) | inr write ↦ write ];
                 })))
           ])
+          (each_moved (IsBegunIn key ds) (IsBegunIn key more) old new session t past b.moves listed.told (λ u apart h own. sent.others u.caller.name apart ∙ h own)
+          (λ own. sent.own own (none_begun name ds unsent)) (run.begun session) run.begun)
           (λ j d there is. elim (get_of_two old.calls (fresh ∷ []) j d (subst (λ xs. slice_get xs j ≡ Some d) b.calls there)) [
             | inl e ↦ (let since = run.calls j d e is in
                 let on = sent.on d.name since.early since.late since.split since.current (λ same own e h. absurd h) in

@@ -9,6 +9,8 @@ use Rattle.gz_model.specs.Casts.{has_cast}
 use Rattle.gz_ledger.specs.Histories.{IsIn, cast}
 use Rattle.gz_ledger.specs.Deeds.{Store, Asked as AskedOf, Deed, after_deeds, AreDeeds, late_rows, seen_after, writes_of}
 use Rattle.gz_world.specs.declared.events.Effect.{Effect}
+use Rattle.gz_laws.specs.Begun.{IsBegunIn}
+use Rattle.gz_laws.specs.Each.{EachTale}
 use Rattle.gz_laws.specs.Heard.{unused, SeenStands}
 use Rattle.gz_laws.specs.Runs.{SiteStands, key_asked, RequestStands, IsSentBy, IsRowIn, IsRun}
 use Rattle.gz_world.specs.States.{RequestAt, State, tick_of, numbered, with_reply}
@@ -17,6 +19,7 @@ use Rattle.gz_laws.proofs.CastRuns.{or_comm, fold_has}
 use Rattle.gz_world.proofs.Places.{get_of_two, get_one}
 use Rattle.gz_laws.proofs.RunSites.{site_done}
 use Rattle.gz_laws.proofs.RunTools.{request_more, row_in_more, set_cases, since_on}
+use Rattle.gz_laws.proofs.Tales.{each_on}
 
 -- a site that tells goes on to tell
 pub both_tell : (o p : Option Told) (R : Told → Told → Type 0) → IsSome o → Tells o p R → (before : Told) × ((after : Told) × ((o ≡ Some before) × ((p ≡ Some after) × R before after)))
@@ -75,6 +78,7 @@ deliver_run key old new ds n r reply effect d tells run =
             ap (λ cs. has_cast cs key v b x i) d.casts ∙ fold_has (casts_in r.site r.op reply) old.casts key v b x i ∙ ap (λ t. t || has_cast (casts_in r.site r.op reply) key v b x i) (run.casts v b x i)
             ∙ or_comm (cast (seen_after unused ds) v b x i) (has_cast (casts_in r.site r.op reply) key v b x i) ∙ sym (done.casts v b x i);
         sent = λ q i. subst (IsSentBy key q.call q.act) (sym (d.sessions.tales q.call.session)) (run.sent q (subst (λ xs. IsIn q (writes_of xs)) done.asked i));
+        begun = λ m. subst (EachTale (IsBegunIn key more)) (sym (d.sessions.tales m)) (each_on (IsBegunIn key ds) (IsBegunIn key more) (old.tales m) (λ t h own. done.begun t.caller.name ∙ h own) (run.begun m));
         calls = λ j b there is.
             let since = run.calls j b (subst (λ cs. slice_get cs j ≡ Some b) d.sessions.calls there) is in
             let on = done.along b.name since.early since.late since.split since.current in

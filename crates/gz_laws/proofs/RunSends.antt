@@ -20,6 +20,8 @@ use Rattle.gz_ledger.specs.Histories.{Seen, Write, IsIn, cast}
 use Rattle.gz_ledger.specs.Agreements.{HasQuorums}
 use Rattle.gz_ledger.specs.Deeds.{Store, Deed, after_deeds, AreDeeds, rows_of, late_rows, sent_after, AreCurrentDeeds}
 use Rattle.gz_laws.specs.Carried.{MomentsCarried}
+use Rattle.gz_laws.specs.Begun.{begins_of, sends_of, IsBegunIn}
+use Rattle.gz_laws.specs.Each.{EachTale}
 use Rattle.gz_laws.specs.Heard.{unused, entry_of, heard_of, SentStep, Keeps, AskedHere, CleanOp}
 use Rattle.gz_laws.specs.Runs.{key_asked, RequestStands, IsSentBy, IsRowIn, IsSince, IsRun}
 use Rattle.gz_world.specs.States.{RequestAt, State, numbered, sent_request}
@@ -43,6 +45,8 @@ pub record HasSent (c : Config) (key : List ℕ) (w : Caller) (first : ℕ) (out
   pub only : OnlyAsks (after_deeds unused ds) (after_deeds unused more)
   pub here : (j : ℕ) (o : Out) → slice_get outs j ≡ Some o → key_asked o.op ≡ key → AskedHere w.name o.site o.op (after_deeds unused more) × CleanOp o.op
   pub from : (q : Write) → IsIn q (sent_after unused more) → IsIn q (sent_after unused ds) ⊎ IsOurs key w ds (sent_from first outs ms) q
+  pub others : (x : Name) → (w.name ≡ x → ⊥) → begins_of x more ≡ begins_of x ds
+  pub own : key_of w.call ≡ key → begins_of w.name ds ≡ sends_of ms → begins_of w.name more ≡ sends_of (sent_from first outs ms)
   pub on : (call : Name) (early late : List Deed) → ds ≡ late ++ early → AreCurrentDeeds c unused call late early → (call ≡ w.name → key_of w.call ≡ key → (e : Seen) → IsIn e (heard_of ms) → IsIn e (late_rows unused late early)) → GoesOn c call early late more
 
 -- each request is of the call's object
@@ -65,6 +69,8 @@ has_sent c key w past first outs ms ds quorums are keeps allowed = elim (key_cas
           only = s.only;
           here = λ j o e _. s.here j o e;
           from = λ q i. elim (s.from q i) [ inl h ↦ inl h | inr h ↦ inr (record { call = h.0; key_is = same; sent = s.keeps.own q i h.0; vote = h.1 }) ];
+          others = s.begun.others;
+          own = λ _. s.begun.own;
           on = λ call early late split current own. s.on call early late split current (λ e. own e same);
         },
       ))
@@ -75,6 +81,8 @@ has_sent c key w past first outs ms ds quorums are keeps allowed = elim (key_cas
       only = only_itself (after_deeds unused ds);
       here = λ j o e is. absurd (apart.0 (sym (sends_key c w past first outs ms allowed j o e) ∙ is));
       from = λ q i. inl i;
+      others = λ x _. refl;
+      own = λ is. absurd (apart.0 is);
       on = λ call early late split current own. record { later = late; split = split; current = current; rows = λ e h. h };
     },
   )
@@ -90,8 +98,9 @@ fresh_stands st name tick o h = record { asked = h.0; clean = h.1; replies = λ 
 
 -- the run of an object when a call has sent its requests
 pub sent_run : (key : List ℕ) (old new : State) (ds more : List Deed) (w : Caller) (first tick : ℕ) (outs : List Out) (ms : List Moment) → new.cfg ≡ old.cfg → SitesStay old new → NetFrom old.net new.net w.name tick outs → HasSent old.cfg key w first outs ms ds more
-    → ((q : Write) → IsIn q (sent_after unused more) → IsSentBy key q.call q.act (new.tales q.call.session)) → ((j : ℕ) (b : CallRec) → slice_get new.calls j ≡ Some b → key_of b.call ≡ key → IsSince new key more b) → IsRun key old ds → IsRun key new more
-sent_run key old new ds more w first tick outs ms cfg stay net has sent calls run =
+    → ((q : Write) → IsIn q (sent_after unused more) → IsSentBy key q.call q.act (new.tales q.call.session)) → ((n : ℕ) → EachTale (IsBegunIn key more) (new.tales n))
+    → ((j : ℕ) (b : CallRec) → slice_get new.calls j ≡ Some b → key_of b.call ≡ key → IsSince new key more b) → IsRun key old ds → IsRun key new more
+sent_run key old new ds more w first tick outs ms cfg stay net has sent begun calls run =
     let only = has.only in
     record {
       deeds = subst (λ c. AreDeeds c unused more) (sym cfg) has.deeds;
@@ -107,6 +116,7 @@ sent_run key old new ds more w first tick outs ms cfg stay net has sent calls ru
       ];
       casts = λ v b x i. ap (λ cs. has_cast cs key v b x i) stay.casts ∙ run.casts v b x i ∙ sym (ap (λ rs. cast (rows_of rs) v b x i) only.replies);
       sent = sent;
+      begun = begun;
       calls = calls;
     }
 
@@ -142,6 +152,11 @@ closing_allowed c w past closing ms (inr e) h = (subst (λ ks. AreAllowed c w pa
 pub closing_sent : (closing ms : List Moment) (act : Act) → IsClosing closing → SentStep ms act → SentStep (closing ++ ms) act
 closing_sent closing ms act (inl e) h = subst (λ ks. SentStep (ks ++ ms) act) (sym e) h
 closing_sent closing ms act (inr e) h = subst (λ ks. SentStep (ks ++ ms) act) (sym e) (inr h)
+
+-- and begins no write
+pub closing_sends : (closing ms : List Moment) → IsClosing closing → sends_of (closing ++ ms) ≡ sends_of ms
+closing_sends closing ms (inl e) = ap (λ ks. sends_of (ks ++ ms)) e
+closing_sends closing ms (inr e) = ap (λ ks. sends_of (ks ++ ms)) e
 
 -- what a call sent before it sent
 pub sent_before : (first : ℕ) (outs : List Out) (ms : List Moment) (act : Act) → SentStep ms act → SentStep (sent_from first outs ms) act

@@ -19,6 +19,7 @@ use Rattle.gz_ledger.specs.Histories.{Seen, IsIn, cast}
 use Rattle.gz_ledger.specs.Deeds.{Store, Stored, Answered, Asked as AskedOf, Deed, Reads, Elsewhere, etag_of, acceptor_of, after_deeds, AreDeeds, CanWrite, late_rows, seen_after, AreCurrentDeeds}
 use Rattle.gz_ledger.specs.Deeds.{Written as WrittenBy, Failed as FailedBy}
 use Rattle.gz_ledger.proofs.Tags.{site_same, site_other}
+use Rattle.gz_laws.specs.Begun.{begins_of}
 use Rattle.gz_laws.specs.Heard.{unused, IsClean, SeenStands, IsAskedOf, AskedHere, CleanOp}
 use Rattle.gz_laws.specs.Runs.{stored_of, IsCleanStored, SiteStands, key_asked, IsRowIn}
 use Rattle.gz_world.specs.Steps.{Answers, casts_in}
@@ -41,6 +42,7 @@ pub record IsDone (c : Config) (key : List ℕ) (ds more : List Deed) (site : �
   pub asked : (after_deeds unused more).asked ≡ (after_deeds unused ds).asked
   pub seen : key_asked op ≡ key → SeenStands (after_deeds unused more) site (seen_in (written_by op) reply)
   pub casts : (v : ℕ) (b : BallotAt) (x : Name) (i : ℕ) → cast (seen_after unused more) v b x i ≡ (has_cast (casts_in site op reply) key v b x i || cast (seen_after unused ds) v b x i)
+  pub begun : (name : Name) → begins_of name more ≡ begins_of name ds
   pub along : GoAlong c ds more (λ rows. key_asked op ≡ key → IsRowIn site (seen_in (written_by op) reply) rows)
 
 -- nothing was done
@@ -55,6 +57,7 @@ idle c key ds site op reply told are here seen rows none = record {
   asked = refl;
   seen = seen;
   casts = λ v b x i. sym (ap (λ t. t || cast (seen_after unused ds) v b x i) (none v b x i));
+  begun = λ name. refl;
   along = λ call early late split current. (record { later = late; split = split; current = current; rows = λ e h. h }, rows (late_rows unused late early));
 }
 
@@ -85,6 +88,7 @@ read_done c key ds site op reply told o are here is seen rows votes = record {
   asked = refl;
   seen = λ _. seen (after_deeds unused (Reads site ∷ ds)) (inl (λ i. record { site = site; etag = etag_of (sym is i); row = acceptor_of (sym is i) }));
   casts = λ v b x i. ap (λ (k : Option Stored). ((site == i) && slot_votes (acceptor_of k v) b x) || cast (seen_after unused ds) v b x i) is ∙ ap (λ t. t || cast (seen_after unused ds) v b x i) (sym (votes v b x i));
+  begun = λ name. refl;
   along = λ call early late split current. (
     record { later = Reads site ∷ late; split = ap (λ (ks : List Deed). Reads site ∷ ks) split; current = (current, tt); rows = λ e h. inr h },
     λ _. rows (late_rows unused (Reads site ∷ late) early)
@@ -156,6 +160,7 @@ failed_done c key k ds qa site etag name expect step row before after are here c
       asked = refl;
       seen = λ _. tt;
       casts = λ v b x i. refl;
+      begun = λ name. refl;
       along = λ call early late split current. (record { later = FailedBy qa etag ∷ late; split = ap (λ (ks : List Deed). FailedBy qa etag ∷ ks) split; current = (current, tt); rows = λ e h. h }, λ _. tt);
     }
 
@@ -178,6 +183,7 @@ written_done c key k ds qa site etag name expect step row before after are here 
       casts = λ v b x i.
           ap (λ s. ((s == i) && slot_votes (qa.write.after v) b x) || cast (seen_after unused ds) v b x i) at ∙ ap (λ (a : Acceptor). ((site == i) && slot_votes (a v) b x) || cast (seen_after unused ds) v b x i) w.1.1
           ∙ ap (λ t. t || cast (seen_after unused ds) v b x i) (sym (row_casts site k key row v b x i same clean));
+      begun = λ name. refl;
       along = λ call early late split current. (
         record { later = WrittenBy qa etag ∷ late; split = ap (λ (ks : List Deed). WrittenBy qa etag ∷ ks) split; current = (current, tt); rows = λ e h. inr h },
         λ _. under_in site etag row (can_stand row) (late_rows unused (WrittenBy qa etag ∷ late) early) (inl (λ i. record { site = sym at i; row = sym w.1.1 i })),
@@ -204,6 +210,7 @@ elsewhere_done c key other ds site etag op reply row before after are here apart
       asked = refl;
       seen = λ same. absurd (none same);
       casts = λ v b x i. sym (ap (λ t. t || cast (seen_after unused ds) v b x i) (plain v b x i));
+      begun = λ name. refl;
       along = λ call early late split current. (record { later = Elsewhere site etag ∷ late; split = ap (λ (ks : List Deed). Elsewhere site etag ∷ ks) split; current = (current, tt); rows = λ e h. h }, λ same. absurd (none same));
     }
 

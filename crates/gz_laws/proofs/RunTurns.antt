@@ -19,6 +19,8 @@ use Rattle.gz_ledger.specs.Histories.{Seen, Write, IsIn, VotesFor}
 use Rattle.gz_ledger.specs.Deeds.{Deed, after_deeds, late_rows, sent_after}
 use Rattle.gz_world.specs.declared.events.Effect.{Effect}
 use Rattle.gz_laws.specs.Carried.{MomentCarried, MomentsCarried, TalesCarried, AreCarried}
+use Rattle.gz_laws.specs.Begun.{sends_of, IsBegunIn}
+use Rattle.gz_laws.specs.Each.{EachTale}
 use Rattle.gz_laws.specs.Heard.{unused, MomentStands, SendsStep, SentStep}
 use Rattle.gz_laws.specs.Listed.{AreListed}
 use Rattle.gz_laws.specs.Placed.{ArePlaced}
@@ -28,7 +30,8 @@ use Rattle.gz_world.specs.Steps.{SessionMoves, TurnBy, TakesTurn}
 use Rattle.gz_laws.proofs.Growing.{allowed_base}
 use Rattle.gz_laws.proofs.Keeping.{own_sender, keeps_newest, keeps_moment}
 use Rattle.gz_laws.proofs.Listing.{tales_here, tales_there}
-use Rattle.gz_laws.proofs.RunSends.{IsOurs, has_sent, NetFrom, sent_run, heard_in_rows, closing_allowed, closing_sent, sent_before, IsAfter, call_before}
+use Rattle.gz_laws.proofs.RunSends.{IsOurs, has_sent, NetFrom, sent_run, heard_in_rows, closing_allowed, closing_sent, sent_before, IsAfter, call_before, closing_sends}
+use Rattle.gz_laws.proofs.Tales.{each_moved}
 use Rattle.gz_laws.proofs.RunTools.{IsAlike, alike_itself, alike_in, set_cases, two_cases, fresh_request, row_in_more, since_on}
 
 -- the tales of a session whose newest one grew
@@ -98,8 +101,8 @@ ended_before key old new name b early before began all i v d at own ends show =
     ]
 
 pub turn_run : (key : List ℕ) (old new : State) (ds : List Deed) (n : ℕ) (r marked : RequestAt) (moment : Asked → Moment) (by : TurnBy) (effect : Effect) → TakesTurn old n r moment by marked effect new → IsAlike r marked
-    → ((key_of by.tale.caller.call ≡ key) → MomentStands (after_deeds unused ds) (moment by.asked)) → ((act : Act) → SendsStep (moment by.asked) act → ⊥) → MomentCarried old.net by.tale.caller.name (moment by.asked) → AreListed old → AreCarried old → ArePlaced old → IsRun key old ds → (more : List Deed) × IsRun key new more
-turn_run key old new ds n r marked moment by effect t alike stands none carried listed carries placed run =
+    → ((key_of by.tale.caller.call ≡ key) → MomentStands (after_deeds unused ds) (moment by.asked)) → ((act : Act) → SendsStep (moment by.asked) act → ⊥) → ((a : Asked) → sends_of (moment a ∷ by.tale.moments) ≡ sends_of by.tale.moments) → MomentCarried old.net by.tale.caller.name (moment by.asked) → AreListed old → AreCarried old → ArePlaced old → IsRun key old ds → (more : List Deed) × IsRun key new more
+turn_run key old new ds n r marked moment by effect t alike stands none moment_sends carried listed carries placed run =
     let c = old.cfg in
     let w = by.tale.caller in
     let session = r.name.session in
@@ -118,6 +121,7 @@ turn_run key old new ds n r marked moment by effect t alike stands none carried 
     let sent = s.1 in
     let net = turn_net old new n r marked w.name tick outs t.request alike t.net in
     let before = call_before old.calls new.calls w.name tick by.turn.answer t.calls in
+    let first_begun : EachTale (IsBegunIn key ds) (by.tale ∷ by.earlier) = subst (EachTale (IsBegunIn key ds)) t.tales (run.begun session) in
     let grew : (act : Act) → SentStep (sent_from first outs ms) act → SentStep after.moments act = λ act h. closing_sent by.closing (sent_from first outs ms) act t.closing h in (
       more,
       sent_run key old new ds more w first tick outs ms t.frame.cfg t.sites net sent
@@ -127,6 +131,8 @@ turn_run key old new ds n r marked moment by effect t alike stands none carried 
                 subst (IsSentBy key q.call q.act) (sym (ap new.tales at ∙ tales_here old new session (after ∷ by.earlier) t.moves))
                 (inl (ours_sent key c old.tales session by.tale after by.earlier ds (sent_from first outs ms) q told t.tales refl grew run.sent h)))
           ])
+          (each_moved (IsBegunIn key ds) (IsBegunIn key more) old new session after by.earlier t.moves listed.told (λ u apart h own. sent.others u.caller.name apart ∙ h own)
+          (λ own. sent.own own (first_begun.0 own ∙ sym (moment_sends by.asked)) ∙ sym (closing_sends by.closing (sent_from first outs ms) t.closing)) first_begun.1 run.begun)
           (λ j d there is.
           let b = before j d there in
           let k = b.1.1 in

@@ -12,7 +12,9 @@ use Rattle.gz_ledger.specs.Deeds.{Deed, after_deeds, AreDeeds}
 use Rattle.gz_world.specs.declared.events.Effect.{Effect}
 use Rattle.gz_world.specs.declared.events.Event.{Event}
 use Rattle.gz_world.specs.declared.events.Event.TheVariants as events
+use Rattle.gz_laws.specs.Begun.{IsBegunIn}
 use Rattle.gz_laws.specs.Carried.{IsRequestOf, HasReply, MomentCarried, TalesCarried, AreCarried}
+use Rattle.gz_laws.specs.Each.{EachTale}
 use Rattle.gz_laws.specs.Heard.{unused}
 use Rattle.gz_laws.specs.Listed.{AreListed}
 use Rattle.gz_laws.specs.Placed.{ArePlaced}
@@ -41,6 +43,7 @@ same_run key old new ds cfg sites tales net calls casts run = (
     requests = λ n r there is. run.requests n r (subst (λ xs. numbered xs n ≡ Some r) net there) is;
     casts = λ v b x i. ap (λ cs. has_cast cs key v b x i) casts ∙ run.casts v b x i;
     sent = λ q i. subst (IsSentBy key q.call q.act) (sym (tales q.call.session)) (run.sent q i);
+    begun = λ n. subst (EachTale (IsBegunIn key ds)) (sym (tales n)) (run.begun n);
     calls = λ j b there is.
         let since = run.calls j b (subst (λ xs. slice_get xs j ≡ Some b) calls there) is in
         since_on key old new ds ds b b cfg refl refl since (record { later = since.late; split = since.split; current = since.current; rows = λ e h. h })
@@ -75,12 +78,12 @@ hand_run key old new ds n which r reply by effect there t listed carries placed 
     let told : AreTold old.cfg r.name.session (by.tale ∷ by.earlier) = subst (AreTold old.cfg r.name.session) t.tales (listed.told r.name.session) in
     turn_run key old new ds n r (with_handed (tick_of old) which r) (λ a. Handed a reply.1) by effect t (handed_alike (tick_of old) which r)
     (λ same. handed_stands key old.net (after_deeds unused ds) name by.asked reply.1 run.requests (awaited_key old.cfg by.tale.caller by.earlier by.tale.moments by.asked.site by.asked told.0.allowed t.awaited.awaits ∙ same) moment)
-    (λ act h. h) moment listed carries placed run
+    (λ act h. h) (λ a. refl) moment listed carries placed run
 
 give_up_run : (key : List ℕ) (old new : State) (ds : List Deed) (n : ℕ) (r : RequestAt) (by : TurnBy) (effect : Effect) → TakesTurn old n r (λ a. GaveUp a) by (with_given_up (tick_of old) r) effect new
     → AreListed old → AreCarried old → ArePlaced old → IsRun key old ds → (more : List Deed) × IsRun key new more
 give_up_run key old new ds n r by effect t listed carries placed run =
-    turn_run key old new ds n r (with_given_up (tick_of old) r) (λ a. GaveUp a) by effect t (given_up_alike (tick_of old) r) (λ _. tt) (λ act h. h)
+    turn_run key old new ds n r (with_given_up (tick_of old) r) (λ a. GaveUp a) by effect t (given_up_alike (tick_of old) r) (λ _. tt) (λ act h. h) (λ a. refl)
     (r, told_request old new n r (with_given_up (tick_of old) r) (λ a. GaveUp a) by effect t carries) listed carries placed run
 
 does_run : (key : List ℕ) (old new : State) (ds : List Deed) (event : Event) (effect : Effect) → Does old event effect new → AllTell old → AreListed old → AreCarried old → ArePlaced old → IsRun key old ds → (more : List Deed) × IsRun key new more
@@ -91,7 +94,7 @@ does_run key old new ds (events.Reply n which) effect d tell l c p run = hand_ru
 does_run key old new ds (events.GiveUp n) effect d tell l c p run = give_up_run key old new ds n d.0 d.1.0 effect d.1.1 l c p run
 does_run key old new ds (events.Crash session) effect d tell l c p run = same_run key old new ds d.frame.cfg d.sites.sites d.tales d.net d.calls d.sites.casts run
 
-acts_run : (key : List ℕ) (old new : State) (ds : List Deed) (event : Event) (effect : Effect) → Acts old event effect new → AllTell old → AreListed old → AreCarried old → ArePlaced old → IsRun key old ds → (more : List Deed) × IsRun key new more
+pub acts_run : (key : List ℕ) (old new : State) (ds : List Deed) (event : Event) (effect : Effect) → Acts old event effect new → AllTell old → AreListed old → AreCarried old → ArePlaced old → IsRun key old ds → (more : List Deed) × IsRun key new more
 acts_run key old new ds event effect acts tell l c p run =
     elim (refusal_of old event) as (λ o. MatchOption o (Does old event effect new) (λ why. Skips old event why effect new) → (more : List Deed) × IsRun key new more) [
       | None ↦ λ d. does_run key old new ds event effect d tell l c p run
@@ -159,6 +162,7 @@ opening_run key s o = record {
   requests = λ n r there is. let bad : numbered [] n ≡ Some r = subst (λ xs. numbered xs n ≡ Some r) o.net there in let k = (numbered_place [] n r bad).1 in cc;
   casts = λ v b x i. ap (λ cs. has_cast cs key v b x i) o.casts;
   sent = λ q i. absurd i;
+  begun = λ n. subst (EachTale (IsBegunIn key [])) (sym (o.tales n)) tt;
   calls = λ j b there is. let bad : slice_get [] j ≡ Some b = subst (λ xs. slice_get xs j ≡ Some b) o.calls there in cc;
 }
 

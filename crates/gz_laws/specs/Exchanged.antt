@@ -4,6 +4,7 @@ use Rattle.std.specs.Prelude.{ℕ, ◌≡◌, ◌+◌, ◌==◌, ◌⊎◌, Bool
 use Rattle.gz_core.specs.Names.{Name, same_name}
 use Rattle.gz_core.specs.declared.requests.Reply.{Reply}
 use Rattle.gz_round.specs.History.{Asked, Moment, Sent, Handed, GaveUp, Rested, GaveIn, Tale}
+use Rattle.gz_laws.specs.Each.{EachTale}
 use Rattle.gz_world.specs.States.{RequestAt, State, numbered}
 
 -- a request that was sent, the reply of it that was handed to its call, if one was, and whether it was given up
@@ -56,10 +57,9 @@ exchanges_told (GaveUp a ∷ ms) = map (changed_at a.number without_answer) (exc
 exchanges_told (Rested ∷ ms) = exchanges_told ms
 exchanges_told (GaveIn ∷ ms) = exchanges_told ms
 
--- of each call, the world's requests and its tale have the same exchanges
-abbrev pub TalesExchanged : List RequestAt → List Tale → Type 0
-TalesExchanged net [] = Unit {0}
-TalesExchanged net (t ∷ ts) = (exchanges_in net t.caller.name ≡ exchanges_told t.moments) × TalesExchanged net ts
+-- the world's requests and the tale of a call have the same exchanges
+abbrev pub IsExchanged : List RequestAt → Tale → Type 0
+IsExchanged net t = exchanges_in net t.caller.name ≡ exchanges_told t.moments
 
 -- one of these calls has the name
 abbrev pub IsCallOf : List Tale → Name → Type 0
@@ -73,6 +73,6 @@ IsHandedOne r = (tick which : ℕ) → r.handed ≡ Some (tick, which) → (repl
 -- the world's requests and the calls' tales agree in both directions: each tale has its call's requests, and each
 -- request is of a tale's call
 pub record AreExchanged (s : State) : Type 0 where
-  pub tales : (session : ℕ) → TalesExchanged s.net (s.tales session)
+  pub tales : (session : ℕ) → EachTale (IsExchanged s.net) (s.tales session)
   pub calls : (n : ℕ) (r : RequestAt) → numbered s.net n ≡ Some r → IsCallOf (s.tales r.name.session) r.name
   pub handed : (n : ℕ) (r : RequestAt) → numbered s.net n ≡ Some r → IsHandedOne r

@@ -1,5 +1,7 @@
 pub mod Agreed
+pub mod Begun
 pub mod Carried
+pub mod Each
 pub mod Exchanged
 pub mod Heard
 pub mod Listed

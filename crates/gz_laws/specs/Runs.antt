@@ -19,6 +19,8 @@ use Rattle.gz_model.specs.Casts.{has_cast}
 use Rattle.gz_ledger.specs.Histories.{Seen, Write, IsIn, IsShown, VotesFor, cast}
 use Rattle.gz_ledger.specs.Deeds.{Store, Stored, Deed, after_deeds, AreDeeds, late_rows, seen_after, sent_after, AreCurrentDeeds}
 use Rattle.gz_world.specs.States.{RequestAt, State, numbered}
+use Rattle.gz_laws.specs.Begun.{IsBegunIn}
+use Rattle.gz_laws.specs.Each.{EachTale}
 use Rattle.gz_laws.specs.Heard.{unused, IsClean, SeenStands, SentStep, AskedHere, CleanOp}
 
 -- the row that a site keeps of the object, and its tag
@@ -87,4 +89,5 @@ pub record IsRun (key : List ℕ) (s : State) (ds : List Deed) : Type 0 where
   pub requests : (n : ℕ) (r : RequestAt) → numbered s.net n ≡ Some r → key_asked r.op ≡ key → RequestStands (after_deeds unused ds) r
   pub casts : (v : ℕ) (b : BallotAt) (x : Name) (i : ℕ) → has_cast s.casts key v b x i ≡ cast (seen_after unused ds) v b x i
   pub sent : (q : Write) → IsIn q (sent_after unused ds) → IsSentBy key q.call q.act (s.tales q.call.session)
+  pub begun : (session : ℕ) → EachTale (IsBegunIn key ds) (s.tales session)
   pub calls : (i : ℕ) (b : CallRec) → slice_get s.calls i ≡ Some b → key_of b.call ≡ key → IsSince s key ds b

@@ -43,7 +43,7 @@ built_down cfg l so (suc w) v b p le =
     same_suc : (u w : ℕ) → suc w ≡ suc u → u ≡ w
     same_suc u w e = omega arith
 
-value_built : (cfg : Config) (seen : List Seen) (sent : List Write) (u : ℕ) (slot : Slot) → SlotOk cfg seen sent u slot → HasValue slot → IsBuilt cfg seen u
+pub value_built : (cfg : Config) (seen : List Seen) (sent : List Write) (u : ℕ) (slot : Slot) → SlotOk cfg seen sent u slot → HasValue slot → IsBuilt cfg seen u
 value_built cfg seen sent u Gone ok h = absurd h
 value_built cfg seen sent u (DecidedAs x) ok h = ok.1
 value_built cfg seen sent u (OpenAt p None) ok h = absurd h

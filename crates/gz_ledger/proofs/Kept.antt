@@ -187,20 +187,21 @@ sound_send cfg l n so can =
       apart = λ (u v : ℕ) (x : Name) (p : IsProposed (n ∷ l.sent) u x) (q : IsProposed (n ∷ l.sent) v x). sent_apart cfg l n so can u v x p.write q.write p.found p.own p.votes q.found q.own q.votes;
     }
 
--- a row with one slot changed has what stands behind its slots
-ok_with : (cfg : Config) (seen : List Seen) (sent : List Write) (r : Acceptor) (u : ℕ) (slot : Slot) → ((v : ℕ) → SlotOk cfg seen sent v (r v)) → SlotOk cfg seen sent u slot → (v : ℕ) → SlotOk cfg seen sent v (with_slot r u slot v)
-ok_with cfg seen sent r u slot all new v =
+-- what holds of each slot of a row holds with one slot changed, where it holds of that one
+pub each_with : (P : ℕ → Slot → Type 0) (r : Acceptor) (u : ℕ) (slot : Slot) → ((v : ℕ) → P v (r v)) → P u slot → (v : ℕ) → P v (with_slot r u slot v)
+each_with P r u slot all new v =
     elim (cases_eq v u) [
-      | inl e ↦ subst (λ (s : Slot). SlotOk cfg seen sent v s) (sym (with_same r u v slot e)) (subst (λ (k : ℕ). SlotOk cfg seen sent k slot) (sym e) new)
-      | inr ne ↦ subst (λ (s : Slot). SlotOk cfg seen sent v s) (sym (with_other r u v slot ne)) (all v)
+      | inl e ↦ subst (λ (s : Slot). P v s) (sym (with_same r u v slot e)) (subst (λ (k : ℕ). P k slot) (sym e) new)
+      | inr ne ↦ subst (λ (s : Slot). P v s) (sym (with_other r u v slot ne)) (all v)
     ]
 
-ok_trimmed : (cfg : Config) (seen : List Seen) (sent : List Write) (r : Acceptor) (to : ℕ) (x : Name) → ((v : ℕ) → SlotOk cfg seen sent v (r v)) → SlotOk cfg seen sent (to + 1) (DecidedAs x) → (v : ℕ) → SlotOk cfg seen sent v (trimmed r to x v)
-ok_trimmed cfg seen sent r to x all new v =
+-- and where versions were collected
+pub each_trimmed : (P : ℕ → Slot → Type 0) (r : Acceptor) (to : ℕ) (x : Name) → ((v : ℕ) → P v (r v)) → ((v : ℕ) → P v Gone) → P (to + 1) (DecidedAs x) → (v : ℕ) → P v (trimmed r to x v)
+each_trimmed P r to x all gone new v =
     elim (trim_cases to v) [
-      | inl l ↦ subst (λ (s : Slot). SlotOk cfg seen sent v s) (sym (trimmed_gone r to v x l)) tt
-      | inr (inl e) ↦ subst (λ (s : Slot). SlotOk cfg seen sent v s) (sym (trimmed_decided r to v x e)) (subst (λ (k : ℕ). SlotOk cfg seen sent k (DecidedAs x)) (sym e) new)
-      | inr (inr l) ↦ subst (λ (s : Slot). SlotOk cfg seen sent v s) (sym (trimmed_other r to v x l)) (all v)
+      | inl l ↦ subst (λ (s : Slot). P v s) (sym (trimmed_gone r to v x l)) (gone v)
+      | inr (inl e) ↦ subst (λ (s : Slot). P v s) (sym (trimmed_decided r to v x e)) (subst (λ (k : ℕ). P k (DecidedAs x)) (sym e) new)
+      | inr (inr l) ↦ subst (λ (s : Slot). P v s) (sym (trimmed_other r to v x l)) (all v)
     ]
 
 promised_slot : (cfg : Config) (seen : List Seen) (sent : List Write) (v : ℕ) (p b : BallotAt) (vote : Option (BallotAt × Name)) → IsBuilt cfg seen v → SlotOk cfg seen sent v (OpenAt p vote) → SlotOk cfg seen sent v (OpenAt b vote)
@@ -211,7 +212,7 @@ promised_slot cfg seen sent v p b (Some u) built h = h
 made_ok : (cfg : Config) (l : Ledger) (w : Write) (act : Act) (r s : Acceptor) → IsIn w l.sent → w.act ≡ act → ActOk cfg l w.call act → ((v : ℕ) → SlotOk cfg l.seen l.sent v (r v)) → Makes act r s → (v : ℕ) → SlotOk cfg l.seen l.sent v (s v)
 made_ok cfg l w (VotesFast u x) r s i e ok all m v =
     subst (λ (t : Acceptor). SlotOk cfg l.seen l.sent v (t v)) (sym m.1)
-    (ok_with cfg l.seen l.sent r u (OpenAt fast (Some (fast, x))) all
+    (each_with (SlotOk cfg l.seen l.sent) r u (OpenAt fast (Some (fast, x))) all
     (let g : IsVoteOk cfg l.seen l.sent u (fast, x) = record {
       built = ok.1;
       proposed = record { write = w; found = i; own = sym ok.0; votes = subst (λ (a : Act). VotesFor a u x) (sym e) (refl, refl) };
@@ -222,11 +223,11 @@ made_ok cfg l w (VotesFast u x) r s i e ok all m v =
     v)
 made_ok cfg l w (Promises u b) r s i e ok all m v =
     subst (λ (t : Acceptor). SlotOk cfg l.seen l.sent v (t v)) (sym m.1.1.1.1)
-    (ok_with cfg l.seen l.sent r u (OpenAt b m.1.0) all
+    (each_with (SlotOk cfg l.seen l.sent) r u (OpenAt b m.1.0) all
     (promised_slot cfg l.seen l.sent u m.0 b m.1.0 ok.1 (subst (λ (t : Slot). SlotOk cfg l.seen l.sent u t) m.1.1.0 (all u))) v)
 made_ok cfg l w (VotesClassic u b x) r s i e ok all m v =
     subst (λ (t : Acceptor). SlotOk cfg l.seen l.sent v (t v)) (sym m.1.1.1.1.1)
-    (ok_with cfg l.seen l.sent r u (OpenAt b (Some (b, x))) all
+    (each_with (SlotOk cfg l.seen l.sent) r u (OpenAt b (Some (b, x))) all
     (let g : IsVoteOk cfg l.seen l.sent u (b, x) = record {
       built = ok.built;
       proposed = ok.proposed;
@@ -236,12 +237,12 @@ made_ok cfg l w (VotesClassic u b x) r s i e ok all m v =
     g)
     v)
 made_ok cfg l w (Decides u x) r s i e ok all m v =
-    subst (λ (t : Acceptor). SlotOk cfg l.seen l.sent v (t v)) (sym m.1.1.1) (ok_with cfg l.seen l.sent r u (DecidedAs x) all ok v)
+    subst (λ (t : Acceptor). SlotOk cfg l.seen l.sent v (t v)) (sym m.1.1.1) (each_with (SlotOk cfg l.seen l.sent) r u (DecidedAs x) all ok v)
 made_ok cfg l w (Trims to x) r s i e ok all m v =
-    subst (λ (t : Acceptor). SlotOk cfg l.seen l.sent v (t v)) (sym m.1.1) (ok_trimmed cfg l.seen l.sent r to x all ok v)
+    subst (λ (t : Acceptor). SlotOk cfg l.seen l.sent v (t v)) (sym m.1.1) (each_trimmed (SlotOk cfg l.seen l.sent) r to x all (λ (u : ℕ). tt) ok v)
 
 -- what holds of the new row and of the others holds of each
-each_told : (l : Ledger) (w : Write) (P : Acceptor → Type 0) → P w.after → ((s : ℕ) → P (l.told s)) → (s : ℕ) → P (with_acceptor l.told w.site w.after s)
+pub each_told : (l : Ledger) (w : Write) (P : Acceptor → Type 0) → P w.after → ((s : ℕ) → P (l.told s)) → (s : ℕ) → P (with_acceptor l.told w.site w.after s)
 each_told l w P new all s =
     elim (cases_eq s w.site) [
       | inl e ↦ subst P (sym (acceptor_same l.told w.site s w.after e)) new

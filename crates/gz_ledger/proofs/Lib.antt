@@ -1,4 +1,5 @@
 pub mod Follows
+pub mod Forced
 pub mod Grown
 pub mod Guarded
 pub mod Kept
@@ -6,6 +7,7 @@ pub mod More
 pub mod OnePut
 pub mod OneRecovery
 pub mod Orders
+pub mod Promised
 pub mod Rows
 pub mod Shown
 pub mod SlotTests

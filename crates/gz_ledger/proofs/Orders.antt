@@ -22,7 +22,8 @@ use Rattle.gz_ledger.proofs.SlotTests.{IsVote}
 use Rattle.gz_ledger.proofs.Follows.{Advances, SlotFollows, Follows, IsAcceptor}
 use Rattle.gz_ledger.proofs.Shown.{Includes, IsCast, cast_found, shown_more}
 use Rattle.gz_ledger.proofs.Rows.{row_votes}
-use Rattle.gz_ledger.proofs.Sound.{IsBuilt, SlotOk, IsSound, right_at, toward_at}
+use Rattle.gz_ledger.proofs.Guarded.{value_built, built_down}
+use Rattle.gz_ledger.proofs.Sound.{SlotOk, IsSound, right_at, toward_at}
 use Rattle.gz_ledger.proofs.SoundVotes.{are_safe, votes_ok, cast_votes, chosen_one, chosen_ok, shown_chosen, are_good}
 use Rattle.gz_ledger.proofs.Kept.{sound}
 
@@ -34,19 +35,21 @@ chained cfg l so v b x s p h =
       | inr w ↦ let same : w.0 ≡ v = omega (arith, w.1) in (w.2, subst (λ (k : ℕ). IsChosenAt cfg l.seen k w.2) same w.3)
     ]
 
--- what stands behind a slot with a value stands behind its version
-slot_built : (cfg : Config) (seen : List Seen) (sent : List Write) (v : ℕ) (slot : Slot) → SlotOk cfg seen sent v slot → HasValue slot → IsBuilt cfg seen v
-slot_built cfg seen sent v Gone ok h = absurd h
-slot_built cfg seen sent v (DecidedAs x) ok h = ok.1
-slot_built cfg seen sent v (OpenAt p None) ok h = absurd h
-slot_built cfg seen sent v (OpenAt p (Some u)) ok h = ok.built
-
 -- a value that a site has at a version tells that one is chosen at the version before
 founded : (cfg : Config) (l : Ledger) → IsSound cfg l → (v s : ℕ) → 1 ≤ v → HasValue (l.told s (suc v)) → (y : Name) × IsChosenAt cfg l.seen v y
 founded cfg l so v s p h =
-    elim (slot_built cfg l.seen l.sent (suc v) (l.told s (suc v)) (so.told_ok s (suc v)) h) [
+    elim (value_built cfg l.seen l.sent (suc v) (l.told s (suc v)) (so.told_ok s (suc v)) h) [
       | inl e ↦ absurd (omega arith)
       | inr w ↦ let same : w.0 ≡ v = omega (arith, w.1) in (w.2, subst (λ (k : ℕ). IsChosenAt cfg l.seen k w.2) same w.3)
+    ]
+
+-- a vote or a decision that was shown tells that a value is chosen at each version below
+settled : (cfg : Config) (l : Ledger) → IsSound cfg l → (e : Seen) (v w : ℕ) → IsIn e l.seen → 1 ≤ v → v < w → HasValue (e.row w) → (y : Name) × IsChosenAt cfg l.seen v y
+settled cfg l so e v w i p lt h =
+    let le : suc v ≤ w = omega arith in
+    elim (built_down cfg l so w (suc v) (value_built cfg l.seen l.sent w (e.row w) (so.seen_ok e w i) h) (omega arith) le) [
+      | inl z ↦ absurd (omega arith)
+      | inr k ↦ let same : k.0 ≡ v = omega (arith, k.1) in (k.2, subst (λ (u : ℕ). IsChosenAt cfg l.seen u k.2) same k.3)
     ]
 
 -- a value is shown at one version
@@ -107,6 +110,7 @@ agreed cfg l so = record {
       (c, (chosen_ok cfg l v x so c).proposed);
   one = λ (v : ℕ) (x y : Name) (h : IsShown cfg l.seen v x) (k : IsShown cfg l.seen v y). chosen_one cfg l v x y so (shown_chosen cfg l v x so h) (shown_chosen cfg l v y so k);
   once = λ (u v : ℕ) (x : Name) (h : IsShown cfg l.seen u x) (k : IsShown cfg l.seen v x). once cfg l so u v x (shown_chosen cfg l u x so h) (shown_chosen cfg l v x so k);
+  settled = settled cfg l so;
   founded = founded cfg l so;
   decided = λ (v s : ℕ) (x : Name) (e : l.told s v ≡ DecidedAs x). (subst (λ (slot : Slot). SlotOk cfg l.seen l.sent v slot) e (so.told_ok s v)).0;
   backed = λ (v : ℕ) (x : Name) (h : IsShown cfg l.seen v x). backed cfg l so v x (shown_chosen cfg l v x so h);

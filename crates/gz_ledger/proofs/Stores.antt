@@ -9,6 +9,8 @@ use Rattle.gz_ledger.specs.Histories.{IsIn, Seen, Write, IsShown, IsCurrent, Vot
 use Rattle.gz_ledger.specs.Ledgers.{Ledger, Move, Shows, Sends, Takes, moved, row_of, CanSend, Can, after_moves, AreMoves, late_seen}
 use Rattle.gz_ledger.specs.Agreements.{HasQuorums, IsAgreed, AreCurrentMoves}
 use Rattle.gz_ledger.specs.Deeds.{Answered, Asked, Store, Deed, Reads, Begins, Written, Failed, Elsewhere, acceptor_of, kept_after, done, rows_of, writes_of, CanBegin, CanWrite, after_deeds, AreDeeds, ledger_of, moves_onto, moves_of, late_rows, seen_after, sent_after, AreCurrentDeeds}
+use Rattle.gz_ledger.proofs.Kept.{sound}
+use Rattle.gz_ledger.proofs.Sound.{IsSound}
 use Rattle.gz_ledger.proofs.More.{may_more}
 use Rattle.gz_ledger.proofs.Orders as orders
 use Rattle.gz_ledger.proofs.Stances.{acceptor_same, acceptor_other}
@@ -112,6 +114,12 @@ store_agreed cfg used ds q all =
     let w : AreMoves cfg (moves_of ds) × (after_moves (moves_of ds) ≡ ledger_of (after_deeds used ds)) = deeds_are_moves cfg used ds all in
     subst (λ (l : Ledger). IsAgreed cfg l) w.1 (orders.agreement cfg (moves_of ds) q w.0)
 
+-- every run over tagged rows keeps what runs of the machine keep
+pub store_sound : (cfg : Config) (used : ℕ → ℕ) (ds : List Deed) → HasQuorums cfg → AreDeeds cfg used ds → IsSound cfg (ledger_of (after_deeds used ds))
+store_sound cfg used ds q all =
+    let w : AreMoves cfg (moves_of ds) × (after_moves (moves_of ds) ≡ ledger_of (after_deeds used ds)) = deeds_are_moves cfg used ds all in
+    subst (λ (l : Ledger). IsSound cfg l) w.1 (sound cfg (moves_of ds) q w.0)
+
 -- the moves of late and early deeds
 onto_split : (ds : List Deed) (ms : List Move) → moves_onto ds ms ≡ moves_of ds ++ ms
 onto_split [] ms = refl
@@ -137,7 +145,7 @@ early_deeds cfg used [] early all = all
 early_deeds cfg used (d ∷ late) early all = early_deeds cfg used late early all.0
 
 -- both lead to the same ledger
-both_moves : (cfg : Config) (used : ℕ → ℕ) (late early : List Deed) → AreDeeds cfg used (late ++ early) → AreMoves cfg (moves_of late ++ moves_of early) × (after_moves (moves_of late ++ moves_of early) ≡ ledger_of (after_deeds used (late ++ early)))
+pub both_moves : (cfg : Config) (used : ℕ → ℕ) (late early : List Deed) → AreDeeds cfg used (late ++ early) → AreMoves cfg (moves_of late ++ moves_of early) × (after_moves (moves_of late ++ moves_of early) ≡ ledger_of (after_deeds used (late ++ early)))
 both_moves cfg used late early all =
     let w = deeds_are_moves cfg used (late ++ early) all in
     (subst (λ (ms : List Move). AreMoves cfg ms) (moves_split late early) w.0, ap after_moves (sym (moves_split late early)) ∙ w.1)

@@ -7,7 +7,7 @@ use Rattle.gz_core.specs.Slots.{DecidedAs, VotesClassic}
 use Rattle.gz_config.specs.declared.Config.{Config}
 use Rattle.gz_model.specs.Choosing.{IsSafe}
 use Rattle.gz_ledger.specs.Acceptors.{HasValue}
-use Rattle.gz_ledger.specs.Histories.{IsIn, Write, cast, IsChosenAt, IsShown, IsCurrent, VotesFor, IsProposed}
+use Rattle.gz_ledger.specs.Histories.{IsIn, Seen, Write, cast, IsChosenAt, IsShown, IsCurrent, VotesFor, IsProposed}
 use Rattle.gz_ledger.specs.Ledgers.{Ledger, Move, Shows, Sends, Takes, after_moves, AreMoves, votes, stands, backs, late_seen}
 
 -- the sizes of the quorums are right
@@ -30,6 +30,8 @@ pub record IsAgreed (cfg : Config) (l : Ledger) : Type 0 where
   pub one : (v : ℕ) (x y : Name) → IsShown cfg l.seen v x → IsShown cfg l.seen v y → x ≡ y
   -- a value is shown at one version
   pub once : (u v : ℕ) (x : Name) → IsShown cfg l.seen u x → IsShown cfg l.seen v x → u ≡ v
+  -- a vote or a decision that was shown tells that a value is chosen at each version below
+  pub settled : (e : Seen) (v w : ℕ) → IsIn e l.seen → 1 ≤ v → v < w → HasValue (e.row w) → (y : Name) × IsChosenAt cfg l.seen v y
   -- a value that a site has at a version tells that a value is chosen at the one before
   pub founded : (v s : ℕ) → 1 ≤ v → HasValue (l.told s (suc v)) → (y : Name) × IsChosenAt cfg l.seen v y
   -- what a site has decided is chosen

@@ -1,12 +1,15 @@
 -- Sites that keep an object's row under an entity tag, and what may happen to them: the network loses, repeats and
 -- delays requests, and a request that failed may have taken effect.
-use Rattle.std.specs.Prelude.{ℕ, ◌≡◌, ◌≤◌, ◌<◌, ◌==◌, ◌⊎◌, if◌then◌else◌, List, [], ◌∷◌, ◌++◌, Option, Some, None}
-use Rattle.gz_core.specs.Names.{Name}
-use Rattle.gz_core.specs.Slots.{Makes}
+use Rattle.std.specs.Prelude.{ℕ, ◌≡◌, ◌≤◌, ◌<◌, ◌==◌, ◌⊎◌, false, if◌then◌else◌, List, [], ◌∷◌, ◌++◌, Option, Some, None}
+use Rattle.gz_core.specs.Names.{Name, BallotAt, fast, same_ballot}
+use Rattle.gz_core.specs.Slots.{Promises, VotesClassic, Makes}
 use Rattle.gz_config.specs.declared.Config.{Config}
 use Rattle.gz_ledger.specs.Acceptors.{Acceptor, new_acceptor}
 use Rattle.gz_ledger.specs.Histories.{IsIn, Seen, Write, IsShown, IsCurrent, VotesFor, IsProposed}
-use Rattle.gz_ledger.specs.Guards.{May}
+use Rattle.gz_pick.specs.Choices.{pick_of}
+use Rattle.gz_pick.specs.declared.heard.Heard.{Heard}
+use Rattle.gz_pick.specs.declared.heard.Pick.TheVariants.{Free}
+use Rattle.gz_ledger.specs.Guards.{May, IsQuorumHeard}
 use Rattle.gz_ledger.specs.Ledgers.{Ledger, Move, Shows, Sends, Takes, after_moves, AreMoves}
 use Rattle.gz_ledger.specs.Agreements.{HasQuorums, IsAgreed}
 
@@ -190,3 +193,18 @@ OwnRowsAreAbove =
     (cfg : Config) (used : ℕ → ℕ) (call : Name) (late early : List Deed) (u v : ℕ) (x : Name) → HasQuorums cfg → AreDeeds cfg used (late ++ early)
     → ((w : Write) → IsIn w (sent_after used early) → w.call ≡ call → ⊥) → AreCurrentDeeds cfg used call late early
     → IsShown cfg (seen_after used early) u x → IsShown cfg (seen_after used (late ++ early)) v call → u < v
+
+-- no write that was sent promised the ballot
+abbrev pub IsUnpromised : List Write → BallotAt → Type 0
+IsUnpromised sent b = (w : Write) (u : ℕ) → IsIn w sent → w.act ≡ Promises u b → ⊥
+
+-- no write that was sent voted in the ballot at the version
+abbrev pub IsUncast : List Write → ℕ → BallotAt → Type 0
+IsUncast sent v b = (w : Write) (y : Name) → IsIn w sent → w.act ≡ VotesClassic v b y → ⊥
+
+-- where a value was shown at a version before a ballot was promised, and nothing was cast in the ballot, the promises of a
+-- classic quorum don't leave the choice free
+abbrev pub ShownIsForced : Type 0
+ShownIsForced =
+    (cfg : Config) (used : ℕ → ℕ) (late early : List Deed) (v : ℕ) (b : BallotAt) (x : Name) (heard : List Heard) → HasQuorums cfg → AreDeeds cfg used (late ++ early) → IsUnpromised (sent_after used early) b
+    → IsUncast (sent_after used (late ++ early)) v b → same_ballot b fast ≡ false → IsShown cfg (seen_after used early) v x → IsQuorumHeard cfg (seen_after used (late ++ early)) v b heard → pick_of cfg.n cfg.qf heard ≡ Free → ⊥

@@ -6,7 +6,7 @@
 ghost use Rattle.gz_ledger.specs.Agreements.{Agreement, LatestIsCurrent, OwnIsAbove};
 ghost use Rattle.gz_ledger.specs.Guards.{MayMore};
 ghost use Rattle.gz_ledger.specs.Runs.{OnePutRuns, OneRecoveryRuns};
-ghost use Rattle.gz_ledger.specs.Deeds.{DeedsAreMoves, TagsNameRows, StoreAgreement, LatestRowsAreCurrent, OwnRowsAreAbove};
+ghost use Rattle.gz_ledger.specs.Deeds.{DeedsAreMoves, TagsNameRows, StoreAgreement, LatestRowsAreCurrent, OwnRowsAreAbove, ShownIsForced};
 
 /// In every run of the machine: each vote of a classic ballot is safe, one value is shown at a version and at one
 /// version only, what is shown is chosen and backed by a classic quorum's rows, and versions are chosen in their
@@ -29,11 +29,13 @@ pub fn store_is_ledger()
     ensures tags { TagsNameRows }
 {}
 
-/// Agreement, said of every run of tagged rows at sites.
+/// Agreement, said of every run of tagged rows at sites. The promises of a ballot don't leave the choice free where a value
+/// was shown before the ballot was promised, and nothing was cast in it.
 pub fn store_agreement()
     ensures agreed { StoreAgreement }
     ensures latest { LatestRowsAreCurrent }
     ensures above { OwnRowsAreAbove }
+    ensures forced { ShownIsForced }
 {}
 
 /// The guards can be met: a put reads three sites and writes its fast vote at each, and its value is shown.

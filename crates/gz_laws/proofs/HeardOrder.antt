@@ -1,0 +1,370 @@
+-- The rows that a call heard from a site go forward in the order in which it heard them.
+use Rattle.std.proofs.Common.{◌≡◌, ◌≢◌, ℕ, zero, suc, ◌+◌, ◌-◌, ◌≤◌, ◌⊎◌, inl, inr, List, [], ◌∷◌, ◌++◌, Some, None, Bool, true, false, length, refl, ap, sym, ◌∙◌, subst, arith, length-set}
+use Rattle.std.proofs.lemmas.Bool.{cases_eq, cases_Bool, and_parts, eqb-true}
+use Rattle.std.proofs.lemmas.Bool.Decides.{nat_tests}
+use Rattle.std.specs.Prelude.{Option, MatchOption, IsSome, cond, if◌then◌else◌, ◌==◌, ◌&&◌, slice_get, slice_set}
+use Rattle.gz_config.specs.declared.Config.{Config}
+use Rattle.gz_core.specs.Names.{Name}
+use Rattle.gz_core.specs.Calls.{key_of}
+use Rattle.gz_core.specs.Rows.{RowAt, empty_row}
+use Rattle.gz_core.specs.Slots.{slots}
+use Rattle.gz_core.specs.declared.calls.Call.{Call}
+use Rattle.gz_core.specs.declared.requests.Op.{Op}
+use Rattle.gz_core.specs.declared.requests.Op.TheVariants.{ReadRow, WriteRow}
+use Rattle.gz_core.specs.declared.requests.Out.{Out}
+use Rattle.gz_core.specs.declared.requests.Reply.{Reply}
+use Rattle.gz_core.specs.declared.requests.Reply.TheVariants.{Row, NoRow, Written, Changed, Failed}
+use Rattle.gz_core.specs.declared.requests.Turn.{Turn}
+use Rattle.gz_round.specs.declared.hearing.Seen.{Seen as SeenRow}
+use Rattle.gz_round.specs.History.{Asked, Moment, Sent, Handed, GaveUp, Rested, GaveIn, Tale, IsClosing, is_row_request, asked_of, sent_from, begun, turned}
+use Rattle.gz_round.specs.Sending.{AreAllowed}
+use Rattle.gz_round.specs.Sites.{SiteNow, site_now, after_reply, after_sent, is_to, can_stand, seen_under, seen_in, written_by, is_changed}
+use Rattle.gz_client.specs.Tales.{AreTold}
+use Rattle.gz_site.specs.Told.{Told, same_key}
+use Rattle.gz_ledger.specs.Agreements.{HasQuorums}
+use Rattle.gz_ledger.specs.Histories.{Seen, IsIn}
+use Rattle.gz_ledger.specs.Deeds.{Deed, after_deeds, acceptor_of, ledger_of, rows_of}
+use Rattle.gz_ledger.proofs.Follows.{Follows}
+use Rattle.gz_ledger.proofs.Stores.{store_sound}
+use Rattle.gz_world.specs.declared.events.Effect.{Effect}
+use Rattle.gz_world.specs.declared.events.Event.{Event}
+use Rattle.gz_world.specs.declared.events.Event.TheVariants as events
+use Rattle.gz_world.specs.Reached.{IsOpening, IsReached, opened, stepped, AllTell}
+use Rattle.gz_world.specs.Refusals.{refusal_of}
+use Rattle.gz_world.specs.States.{RequestAt, State, tick_of, next_of, numbered, with_reply, with_handed, with_given_up, sent_request, sent_requests}
+use Rattle.gz_world.specs.Steps.{Answers, BeginsBy, DeliversBy, TurnBy, TakesTurn, Acts, Does, Skips, Step}
+use Rattle.gz_world.proofs.Members.{numbered_place, place_numbered}
+use Rattle.gz_world.proofs.Places.{get_set_same, get_set_other, get_append}
+use Rattle.gz_laws.specs.Agreed.{acceptor_kept}
+use Rattle.gz_laws.specs.Carried.{IsRequestOf, HasReply, MomentCarried, MomentsCarried, TalesCarried, AreCarried}
+use Rattle.gz_laws.specs.Each.{EachTale}
+use Rattle.gz_laws.specs.Heard.{unused, entry_of, heard_of, MomentsStand}
+use Rattle.gz_laws.specs.Listed.{AreListed}
+use Rattle.gz_laws.specs.Placed.{ArePlaced}
+use Rattle.gz_laws.specs.Runs.{stored_of, key_asked, IsRun}
+use Rattle.gz_laws.proofs.Agreement.{kept_same}
+use Rattle.gz_laws.proofs.Carrying.{none_after, still_awaits, sent_or_before, awaits_sent, awaited_carried, sent_there, acts_carried, carried}
+use Rattle.gz_laws.proofs.Hearing.{heard_known}
+use Rattle.gz_laws.proofs.Keeping.{awaited_key, moments_stand}
+use Rattle.gz_laws.proofs.Keys.{same_key-refl}
+use Rattle.gz_laws.proofs.Listing.{listed}
+use Rattle.gz_laws.proofs.Nets.{IsKeptAs, kept_handed, kept_given_up, kept_itself}
+use Rattle.gz_laws.proofs.Placing.{placed}
+use Rattle.gz_laws.proofs.RunDelivers.{both_tell, more_replies}
+use Rattle.gz_laws.proofs.Running.{runs, step_tell, acts_run, told_request, handed_moment}
+use Rattle.gz_laws.proofs.Tales.{each_on, each_moved}
+
+-- a row goes forward from each that was heard from the site before
+abbrev pub EntryFollows : List Seen → ℕ → Option SeenRow → Type 0
+EntryFollows es s None = Unit {0}
+EntryFollows es s (Some seen) = (e : Seen) → IsIn e es → e.site ≡ s → Follows e.row (slots seen.row)
+
+abbrev pub HeardInOrder : List Moment → Type 0
+HeardInOrder [] = Unit {0}
+HeardInOrder (Sent a ∷ ms) = HeardInOrder ms
+HeardInOrder (Handed a reply ∷ ms) = EntryFollows (heard_of ms) a.site (seen_in (written_by a.op) reply) × HeardInOrder ms
+HeardInOrder (GaveUp a ∷ ms) = HeardInOrder ms
+HeardInOrder (Rested ∷ ms) = HeardInOrder ms
+HeardInOrder (GaveIn ∷ ms) = HeardInOrder ms
+
+-- so does each row that a reply of an awaited request shows
+abbrev pub AwaitedFollow : List RequestAt → List Moment → Type 0
+AwaitedFollow net ms =
+    (s : ℕ) (a : Asked) → (site_now ms s).awaits ≡ Some a → (r : RequestAt) → numbered net a.number ≡ Some r → (i tick : ℕ) (reply : Reply) → slice_get r.replies i ≡ Some (tick, reply) → EntryFollows (heard_of ms) s (seen_in (written_by r.op) reply)
+
+pub record IsInOrder (net : List RequestAt) (t : Tale) : Type 0 where
+  pub heard : HeardInOrder t.moments
+  pub awaited : AwaitedFollow net t.moments
+
+-- the site of an awaited request
+if_awaits : {R : Type 0} (b : Bool) (x y : SiteNow) (o : Option Asked) → (if b then x else y).awaits ≡ o → (b ≡ true → x.awaits ≡ o → R) → (y.awaits ≡ o → R) → R
+if_awaits true x y o e f g = f refl e
+if_awaits false x y o e f g = g e
+
+pub awaits_site : (ms : List Moment) (s : ℕ) (a : Asked) → (site_now ms s).awaits ≡ Some a → a.site ≡ s
+awaits_site [] s a e = cc
+awaits_site (Sent b ∷ ms) s a e =
+    if_awaits (is_to b s) (after_sent b (site_now ms s)) (site_now ms s) (Some a) e
+    (λ to now. elim (sent_or_before b (site_now ms s) a now) [ inl same ↦ ap (λ (k : Asked). k.site) (sym same) ∙ eqb-true b.site s (and_parts (is_row_request b.op) (b.site == s) to).1 | inr k ↦ awaits_site ms s a k ])
+    (awaits_site ms s a)
+awaits_site (Handed b reply ∷ ms) s a e = awaits_site ms s a (still_awaits (Handed b reply) ms s a (λ now. none_after (seen_in (written_by b.op) reply) (is_changed reply) now) e)
+awaits_site (GaveUp b ∷ ms) s a e = awaits_site ms s a (still_awaits (GaveUp b) ms s a (λ now. refl) e)
+awaits_site (Rested ∷ ms) s a e = awaits_site ms s a (still_awaits Rested ms s a (λ now. refl) e)
+awaits_site (GaveIn ∷ ms) s a e = awaits_site ms s a (still_awaits GaveIn ms s a (λ now. refl) e)
+
+row_asked : (op : Op) → is_row_request op ≡ true
+row_asked (ReadRow key) = refl
+row_asked (WriteRow key expect step row) = refl
+
+-- a site that answers awaits nothing, so a site that still awaits is another one
+other_site : (b : Asked) (reply : Reply) (ms : List Moment) (s : ℕ) (a : Asked) → (site_now (Handed b reply ∷ ms) s).awaits ≡ Some a → b.site ≢ s
+other_site b reply ms s a e same =
+    let to : is_to b s ≡ true = ap (λ t. t && (b.site == s)) (row_asked b.op) ∙ (let t : (b.site == s) ≡ true = grind (arith, nat_tests) in t) in
+    let now = site_now ms s in
+    let next = after_reply (seen_in (written_by b.op) reply) (is_changed reply) now in
+    let here : next.awaits ≡ Some a = sym (ap (λ t. (if t then next else now).awaits) to) ∙ e in
+    let none : next.awaits ≡ None = none_after (seen_in (written_by b.op) reply) (is_changed reply) now in
+    let bad : None ≡ Some a = sym none ∙ here in
+    cc
+
+-- one more row of another site
+entry_other : (es : List Seen) (at s : ℕ) (row o : Option SeenRow) → at ≢ s → EntryFollows es s o → EntryFollows (entry_of at row es) s o
+entry_other es at s row None apart h = tt
+entry_other es at s None (Some seen) apart h = h
+entry_other es at s (Some x) (Some seen) apart h = λ e i same. elim i [ inl is ↦ absurd (apart (ap (λ (k : Seen). k.site) (sym is) ∙ same)) | inr k ↦ h e k same ]
+
+-- requests of which the awaited ones have gained no reply
+abbrev AreTheirs : List RequestAt → List RequestAt → Type 0
+AreTheirs old new = (m : ℕ) (r q : RequestAt) → numbered old m ≡ Some r → numbered new m ≡ Some q → IsKeptAs r q
+
+theirs_follow : (old new : List RequestAt) (name : Name) (ms : List Moment) → AreTheirs old new → MomentsCarried old name ms → AwaitedFollow old ms → AwaitedFollow new ms
+theirs_follow old new name ms same carried h = λ s a e q at i tick reply there.
+    let k = awaited_carried old name ms s a carried e in
+    let r = k.0 in
+    let alike = (same a.number r q k.1.there at).alike in
+    subst (λ (op : Op). EntryFollows (heard_of ms) s (seen_in (written_by op) reply)) (sym alike.op) (h s a e r k.1.there i tick reply (subst (λ xs. slice_get xs i ≡ Some (tick, reply)) alike.replies there))
+
+-- what is sent has no reply yet
+sent_follow : (net : List RequestAt) (name : Name) (tick first : ℕ) (outs : List Out) (ms : List Moment) → ((j : ℕ) (o : Out) → slice_get outs j ≡ Some o → numbered net (first + j) ≡ Some (sent_request name tick o)) → AwaitedFollow net ms → AwaitedFollow net (sent_from first outs ms)
+sent_follow net name tick first [] ms there h = h
+sent_follow net name tick first (o ∷ os) ms there h =
+    let z : first + 0 ≡ first = omega arith in
+    sent_follow net name tick (first + 1) os (Sent (asked_of first o) ∷ ms)
+    (λ j p e. let n : first + 1 + j ≡ first + suc j = omega arith in ap (numbered net) n ∙ there (suc j) p e)
+    (λ s a e r at i t reply has. elim (awaits_sent (asked_of first o) ms s a e) [
+      | inl same ↦ (let is : numbered net a.number ≡ Some (sent_request name tick o) = ap (λ (k : Asked). numbered net k.number) (sym same) ∙ sym (ap (numbered net) z) ∙ there 0 o refl in
+          let both : Some (sent_request name tick o) ≡ Some r = sym is ∙ at in
+          let one : sent_request name tick o ≡ r = cc in
+          let bad : slice_get [] i ≡ Some (t, reply) = subst (λ (k : RequestAt). slice_get k.replies i ≡ Some (t, reply)) (sym one) has in
+          cc)
+      | inr k ↦ h s a k r at i t reply has
+    ])
+
+sent_heard : (first : ℕ) (outs : List Out) (ms : List Moment) → HeardInOrder ms → HeardInOrder (sent_from first outs ms)
+sent_heard first [] ms h = h
+sent_heard first (o ∷ os) ms h = sent_heard (first + 1) os (Sent (asked_of first o) ∷ ms) h
+
+closes_heard : (closing ms : List Moment) → IsClosing closing → HeardInOrder ms → HeardInOrder (closing ++ ms)
+closes_heard closing ms (inl e) h = subst (λ ks. HeardInOrder (ks ++ ms)) (sym e) h
+closes_heard closing ms (inr e) h = subst (λ ks. HeardInOrder (ks ++ ms)) (sym e) h
+
+closes_follow : (net : List RequestAt) (closing ms : List Moment) → IsClosing closing → AwaitedFollow net ms → AwaitedFollow net (closing ++ ms)
+closes_follow net closing ms (inl e) h = subst (λ ks. AwaitedFollow net (ks ++ ms)) (sym e) h
+closes_follow net closing ms (inr e) h = subst (λ ks. AwaitedFollow net (ks ++ ms)) (sym e) (λ s a k. h s a (still_awaits GaveIn ms s a (λ now. refl) k))
+
+-- the requests of a world after a begin, and after a turn
+begin_theirs : (old new : List RequestAt) (name : Name) (tick : ℕ) (outs : List Out) → new ≡ old ++ sent_requests name tick outs → AreTheirs old new
+begin_theirs old new name tick outs net = λ m r q at now.
+    let p = numbered_place old m r at in
+    let there : numbered (old ++ sent_requests name tick outs) m ≡ Some r = place_numbered (old ++ sent_requests name tick outs) m r p.0 (get_append old (sent_requests name tick outs) (m - 1) r p.1) in
+    let both : Some r ≡ Some q = sym there ∙ ap (λ xs. numbered xs m) (sym net) ∙ now in
+    let same : r ≡ q = cc in
+    subst (IsKeptAs r) same (kept_itself r)
+
+turn_theirs : (old new : List RequestAt) (n : ℕ) (r marked : RequestAt) (name : Name) (tick : ℕ) (outs : List Out) → numbered old n ≡ Some r → IsKeptAs r marked → new ≡ slice_set old (n - 1) marked ++ sent_requests name tick outs → AreTheirs old new
+turn_theirs old new n r marked name tick outs there kept net = λ m x q at now.
+    let p = numbered_place old m x at in
+    let k = numbered_place old n r there in
+    let mid = slice_set old (n - 1) marked in
+    let sent = sent_requests name tick outs in
+    let later : (y : RequestAt) → slice_get mid (m - 1) ≡ Some y → y ≡ q = λ y e.
+        (let both : Some y ≡ Some q = sym (place_numbered (mid ++ sent) m y p.0 (get_append mid sent (m - 1) y e)) ∙ ap (λ xs. numbered xs m) (sym net) ∙ now in cc) in
+    elim (cases_eq (m - 1) (n - 1)) [
+      | inl e ↦ (let both : Some r ≡ Some x = sym k.1 ∙ sym (ap (slice_get old) e) ∙ p.1 in
+          let same : r ≡ x = cc in
+          subst (λ (z : RequestAt). IsKeptAs z q) same (subst (IsKeptAs r) (later marked (ap (slice_get mid) e ∙ get_set_same old (n - 1) r marked k.1)) kept))
+      | inr ne ↦ subst (IsKeptAs x) (later x (get_set_other old (n - 1) (m - 1) marked ne ∙ p.1)) (kept_itself x)
+    ]
+
+-- tales whose requests are the world's, again
+zip_carried : (net : List RequestAt) (P : Tale → Type 0) (ts : List Tale) → TalesCarried net ts → EachTale P ts → EachTale (λ t. P t × MomentsCarried net t.caller.name t.moments) ts
+zip_carried net P [] c h = tt
+zip_carried net P (t ∷ ts) c h = ((h.0, c.0), zip_carried net P ts c.1 h.1)
+
+abbrev AreInOrder : State → Type 0
+AreInOrder s = (session : ℕ) → EachTale (IsInOrder s.net) (s.tales session)
+
+abbrev IsCarriedInOrder : List RequestAt → Tale → Type 0
+IsCarriedInOrder net t = IsInOrder net t × MomentsCarried net t.caller.name t.moments
+
+order_same : (old new : State) → ((n : ℕ) → new.tales n ≡ old.tales n) → new.net ≡ old.net → AreInOrder old → AreInOrder new
+order_same old new tales net h = λ n. subst (EachTale (IsInOrder new.net)) (sym (tales n)) (subst (λ ks. EachTale (IsInOrder ks) (old.tales n)) (sym net) (h n))
+
+-- another call's tale, among requests of which its own have gained no reply
+theirs_order : (old new : List RequestAt) (t : Tale) → AreTheirs old new → IsCarriedInOrder old t → IsInOrder new t
+theirs_order old new t same h = record { heard = h.0.heard; awaited = theirs_follow old new t.caller.name t.moments same h.1 h.0.awaited }
+
+begin_order : (old new : State) (session : ℕ) (call : Call) (turn : Turn) (effect : Effect) → BeginsBy old session call turn effect new → AreListed old → AreCarried old → AreInOrder old → AreInOrder new
+begin_order old new session call turn effect b l c h =
+    let past = old.tales session in
+    let name : Name = record { session = session; seq = length past + 1 } in
+    let tick = tick_of old in
+    let first = next_of old in
+    let t = begun session call first turn past in
+    let same = begin_theirs old.net new.net name tick turn.send b.net in
+    let here : IsInOrder new.net t = record {
+      heard = sent_heard first turn.send [] tt;
+      awaited = sent_follow new.net name tick first turn.send [] (λ j o e. ap (λ xs. numbered xs (first + j)) b.net ∙ sent_there old.net name tick turn.send j o e) (λ s a e. cc);
+    } in
+    each_moved (IsCarriedInOrder old.net) (IsInOrder new.net) old new session t past b.moves l.told (λ u apart k. theirs_order old.net new.net u same k) here
+    (zip_carried old.net (IsInOrder old.net) past (c session) (h session)) (λ n. zip_carried old.net (IsInOrder old.net) (old.tales n) (c n) (h n))
+
+turn_order : (old new : State) (n : ℕ) (r marked : RequestAt) (moment : Asked → Moment) (by : TurnBy) (effect : Effect) → TakesTurn old n r moment by marked effect new → IsKeptAs r marked → (IsInOrder old.net by.tale → HeardInOrder (moment by.asked ∷ by.tale.moments))
+    → (IsInOrder old.net by.tale → AwaitedFollow old.net (moment by.asked ∷ by.tale.moments)) → MomentCarried old.net by.tale.caller.name (moment by.asked) → AreListed old → AreCarried old → AreInOrder old → AreInOrder new
+turn_order old new n r marked moment by effect t kept heard awaited carry l c h =
+    let name = by.tale.caller.name in
+    let session = r.name.session in
+    let tick = tick_of old in
+    let first = next_of old in
+    let outs = by.turn.send in
+    let ms = moment by.asked ∷ by.tale.moments in
+    let mid = slice_set old.net (n - 1) marked in
+    let after = turned first by.turn (moment by.asked) by.closing by.tale in
+    let same = turn_theirs old.net new.net n r marked name tick outs t.request kept t.net in
+    let before : EachTale (IsCarriedInOrder old.net) (by.tale ∷ by.earlier) = zip_carried old.net (IsInOrder old.net) (by.tale ∷ by.earlier) (subst (TalesCarried old.net) t.tales (c session)) (subst (EachTale (IsInOrder old.net)) t.tales (h session)) in
+    let number : first ≡ length mid + 1 = sym (ap (λ x. x + 1) (length-set old.net (n - 1) marked)) in
+    let here : IsInOrder new.net after = record {
+      heard = closes_heard by.closing (sent_from first outs ms) t.closing (sent_heard first outs ms (heard before.0.0));
+      awaited = closes_follow new.net by.closing (sent_from first outs ms) t.closing
+          (sent_follow new.net name tick first outs ms
+          (λ j o e. ap (λ i. numbered new.net (i + j)) number ∙ ap (λ xs. numbered xs (length mid + 1 + j)) t.net ∙ sent_there mid name tick outs j o e)
+          (theirs_follow old.net new.net name ms same (carry, before.0.1) (awaited before.0.0)));
+    } in
+    each_moved (IsCarriedInOrder old.net) (IsInOrder new.net) old new session after by.earlier t.moves l.told (λ u apart k. theirs_order old.net new.net u same k) here before.1
+    (λ m. zip_carried old.net (IsInOrder old.net) (old.tales m) (c m) (h m))
+
+hand_order : (old new : State) (n which : ℕ) (r : RequestAt) (reply : ℕ × Reply) (by : TurnBy) (effect : Effect) → numbered r.replies which ≡ Some reply → TakesTurn old n r (λ a. Handed a reply.1) by (with_handed (tick_of old) which r) effect new → AreListed old → AreCarried old → AreInOrder old → AreInOrder new
+hand_order old new n which r reply by effect there t l c h =
+    let a = by.asked in
+    let ms = by.tale.moments in
+    let request = told_request old new n r (with_handed (tick_of old) which r) (λ a. Handed a reply.1) by effect t c in
+    let place = numbered_place r.replies which reply there in
+    turn_order old new n r (with_handed (tick_of old) which r) (λ a. Handed a reply.1) by effect t (kept_handed (tick_of old) which r)
+    (λ k. (subst (λ (op : Op). EntryFollows (heard_of ms) a.site (seen_in (written_by op) reply.1)) request.op_is (k.awaited a.site a t.awaited.awaits r request.there (which - 1) reply.0 reply.1 place.1), k.heard))
+    (λ k s b e q at i tick one has.
+    let before = still_awaits (Handed a reply.1) ms s b (λ now. none_after (seen_in (written_by a.op) reply.1) (is_changed reply.1) now) e in
+    entry_other (heard_of ms) a.site s (seen_in (written_by a.op) reply.1) (seen_in (written_by q.op) one) (other_site a reply.1 ms s b e) (k.awaited s b before q at i tick one has))
+    (handed_moment old new n which r reply by effect there t c) l c h
+
+give_up_order : (old new : State) (n : ℕ) (r : RequestAt) (by : TurnBy) (effect : Effect) → TakesTurn old n r (λ a. GaveUp a) by (with_given_up (tick_of old) r) effect new → AreListed old → AreCarried old → AreInOrder old → AreInOrder new
+give_up_order old new n r by effect t l c h =
+    let ms = by.tale.moments in
+    turn_order old new n r (with_given_up (tick_of old) r) (λ a. GaveUp a) by effect t (kept_given_up (tick_of old) r) (λ k. k.heard)
+    (λ k s b e. k.awaited s b (still_awaits (GaveUp by.asked) ms s b (λ now. refl) e)) (r, told_request old new n r (with_given_up (tick_of old) r) (λ a. GaveUp a) by effect t c) l c h
+
+-- the row that a reply shows is the one that the site keeps
+under_row : (etag : Option ℕ) (row : RowAt) (seen : SeenRow) → seen_under etag row ≡ Some seen → row ≡ seen.row
+under_row etag row seen e =
+    elim (can_stand row) as (λ b. (if b then Some (let k : SeenRow = record { etag = etag; row = row } in k) else None) ≡ Some seen → row ≡ seen.row) [
+      | true ↦ λ k. (let same : (let x : SeenRow = record { etag = etag; row = row } in x) ≡ seen = cc in ap (λ (x : SeenRow). x.row) same)
+      | false ↦ λ k. cc
+    ] e
+
+row_told : (before after : Told) (op : Op) (reply : Reply) (seen : SeenRow) → Answers before op reply after → seen_in (written_by op) reply ≡ Some seen → acceptor_kept (after.rows (key_asked op)) ≡ slots seen.row
+row_told before after (ReadRow k) (Row etag row) seen h e = ap acceptor_kept (ap (λ (t : Told). t.rows k) h.1 ∙ h.0) ∙ ap slots (under_row (Some etag) row seen e)
+row_told before after (ReadRow k) NoRow seen h e =
+    let same : (let x : SeenRow = record { etag = None; row = empty_row } in x) ≡ seen = cc in
+    ap acceptor_kept (ap (λ (t : Told). t.rows k) h.1 ∙ h.0) ∙ ap (λ (x : SeenRow). slots x.row) same
+row_told before after (ReadRow k) (Written etag) seen h e = absurd h
+row_told before after (ReadRow k) Changed seen h e = absurd h
+row_told before after (ReadRow k) Failed seen h e = cc
+row_told before after (WriteRow k expect step row) (Row etag shown) seen h e = absurd h
+row_told before after (WriteRow k expect step row) NoRow seen h e = absurd h
+row_told before after (WriteRow k expect step row) (Written etag) seen h e =
+    ap acceptor_kept (h.1.rows k ∙ ap (λ b. cond b (Some (etag, row)) (before.rows k)) (same_key-refl k)) ∙ ap slots (under_row (Some etag) row seen e)
+row_told before after (WriteRow k expect step row) Changed seen h e = cc
+row_told before after (WriteRow k expect step row) Failed seen h e = cc
+
+-- it goes forward from each row that the call heard
+new_reply : (key : List ℕ) (s : State) (ds : List Deed) (t : Tale) (past : List Tale) (site : ℕ) (op : Op) (reply : Reply) (before after : Told) → IsRun key s ds → HasQuorums s.cfg → AreAllowed s.cfg t.caller past t.moments → MomentsCarried s.net t.caller.name t.moments → key_of t.caller.call ≡ key → key_asked op ≡ key
+    → s.sites site ≡ Some after → Answers before op reply after → (o : Option SeenRow) → seen_in (written_by op) reply ≡ o → EntryFollows (heard_of t.moments) site o
+new_reply key s ds t past site op reply before after run quorums allowed carried own about is ans None e = tt
+new_reply key s ds t past site op reply before after run quorums allowed carried own about is ans (Some seen) e = λ x i at.
+    let st = after_deeds unused ds in
+    let stands : MomentsStand st t.moments = moments_stand key s.net st s.cfg t.caller past t.moments run.requests own allowed carried in
+    let sound = store_sound s.cfg unused ds quorums run.deeds in
+    let told : acceptor_of (st.stored site) ≡ slots seen.row
+    = ap acceptor_of (run.sites site after is).stored ∙ kept_same (after.rows key) ∙ ap (λ k. acceptor_kept (after.rows k)) (sym about) ∙ row_told before after op reply seen ans e in
+    subst (Follows x.row) (ap (λ k. acceptor_of (st.stored k)) at ∙ told) (sound.toward x (heard_known st t.moments x stands i))
+
+-- a request after a delivery, at the same number
+deliver_at : (old : List RequestAt) (n m : ℕ) (r marked x q : RequestAt) → numbered old n ≡ Some r → numbered old m ≡ Some x → numbered (slice_set old (n - 1) marked) m ≡ Some q → ((x ≡ r) × (q ≡ marked)) ⊎ (q ≡ x)
+deliver_at old n m r marked x q there at now =
+    let p = numbered_place old m x at in
+    let k = numbered_place old n r there in
+    let g = numbered_place (slice_set old (n - 1) marked) m q now in
+    elim (cases_eq (m - 1) (n - 1)) [
+      | inl e ↦ (let both : Some x ≡ Some r = sym p.1 ∙ ap (slice_get old) e ∙ k.1 in
+          let too : Some q ≡ Some marked = sym g.1 ∙ ap (slice_get (slice_set old (n - 1) marked)) e ∙ get_set_same old (n - 1) r marked k.1 in
+          inl (let a : x ≡ r = cc in a, let b : q ≡ marked = cc in b))
+      | inr ne ↦ (let both : Some q ≡ Some x = sym g.1 ∙ get_set_other old (n - 1) (m - 1) marked ne ∙ p.1 in inr cc)
+    ]
+
+deliver_follow : (old new : State) (n : ℕ) (r : RequestAt) (reply : Reply) (effect : Effect) (t : Tale) (past : List Tale) → DeliversBy old n r reply effect new → AllTell old → ((key : List ℕ) → (ds : List Deed) × IsRun key new ds) → ArePlaced old
+    → AreAllowed old.cfg t.caller past t.moments → MomentsCarried old.net t.caller.name t.moments → MomentsCarried new.net t.caller.name t.moments → IsInOrder old.net t → IsInOrder new.net t
+deliver_follow old new n r reply effect t past d tells run p allowed was now h = record {
+  heard = h.heard;
+  awaited = λ s a e x at i tick one has.
+      let w = t.caller in
+      let ms = t.moments in
+      let key = key_of w.call in
+      let k = awaited_carried old.net w.name ms s a was e in
+      let marked = with_reply (tick_of old) reply r in
+      let here = subst (λ xs. numbered xs a.number ≡ Some x) d.net at in
+      elim (deliver_at old.net n a.number r marked k.0 x d.request k.1.there here) [
+        | inl same ↦ subst (λ (y : RequestAt). EntryFollows (heard_of ms) s (seen_in (written_by y.op) one)) (sym same.1)
+            (elim (more_replies r (tick_of old) i tick reply one (subst (λ (y : RequestAt). slice_get y.replies i ≡ Some (tick, one)) same.1 has)) [
+              | inl before ↦ h.awaited s a e r (k.1.there ∙ ap (λ (y : RequestAt). Some y) same.0) i tick one before
+              | inr is ↦ (let both = both_tell (old.sites r.site) (new.sites r.site) (λ before after. Answers before r.op reply after) (tells r.site (p.requests n r d.request).site) d.site in
+                  let runs = run key in
+                  let site : r.site ≡ s = sym (ap (λ (y : RequestAt). y.site) same.0) ∙ k.1.site_is ∙ awaits_site ms s a e in
+                  let about : key_asked r.op ≡ key = sym (ap (λ (y : RequestAt). key_asked y.op) same.0) ∙ ap key_asked k.1.op_is ∙ awaited_key old.cfg w past ms s a allowed e in
+                  let quorums = subst (λ (c : Config). HasQuorums c) (sym d.frame.cfg) p.config.quorums in
+                  let ok = subst (λ (c : Config). AreAllowed c w past ms) (sym d.frame.cfg) allowed in
+                  subst (λ (y : Reply). EntryFollows (heard_of ms) s (seen_in (written_by r.op) y)) is (subst (λ y. EntryFollows (heard_of ms) y (seen_in (written_by r.op) reply)) site
+                  (new_reply key new runs.0 t past r.site r.op reply both.0 both.1.0 runs.1 quorums ok now refl about both.1.1.1.0 both.1.1.1.1 (seen_in (written_by r.op) reply) refl)))
+            ])
+        | inr same ↦ subst (λ (y : RequestAt). EntryFollows (heard_of ms) s (seen_in (written_by y.op) one)) (sym same)
+            (h.awaited s a e k.0 k.1.there i tick one (subst (λ (y : RequestAt). slice_get y.replies i ≡ Some (tick, one)) same has))
+      ];
+}
+
+deliver_tales : (old new : State) (n : ℕ) (r : RequestAt) (reply : Reply) (effect : Effect) (session : ℕ) (ts : List Tale) → DeliversBy old n r reply effect new → AllTell old → ((key : List ℕ) → (ds : List Deed) × IsRun key new ds) → ArePlaced old
+    → AreTold old.cfg session ts → TalesCarried old.net ts → TalesCarried new.net ts → EachTale (IsInOrder old.net) ts → EachTale (IsInOrder new.net) ts
+deliver_tales old new n r reply effect session [] d tells run p told was now h = tt
+deliver_tales old new n r reply effect session (t ∷ ts) d tells run p told was now h =
+    (deliver_follow old new n r reply effect t ts d tells run p told.0.allowed was.0 now.0 h.0, deliver_tales old new n r reply effect session ts d tells run p told.2 was.1 now.1 h.1)
+
+deliver_order : (old new : State) (n : ℕ) (r : RequestAt) (reply : Reply) (effect : Effect) → DeliversBy old n r reply effect new → AllTell old → ((key : List ℕ) → (ds : List Deed) × IsRun key new ds) → AreListed old → AreCarried old → AreCarried new → ArePlaced old → AreInOrder old → AreInOrder new
+deliver_order old new n r reply effect d tells run l was now p h = λ m.
+    let same = d.sessions.tales m in
+    subst (EachTale (IsInOrder new.net)) (sym same) (deliver_tales old new n r reply effect m (old.tales m) d tells run p (l.told m) (was m) (subst (TalesCarried new.net) same (now m)) (h m))
+
+does_order : (old new : State) (event : Event) (effect : Effect) → Does old event effect new → AllTell old → ((key : List ℕ) → (ds : List Deed) × IsRun key new ds) → AreListed old → AreCarried old → AreCarried new → ArePlaced old → AreInOrder old → AreInOrder new
+does_order old new events.OpenSession effect d tells run l was now p h = order_same old new d.tales d.net h
+does_order old new (events.Begin session call) effect d tells run l was now p h = begin_order old new session call d.0 effect d.1 l was h
+does_order old new (events.Deliver n) effect d tells run l was now p h = deliver_order old new n d.0 d.1.0 effect d.1.1 tells run l was now p h
+does_order old new (events.Reply n which) effect d tells run l was now p h = hand_order old new n which d.0 d.1.0 d.1.1.0 effect d.1.1.1.0 d.1.1.1.1 l was h
+does_order old new (events.GiveUp n) effect d tells run l was now p h = give_up_order old new n d.0 d.1.0 effect d.1.1 l was h
+does_order old new (events.Crash session) effect d tells run l was now p h = order_same old new d.tales d.net h
+
+acts_order : (old new : State) (event : Event) (effect : Effect) → Acts old event effect new → AllTell old → ((key : List ℕ) → (ds : List Deed) × IsRun key new ds) → AreListed old → AreCarried old → AreCarried new → ArePlaced old → AreInOrder old → AreInOrder new
+acts_order old new event effect acts tells run l was now p h =
+    elim (refusal_of old event) as (λ o. MatchOption o (Does old event effect new) (λ why. Skips old event why effect new) → AreInOrder new) [
+      | None ↦ λ d. does_order old new event effect d tells run l was now p h
+      | Some why ↦ λ k. order_same old new k.same.sessions.tales k.same.net h
+    ] acts
+
+-- in every world that is reached, where its sites tell what they hold
+pub in_order : (s : State) → IsReached s → AllTell s → (session : ℕ) → EachTale (IsInOrder s.net) (s.tales session)
+in_order _ (opened s o) tells = λ n. subst (EachTale (IsInOrder s.net)) (sym (o.tales n)) tt
+in_order _ (stepped old new event h step) tells =
+    let mid = step.1.0 in
+    let acts = step.1.1.1.0 in
+    let records = step.1.1.1.1 in
+    let before = step_tell old new event step tells in
+    let l = listed old h in
+    let c = carried old h in
+    let p = placed old h in
+    let run : (key : List ℕ) → (ds : List Deed) × IsRun key mid ds = λ key. (let k = runs key old h before in acts_run key old mid k.0 event step.0 acts before l c p k.1) in
+    order_same mid new records.sessions.tales records.net (acts_order old mid event step.0 acts before run l c (acts_carried old mid event step.0 acts c) p (in_order old h before))
