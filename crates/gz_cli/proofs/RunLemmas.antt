@@ -1,11 +1,13 @@
 -- What a run promises follows from the cause of its status, and from the lines that it played.
 use Rattle.std.proofs.Common.{ℕ, ◌≡◌, ◌-◌, ◌≤◌, ◌<◌, List, length, subst, arith}
-use Rattle.std.specs.Prelude.{true, false, Option, Some, None}
+use Rattle.std.specs.Prelude.{Option, Some, None}
 use Rattle.gz_site.specs.Files.{Exceeds}
-use Rattle.gz_lines.specs.Schedule.{readings, AreBuilt, IsFirstUnbuilt, is_built_at}
+use Rattle.gz_lines.specs.declared.faults.Fault.{Fault}
+use Rattle.gz_lines.specs.declared.faults.Fault.TheVariants as faults
+use Rattle.gz_lines.specs.Schedule.{readings, AreFaultless, IsFirstFault, fault_at}
 use Rattle.gz_cli.specs.declared.status.Status.{Status}
-use Rattle.gz_cli.specs.declared.status.Status.TheVariants.{Done, Usage, ShelfFault, NoFile, FileTooLarge, BadText, Full, SinkFault, NoMemory}
-use Rattle.gz_cli.specs.Runs.{Files, Counts, FileIs, IsUnbuiltAt, Cause, TellsBytes, IsPlayable, AreSteady, IsAnswered}
+use Rattle.gz_cli.specs.declared.status.Status.TheVariants.{Done, Usage, ShelfFault, NoFile, FileTooLarge, BadText, TooLong, Full, SinkFault, NoMemory}
+use Rattle.gz_cli.specs.Runs.{Files, Counts, FileIs, IsFaultAt, Cause, TellsBytes, IsPlayable, AreSteady, IsAnswered}
 
 not-absent : (files : Files) (name bytes : List ℕ) → TellsBytes files name bytes → FileIs files name (λ file. file ≡ None) → ⊥
 not-absent None name bytes tells absent = tells
@@ -21,18 +23,18 @@ same-bytes : (files : Files) (name bytes others : List ℕ) → TellsBytes files
 same-bytes None name bytes others tells is = absurd tells
 same-bytes (Some files) name bytes others tells is = cc
 
-not-unbuilt : (bytes : List ℕ) (line : ℕ) → AreBuilt (readings bytes) (length (readings bytes)) → IsFirstUnbuilt (readings bytes) line → ⊥
-not-unbuilt bytes line built first =
+not-faulty : (bytes : List ℕ) (line : ℕ) (fault : Fault) → AreFaultless (readings bytes) (length (readings bytes)) → IsFirstFault (readings bytes) line fault → ⊥
+not-faulty bytes line fault faultless first =
     let counted : 1 ≤ line = first.counted in
     let within : line ≤ length (readings bytes) = first.within in
-    let there : is_built_at (readings bytes) (line - 1) ≡ true = built (line - 1) (omega arith) in
-    let not-there : is_built_at (readings bytes) (line - 1) ≡ false = first.unbuilt in
+    let none : fault_at (readings bytes) (line - 1) ≡ None = faultless (line - 1) (omega arith) in
+    let some : fault_at (readings bytes) (line - 1) ≡ Some fault = first.found in
     cc
 
-not-unbuilt-in : (files : Files) (name bytes : List ℕ) (line : ℕ) → TellsBytes files name bytes → AreBuilt (readings bytes) (length (readings bytes)) → IsUnbuiltAt files name line → ⊥
-not-unbuilt-in files name bytes line tells built unbuilt =
-    let same = same-bytes files name bytes unbuilt.0 tells unbuilt.1.0.file in
-    not-unbuilt bytes line built (subst (λ (bs : List ℕ). IsFirstUnbuilt (readings bs) line) same unbuilt.1.1)
+not-faulty-in : (files : Files) (name bytes : List ℕ) (line : ℕ) (fault : Fault) → TellsBytes files name bytes → AreFaultless (readings bytes) (length (readings bytes)) → IsFaultAt files name line fault → ⊥
+not-faulty-in files name bytes line fault tells faultless faulty =
+    let same = same-bytes files name bytes faulty.0 tells faulty.1.0.file in
+    not-faulty bytes line fault faultless (subst (λ (bs : List ℕ). IsFirstFault (readings bs) line fault) same faulty.1.1)
 
 -- a good file gives Done, or the world was full, or memory ran out
 pub replay-completes : (files : Files) (name : List ℕ) (old new : Counts) (status : Status) → Cause files name old new status
@@ -42,7 +44,8 @@ replay-completes files name old new Usage cause good steady = cause
 replay-completes files name old new (ShelfFault n) cause good steady = steady.shelf cause.1
 replay-completes files name old new (NoFile n) cause good steady = not-absent files name good.bytes good.file cause.1.1
 replay-completes files name old new (FileTooLarge n) cause good steady = not-large files name good.bytes good.file good.within cause.1.1
-replay-completes files name old new (BadText line why) cause good steady = not-unbuilt-in files name good.bytes line good.file good.built cause
+replay-completes files name old new (BadText line why) cause good steady = not-faulty-in files name good.bytes line (faults.Bad why) good.file good.faultless cause
+replay-completes files name old new (TooLong line) cause good steady = not-faulty-in files name good.bytes line faults.TooLong good.file good.faultless cause
 replay-completes files name old new (Full events held) cause good steady = tt
 replay-completes files name old new SinkFault cause good steady = steady.sink cause.1
 replay-completes files name old new NoMemory cause good steady = tt

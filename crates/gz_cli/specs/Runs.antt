@@ -4,18 +4,20 @@ use Rattle.gz_core.specs.Causes.{Rose}
 use Rattle.gz_site.specs.Told.{Told}
 use Rattle.gz_site.specs.Files.{Exceeds, IsSomePart}
 use Rattle.gz_core.specs.declared.texts.TextError.{TextError}
-use Rattle.gz_core.specs.declared.texts.TextError.TheVariants.{Bad, TooLong, NoMemory as NoTextMemory}
+use Rattle.gz_core.specs.declared.texts.TextError.TheVariants.{Bad, TooLong as TextTooLong, NoMemory as NoTextMemory}
 use Rattle.gz_site.specs.declared.shelves.ShelfError.{ShelfError}
 use Rattle.gz_site.specs.declared.shelves.ShelfError.TheVariants.{Failed, NoSuch, TooLarge}
 use Rattle.gz_site.specs.declared.sinks.SinkError.{SinkError}
 use Rattle.gz_site.specs.declared.sinks.SinkError.TheVariants.{Failed as SinkFailed, NoMemory as NoSinkMemory}
 use Rattle.gz_script.specs.Plays.{Plays, PlaysInPart}
-use Rattle.gz_lines.specs.Schedule.{readings, line_of, AreBuilt, IsFirstUnbuilt}
+use Rattle.gz_lines.specs.Schedule.{readings, line_of, AreFaultless, IsFirstFault}
+use Rattle.gz_lines.specs.declared.faults.Fault.{Fault}
+use Rattle.gz_lines.specs.declared.faults.Fault.TheVariants as faults
 use Rattle.gz_lines.specs.declared.line.Line.{Line}
 use Rattle.gz_world.specs.States.{State}
 use Rattle.gz_world.specs.declared.world.World.{World}
 use Rattle.gz_cli.specs.declared.status.Status.{Status}
-use Rattle.gz_cli.specs.declared.status.Status.TheVariants.{Done, Usage, ShelfFault, NoFile, FileTooLarge, BadText, Full, SinkFault, NoMemory}
+use Rattle.gz_cli.specs.declared.status.Status.TheVariants.{Done, Usage, ShelfFault, NoFile, FileTooLarge, BadText, TooLong, Full, SinkFault, NoMemory}
 use Rattle.gz_cli.specs.Codes.{Codes}
 use Rattle.gz_cli.specs.Words.{Task, replay, code}
 use Rattle.gz_cli.specs.Worlds.{PlaysSome, Leaves, IsFilled, log_of_world}
@@ -44,7 +46,7 @@ pub record HasBytes (files : Files) (name bytes : List ℕ) : Type 0 where
 
 -- the bytes are those of a schedule with these lines
 pub record IsSchedule (bytes : List ℕ) (found : List Line) : Type 0 where
-  pub built : AreBuilt (readings bytes) (length (readings bytes))
+  pub faultless : AreFaultless (readings bytes) (length (readings bytes))
   pub lines : found ≡ filter_map line_of (readings bytes)
 
 -- the file is a schedule with these lines
@@ -55,9 +57,9 @@ Loads files name lines = (bytes : List ℕ) × (HasBytes files name bytes × IsS
 abbrev pub IsLoaded : Files → List ℕ → Type 0
 IsLoaded files name = (lines : List Line) × Loads files name lines
 
--- this line of the file, counted from 1, is the first that can't be played
-abbrev pub IsUnbuiltAt : Files → List ℕ → ℕ → Type 0
-IsUnbuiltAt files name line = (bytes : List ℕ) × (HasBytes files name bytes × IsFirstUnbuilt (readings bytes) line)
+-- this line of the file, counted from 1, is the first with a fault, and has this one
+abbrev pub IsFaultAt : Files → List ℕ → ℕ → Fault → Type 0
+IsFaultAt files name line fault = (bytes : List ℕ) × (HasBytes files name bytes × IsFirstFault (readings bytes) line fault)
 
 -- why a file gave no lines: a table by the status, over the counts before and after
 abbrev pub LoadCause : Files → List ℕ → Counts → Counts → Status → Type 0
@@ -66,7 +68,8 @@ LoadCause files name old new Usage = ⊥
 LoadCause files name old new (ShelfFault n) = (n ≡ name) × Rose old.faults new.faults
 LoadCause files name old new (NoFile n) = (n ≡ name) × (Rose old.absences new.absences × FileIs files name (λ file. file ≡ None))
 LoadCause files name old new (FileTooLarge n) = (n ≡ name) × (Rose old.excesses new.excesses × FileIs files name (λ file. Exceeds file 65536))
-LoadCause files name old new (BadText line why) = IsUnbuiltAt files name line
+LoadCause files name old new (BadText line why) = IsFaultAt files name line (faults.Bad why)
+LoadCause files name old new (TooLong line) = IsFaultAt files name line faults.TooLong
 LoadCause files name old new (Full events held) = ⊥
 LoadCause files name old new SinkFault = ⊥
 LoadCause files name old new NoMemory = Unit {0}
@@ -79,20 +82,15 @@ ShelfCause name error (ShelfFault n) = (n ≡ name) × (error ≡ Failed)
 ShelfCause name error (NoFile n) = (n ≡ name) × (error ≡ NoSuch)
 ShelfCause name error (FileTooLarge n) = (n ≡ name) × (error ≡ TooLarge)
 ShelfCause name error (BadText line why) = ⊥
+ShelfCause name error (TooLong line) = ⊥
 ShelfCause name error (Full events held) = ⊥
 ShelfCause name error SinkFault = ⊥
 ShelfCause name error NoMemory = Unit {0}
 
--- the fault of a text is a line that can't be played, or want of memory
-abbrev pub IsTextFault : TextError → Type 0
-IsTextFault (Bad line why) = Unit {0}
-IsTextFault (TooLong line) = ⊥
-IsTextFault NoTextMemory = Unit {0}
-
 -- the status of a text that is no schedule
 abbrev pub text_status : TextError → Status
 text_status (Bad line why) = BadText line why
-text_status (TooLong line) = NoMemory
+text_status (TextTooLong line) = TooLong line
 text_status NoTextMemory = NoMemory
 
 -- the cause of each status of a run of `replay NAME`; of the causes that a file can have only one holds, so each
@@ -103,7 +101,8 @@ Cause files name old new Usage = ⊥
 Cause files name old new (ShelfFault n) = (n ≡ name) × Rose old.faults new.faults
 Cause files name old new (NoFile n) = (n ≡ name) × (Rose old.absences new.absences × FileIs files name (λ file. file ≡ None))
 Cause files name old new (FileTooLarge n) = (n ≡ name) × (Rose old.excesses new.excesses × FileIs files name (λ file. Exceeds file 65536))
-Cause files name old new (BadText line why) = IsUnbuiltAt files name line
+Cause files name old new (BadText line why) = IsFaultAt files name line (faults.Bad why)
+Cause files name old new (TooLong line) = IsFaultAt files name line faults.TooLong
 Cause files name old new (Full events held) = IsLoaded files name
 Cause files name old new SinkFault = IsLoaded files name × Rose old.sink new.sink
 Cause files name old new NoMemory = Unit {0}
@@ -116,6 +115,7 @@ IsRefusal (ShelfFault name) = Unit {0}
 IsRefusal (NoFile name) = Unit {0}
 IsRefusal (FileTooLarge name) = Unit {0}
 IsRefusal (BadText line why) = Unit {0}
+IsRefusal (TooLong line) = Unit {0}
 IsRefusal (Full events held) = ⊥
 IsRefusal SinkFault = ⊥
 IsRefusal NoMemory = ⊥
@@ -128,6 +128,7 @@ HasPlayed (ShelfFault name) = ⊥
 HasPlayed (NoFile name) = ⊥
 HasPlayed (FileTooLarge name) = ⊥
 HasPlayed (BadText line why) = ⊥
+HasPlayed (TooLong line) = ⊥
 HasPlayed (Full events held) = ⊥
 HasPlayed SinkFault = Unit {0}
 HasPlayed NoMemory = ⊥
@@ -140,6 +141,7 @@ WriteCause old new (ShelfFault name) = ⊥
 WriteCause old new (NoFile name) = ⊥
 WriteCause old new (FileTooLarge name) = ⊥
 WriteCause old new (BadText line why) = ⊥
+WriteCause old new (TooLong line) = ⊥
 WriteCause old new (Full events held) = ⊥
 WriteCause old new SinkFault = Rose old new
 WriteCause old new NoMemory = Unit {0}
@@ -198,12 +200,12 @@ abbrev pub TellsBytes : Files → List ℕ → List ℕ → Type 0
 TellsBytes None name bytes = ⊥
 TellsBytes (Some files) name bytes = files name ≡ Some bytes
 
--- the shelf tells the file, which is within the limit and of which each line can be played
+-- the shelf tells the file, which is within the limit and of which no line has a fault
 pub record IsPlayable (files : Files) (name : List ℕ) : Type 0 where
   pub bytes : List ℕ
   pub file : TellsBytes files name bytes
   pub within : length bytes ≤ 65536
-  pub built : AreBuilt (readings bytes) (length (readings bytes))
+  pub faultless : AreFaultless (readings bytes) (length (readings bytes))
 
 -- the words ask for a replay of such a file, or for a code
 abbrev pub IsFeasible : Option Task → Files → Type 0
@@ -224,6 +226,7 @@ IsAnswered (ShelfFault name) = ⊥
 IsAnswered (NoFile name) = ⊥
 IsAnswered (FileTooLarge name) = ⊥
 IsAnswered (BadText line why) = ⊥
+IsAnswered (TooLong line) = ⊥
 IsAnswered (Full events held) = Unit {0}
 IsAnswered SinkFault = ⊥
 IsAnswered NoMemory = Unit {0}
@@ -236,6 +239,7 @@ PlayCause old new (ShelfFault name) = ⊥
 PlayCause old new (NoFile name) = ⊥
 PlayCause old new (FileTooLarge name) = ⊥
 PlayCause old new (BadText line why) = ⊥
+PlayCause old new (TooLong line) = ⊥
 PlayCause old new (Full events held) = Unit {0}
 PlayCause old new SinkFault = Rose old new
 PlayCause old new NoMemory = Unit {0}

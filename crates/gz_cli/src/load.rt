@@ -1,7 +1,7 @@
 //! A schedule is read from a shelf.
 ghost use Rattle.std.specs.Prelude.{◌≡◌, ◌≤◌, length, All, IfOk, IfErr};
 ghost use Rattle.gz_lines.specs.Schedule.{IsBounded};
-ghost use Rattle.gz_cli.specs.Runs.{Loads, LoadCause, ShelfCause, IsTextFault, text_status};
+ghost use Rattle.gz_cli.specs.Runs.{Loads, LoadCause, ShelfCause, text_status};
 
 use crate::status::Status;
 use gz_core::{TextError, Word};
@@ -30,12 +30,11 @@ pub fn load<F: Shelf>(alloc: Global, name: &Word, shelf: &mut F) -> Result<Vec<L
 
 // The status of a text that is no schedule.
 fn bad_text(error: TextError) -> Status
-    requires { IsTextFault error }
     ensures { result ≡ text_status error }
 {
     match error {
         TextError::Bad { line, why } => Status::BadText { line, why },
-        TextError::TooLong { .. } => unreachable!(),
+        TextError::TooLong { line } => Status::TooLong { line },
         TextError::NoMemory => Status::NoMemory,
     }
 }

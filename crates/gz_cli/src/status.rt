@@ -15,8 +15,10 @@ pub enum Status {
     NoFile { name: Word },
     /// The file has more than 65,536 bytes.
     FileTooLarge { name: Word },
-    /// The first line of the schedule that can't be played, counted from 1.
+    /// The first line of the schedule with a fault, counted from 1.
     BadText { line: u32, why: Why },
+    /// That line has more bytes than an object may have.
+    TooLong { line: u32 },
     /// The world took no more events: so many are in its journal, and so many bytes are held.
     Full { events: u32, held: u64 },
     /// The sink failed.
@@ -33,6 +35,7 @@ impl Drop for Status {
             Status::NoFile { name: _ } => {},
             Status::FileTooLarge { name: _ } => {},
             Status::BadText { line: _, why: _ } => {},
+            Status::TooLong { line: _ } => {},
             Status::Full { events: _, held: _ } => {},
             Status::SinkFault => {},
             Status::NoMemory => {},
@@ -52,6 +55,7 @@ impl Status {
             Status::NoFile { .. } => 4,
             Status::FileTooLarge { .. } => 5,
             Status::BadText { .. } => 7,
+            Status::TooLong { .. } => 8,
             Status::Full { .. } => 9,
             Status::SinkFault => 11,
             Status::NoMemory => 12,
@@ -80,6 +84,7 @@ impl fmt::Display for Status {
                 let why = word(*why);
                 write!(f, "line {line}: {why}")
             }
+            Status::TooLong { line } => write!(f, "line {line}: too long"),
             Status::Full { events, held } => write!(f, "full after {events} events, {held} bytes"),
             Status::SinkFault => write!(f, "cannot write"),
             Status::NoMemory => write!(f, "out of memory"),

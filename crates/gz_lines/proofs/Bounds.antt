@@ -1,113 +1,154 @@
 -- The lines of a schedule keep to the bounds of an object.
-use Rattle.std.proofs.Common.{ℕ, ◌≡◌, ◌≤◌, List, [], ◌∷◌, length, refl, sym, subst, arith}
-use Rattle.std.specs.Prelude.{◌==◌, ◌&&◌, Bool, true, false, nat_le, if◌then◌else◌, Option, Some, None, IfSome, All, filter_map, map, option_map, option_and_then, codes}
+use Rattle.std.proofs.Common.{ℕ, ◌≡◌, ◌≤◌, zero, suc, List, [], ◌∷◌, length, refl, sym, subst, arith}
+use Rattle.std.specs.Prelude.{◌==◌, ◌&&◌, Bool, true, false, nat_le, if◌then◌else◌, Option, Some, None, Result, Ok, Err, IfOk, All, filter_map, map, codes}
 use Rattle.std.specs.Result.{result_ok}
+use Rattle.std.specs.List.{slice_split}
 use Rattle.hex.specs.Hex.{decode_of}
 use Rattle.std.proofs.lemmas.Bool.Decides.{nat_tests}
 use Rattle.std.proofs.lemmas.List.Elements.{All-cons, All-nil}
 use Rattle.gz_core.specs.declared.calls.Call.TheVariants as calls
+use Rattle.gz_core.specs.declared.texts.Why.TheVariants as whys
+use Rattle.gz_lines.specs.declared.faults.Fault.{Fault}
+use Rattle.gz_lines.specs.declared.faults.Fault.TheVariants.{Bad, TooLong}
 use Rattle.gz_lines.specs.declared.line.Line.{Line}
 use Rattle.gz_lines.specs.declared.line.Line.TheVariants.{OpenSession, Begin, Deliver, Reply, GiveUp, Crash, Take, Settle, Drain}
 use Rattle.gz_lines.specs.declared.line.Reading.{Reading}
-use Rattle.gz_lines.specs.declared.line.Reading.TheVariants.{Skipped, Unbuilt, Is}
+use Rattle.gz_lines.specs.declared.line.Reading.TheVariants.{Skipped, Faulty, Is}
+use Rattle.gz_lines.specs.declared.verbs.Verb.{Verb}
+use Rattle.gz_lines.specs.declared.verbs.Verb.TheVariants as verbs
 use Rattle.gz_lines.specs.Texts.{fields, lines}
-use Rattle.gz_lines.specs.Fields.{number_of, session_of, sites_of, key_of, bytes_of, within}
-use Rattle.gz_lines.specs.Grammar.{is_word, both, all_three, line_of_word, line_of_one, get_line, delete_line, line_of_two, line_of_three, line_from, is_or_unbuilt, reading_of, read_line}
+use Rattle.gz_lines.specs.Fields.{number_of}
+use Rattle.gz_lines.specs.Faults.{with, or_bad}
+use Rattle.gz_lines.specs.Bytes.{next, generated, within, spelled, pair_of, generated_within, generated_by, generated_from, bytes_in}
+use Rattle.gz_lines.specs.Counts.{first_of, one_of, two_of, three_of, counted}
+use Rattle.gz_lines.specs.Verbs.{is_word, verb_of}
+use Rattle.gz_lines.specs.Grammar.{number_in, session_in, key_in, list_in, number_alone, session_alone, settle_without, settle_by, line_from, is_or_faulty, reading_for, reading_by, reading_of, read_line}
 use Rattle.gz_lines.specs.Schedule.{IsBounded, line_of, readings}
+
+-- what follows from a value that was read has a property
+with-ok : {A B : Type 0} (r : Result A Fault) (f : A → Result B Fault) (P : B → Type 0) → ((a : A) → IfOk (f a) P) → IfOk (with r f) P
+with-ok (Ok a) f P h = h a
+with-ok (Err fault) f P h = tt
+
+with-known : {A B : Type 0} (r : Result A Fault) (f : A → Result B Fault) (Q : A → Type 0) (P : B → Type 0) → IfOk r Q → ((a : A) → Q a → IfOk (f a) P) → IfOk (with r f) P
+with-known (Ok a) f Q P q h = h a q
+with-known (Err fault) f Q P q h = tt
+
+counted-ok : {A B : Type 0} (o : Option A) (f : A → Result B Fault) (P : B → Type 0) → ((a : A) → IfOk (f a) P) → IfOk (counted o f) P
+counted-ok None f P h = tt
+counted-ok (Some a) f P h = h a
+
+if-ok : {A : Type 0} (t : Bool) (r q : Result A Fault) (P : A → Type 0) → IfOk r P → IfOk q P → IfOk (if t then r else q) P
+if-ok true r q P h k = h
+if-ok false r q P h k = k
+
+-- no more bytes than an object may have
+abbrev IsSmall : List ℕ → Type 0
+IsSmall bytes = length bytes ≤ 1048576
+
+small-where : (t : Bool) (bytes : List ℕ) → (t ≡ true → IsSmall bytes) → IfOk (if t then Ok bytes else Err TooLong) IsSmall
+small-where true bytes h = h refl
+small-where false bytes h = tt
+
+within-small : (bytes : List ℕ) → IfOk (within bytes) IsSmall
+within-small bytes = small-where (nat_le (length bytes) 1048576) bytes (λ h. grind (arith, nat_tests))
+
+length-generated : (x n : ℕ) → length (generated x n) ≡ n
+length-generated x zero = refl
+length-generated x (suc n) = omega (arith, length-generated (next x) n)
+
+generated-small : (seed count : ℕ) → IfOk (generated_within seed count) IsSmall
+generated-small seed count =
+    let same = length-generated seed count in
+    small-where (nat_le count 1048576) (generated seed count) (λ h. grind (arith, nat_tests))
+
+generated_by-small : (found : Option (List ℕ × List ℕ)) → IfOk (generated_by found) IsSmall
+generated_by-small None = tt
+generated_by-small (Some pair) =
+    with-ok (or_bad whys.Bytes (number_of pair.0)) (λ seed. with (or_bad whys.Bytes (number_of pair.1)) (λ count. generated_within seed count)) IsSmall
+    (λ seed. with-ok (or_bad whys.Bytes (number_of pair.1)) (λ count. generated_within seed count) IsSmall (λ count. generated-small seed count))
+
+bytes_in-small : (field : List ℕ) → IfOk (bytes_in field) IsSmall
+bytes_in-small [] = tt
+bytes_in-small (a ∷ []) = tt
+bytes_in-small (a ∷ b ∷ rest) =
+    if-ok ((a == 120) && (b == 58)) (spelled rest) (if (a == 103) && (b == 58) then generated_from rest else Err (Bad whys.Bytes)) IsSmall
+    (with-ok (or_bad whys.Bytes (result_ok (decode_of rest))) within IsSmall within-small)
+    (if-ok ((a == 103) && (b == 58)) (generated_from rest) (Err (Bad whys.Bytes)) IsSmall (generated_by-small (pair_of (slice_split (λ b. b == 58) rest))) tt)
+
+put-bounded : (fields : List (List ℕ)) → IfOk (line_from verbs.Put fields) IsBounded
+put-bounded fields =
+    let after : (List ℕ × List ℕ × List ℕ) → ℕ → List ℕ → Result Line Fault = λ p session key. with (bytes_in p.2) (λ bytes. Ok (Begin session (calls.Put key bytes))) in
+    counted-ok (three_of fields) (λ p. with (session_in p.0) (λ session. with (key_in p.1) (λ key. after p session key))) IsBounded
+    (λ p. with-ok (session_in p.0) (λ session. with (key_in p.1) (λ key. after p session key)) IsBounded
+    (λ session. with-ok (key_in p.1) (λ key. after p session key) IsBounded
+    (λ key. with-known (bytes_in p.2) (λ bytes. Ok (Begin session (calls.Put key bytes))) IsSmall IsBounded (bytes_in-small p.2) (λ bytes small. small))))
+
+delete-bounded : (fields : List (List ℕ)) → IfOk (line_from verbs.Delete fields) IsBounded
+delete-bounded fields =
+    counted-ok (two_of fields) (λ p. with (session_in p.0) (λ session. with (key_in p.1) (λ key. Ok (Begin session (calls.Delete key))))) IsBounded
+    (λ p. with-ok (session_in p.0) (λ session. with (key_in p.1) (λ key. Ok (Begin session (calls.Delete key)))) IsBounded
+    (λ session. with-ok (key_in p.1) (λ key. Ok (Begin session (calls.Delete key))) IsBounded (λ key. tt)))
+
+get-bounded : (fields : List (List ℕ)) → IfOk (line_from verbs.Get fields) IsBounded
+get-bounded fields =
+    counted-ok (two_of fields) (λ p. with (session_in p.0) (λ session. with (key_in p.1) (λ key. Ok (Begin session (calls.Get key))))) IsBounded
+    (λ p. with-ok (session_in p.0) (λ session. with (key_in p.1) (λ key. Ok (Begin session (calls.Get key)))) IsBounded
+    (λ session. with-ok (key_in p.1) (λ key. Ok (Begin session (calls.Get key))) IsBounded (λ key. tt)))
+
+reply-bounded : (fields : List (List ℕ)) → IfOk (line_from verbs.Reply fields) IsBounded
+reply-bounded fields =
+    counted-ok (two_of fields) (λ p. with (number_in p.0) (λ n. with (number_in p.1) (λ which. Ok (Reply n which)))) IsBounded
+    (λ p. with-ok (number_in p.0) (λ n. with (number_in p.1) (λ which. Ok (Reply n which))) IsBounded
+    (λ n. with-ok (number_in p.1) (λ which. Ok (Reply n which)) IsBounded (λ which. tt)))
+
+-- a line about one number
+number-bounded : (r : Result ℕ Fault) (f : ℕ → Line) → ((n : ℕ) → IsBounded (f n)) → IfOk (with r (λ n. Ok (f n))) IsBounded
+number-bounded r f h = with-ok r (λ n. Ok (f n)) IsBounded h
+
+without-bounded : (found : Option (List ℕ × List ℕ × List ℕ)) → IfOk (settle_without found) IsBounded
+without-bounded None = tt
+without-bounded (Some p) =
+    let listed : ℕ → Result Line Fault = λ session. with (list_in p.2) (λ without. Ok (Settle session without)) in
+    with-ok (session_in p.0) (λ session. if is_word (codes "without") p.1 then listed session else Err (Bad whys.Word)) IsBounded
+    (λ session. if-ok (is_word (codes "without") p.1) (listed session) (Err (Bad whys.Word)) IsBounded
+    (with-ok (list_in p.2) (λ without. Ok (Settle session without)) IsBounded (λ without. tt)) tt)
+
+settle-bounded : (one : Option (List ℕ)) (fields : List (List ℕ)) → IfOk (settle_by one fields) IsBounded
+settle-bounded None fields = without-bounded (three_of fields)
+settle-bounded (Some field) fields = number-bounded (session_in field) (λ session. Settle session []) (λ session. tt)
+
+line-bounded : (verb : Verb) (fields : List (List ℕ)) → IfOk (line_from verb fields) IsBounded
+line-bounded verbs.Session fields = if-ok (length fields == 1) (Ok OpenSession) (Err (Bad whys.Count)) IsBounded tt tt
+line-bounded verbs.Put fields = put-bounded fields
+line-bounded verbs.Delete fields = delete-bounded fields
+line-bounded verbs.Get fields = get-bounded fields
+line-bounded verbs.Deliver fields = number-bounded (number_alone fields) (λ n. Deliver n) (λ n. tt)
+line-bounded verbs.Reply fields = reply-bounded fields
+line-bounded verbs.GiveUp fields = number-bounded (number_alone fields) (λ n. GiveUp n) (λ n. tt)
+line-bounded verbs.Take fields = number-bounded (number_alone fields) (λ n. Take n) (λ n. tt)
+line-bounded verbs.Crash fields = number-bounded (session_alone fields) (λ session. Crash session) (λ session. tt)
+line-bounded verbs.Settle fields = settle-bounded (one_of fields) fields
+line-bounded verbs.Drain fields = number-bounded (session_alone fields) (λ session. Drain session) (λ session. tt)
+line-bounded verbs.Unbuilt fields = tt
 
 -- the reading is no line, or one that keeps to the bounds
 abbrev IsBoundedReading : Reading → Type 0
 IsBoundedReading Skipped = Unit {0}
-IsBoundedReading Unbuilt = Unit {0}
+IsBoundedReading (Faulty fault) = Unit {0}
 IsBoundedReading (Is line) = IsBounded line
 
-if-within : (t : Bool) (bytes : List ℕ) → (t ≡ true → length bytes ≤ 1048576) → IfSome (if t then Some bytes else None) (λ bs. length bs ≤ 1048576)
-if-within true bytes h = h refl
-if-within false bytes h = tt
+result-bounded : (r : Result Line Fault) → IfOk r IsBounded → IsBoundedReading (is_or_faulty r)
+result-bounded (Ok line) h = h
+result-bounded (Err fault) h = tt
 
-within-bounded : (o : Option (List ℕ)) → IfSome (option_and_then within o) (λ bs. length bs ≤ 1048576)
-within-bounded None = tt
-within-bounded (Some bytes) = if-within (nat_le (length bytes) 65536) bytes (λ h. grind (arith, nat_tests))
+reading_for-bounded : (verb : Option Verb) (fields : List (List ℕ)) → IsBoundedReading (reading_for verb fields)
+reading_for-bounded None fields = tt
+reading_for-bounded (Some verb) fields = result-bounded (line_from verb fields) (line-bounded verb fields)
 
-if-some : (t : Bool) (o : Option (List ℕ)) → IfSome o (λ bs. length bs ≤ 1048576) → IfSome (if t then o else None) (λ bs. length bs ≤ 1048576)
-if-some true o h = h
-if-some false o h = tt
-
-bytes_of-bounded : (field : List ℕ) → IfSome (bytes_of field) (λ bs. length bs ≤ 1048576)
-bytes_of-bounded [] = tt
-bytes_of-bounded (a ∷ []) = tt
-bytes_of-bounded (a ∷ b ∷ digits) =
-    let decoded = result_ok (decode_of digits) in
-    if-some ((a == 120) && (b == 58)) (option_and_then within decoded) (within-bounded decoded)
-
--- the line, if there is one, keeps to the bounds
-abbrev AreBounded : Option Line → Type 0
-AreBounded line = IfSome line IsBounded
-
-if-bounded : (t : Bool) (a b : Option Line) → AreBounded a → AreBounded b → AreBounded (if t then a else b)
-if-bounded true a b h k = h
-if-bounded false a b h k = k
-
-map-bounded : {A : Type 0} (f : A → Line) → ((x : A) → IsBounded (f x)) → (o : Option A) → AreBounded (option_map f o)
-map-bounded f h None = tt
-map-bounded f h (Some x) = h x
-
-both-bounded : {A B : Type 0} (f : A → B → Line) → ((x : A) (y : B) → IsBounded (f x y)) → (a : Option A) (b : Option B) → AreBounded (both f a b)
-both-bounded f h None b = tt
-both-bounded f h (Some x) None = tt
-both-bounded f h (Some x) (Some y) = h x y
-
-put-bounded : (s : Option ℕ) (k b : Option (List ℕ)) → IfSome b (λ bs. length bs ≤ 1048576) → AreBounded (all_three (λ session key bytes. Begin session (calls.Put key bytes)) s k b)
-put-bounded None k b h = tt
-put-bounded (Some s) None b h = tt
-put-bounded (Some s) (Some k) None h = tt
-put-bounded (Some s) (Some k) (Some b) h = h
-
-word-bounded : (verb : List ℕ) → AreBounded (line_of_word verb)
-word-bounded verb = if-bounded (is_word (codes "session") verb) (Some OpenSession) None tt tt
-
-one-bounded : (verb x : List ℕ) → AreBounded (line_of_one verb x)
-one-bounded verb x =
-    if-bounded (is_word (codes "deliver") verb) _ _ (map-bounded (λ n. Deliver n) (λ n. tt) (number_of x))
-    (if-bounded (is_word (codes "giveup") verb) _ _ (map-bounded (λ n. GiveUp n) (λ n. tt) (number_of x))
-    (if-bounded (is_word (codes "take") verb) _ _ (map-bounded (λ n. Take n) (λ n. tt) (number_of x))
-    (if-bounded (is_word (codes "crash") verb) _ _ (map-bounded (λ s. Crash s) (λ s. tt) (session_of x))
-    (if-bounded (is_word (codes "drain") verb) _ _ (map-bounded (λ s. Drain s) (λ s. tt) (session_of x))
-    (if-bounded (is_word (codes "settle") verb) _ _ (map-bounded (λ s. Settle s []) (λ s. tt) (session_of x)) tt)))))
-
-get-bounded : (s k : List ℕ) → AreBounded (get_line s k)
-get-bounded s k = both-bounded (λ session key. Begin session (calls.Get key)) (λ session key. tt) (session_of s) (key_of k)
-
-delete-bounded : (s k : List ℕ) → AreBounded (delete_line s k)
-delete-bounded s k = both-bounded (λ session key. Begin session (calls.Delete key)) (λ session key. tt) (session_of s) (key_of k)
-
-two-bounded : (verb x y : List ℕ) → AreBounded (line_of_two verb x y)
-two-bounded verb x y =
-    if-bounded (is_word (codes "get") verb) _ _ (get-bounded x y)
-    (if-bounded (is_word (codes "delete") verb) _ _ (delete-bounded x y)
-    (if-bounded (is_word (codes "reply") verb) _ _ (both-bounded (λ n which. Reply n which) (λ n which. tt) (number_of x) (number_of y)) tt))
-
-three-bounded : (verb x y z : List ℕ) → AreBounded (line_of_three verb x y z)
-three-bounded verb x y z =
-    if-bounded (is_word (codes "put") verb) _ _ (put-bounded (session_of x) (key_of y) (bytes_of z) (bytes_of-bounded z))
-    (if-bounded (is_word (codes "settle") verb && is_word (codes "without") y) _ _
-    (both-bounded (λ session without. Settle session without) (λ session without. tt) (session_of x) (sites_of z)) tt)
-
-line-bounded : (fs : List (List ℕ)) → AreBounded (line_from fs)
-line-bounded [] = tt
-line-bounded (verb ∷ []) = word-bounded verb
-line-bounded (verb ∷ x ∷ []) = one-bounded verb x
-line-bounded (verb ∷ x ∷ y ∷ []) = two-bounded verb x y
-line-bounded (verb ∷ x ∷ y ∷ z ∷ []) = three-bounded verb x y z
-line-bounded (verb ∷ x ∷ y ∷ z ∷ a ∷ more) = tt
-
-unbuilt-bounded : (line : Option Line) → AreBounded line → IsBoundedReading (is_or_unbuilt line)
-unbuilt-bounded None h = tt
-unbuilt-bounded (Some line) h = h
-
-reading_of-bounded : (fs : List (List ℕ)) → IsBoundedReading (reading_of fs)
-reading_of-bounded [] = tt
-reading_of-bounded (verb ∷ more) = unbuilt-bounded (line_from (verb ∷ more)) (line-bounded (verb ∷ more))
+reading_by-bounded : (word : Option (List ℕ)) (fields : List (List ℕ)) → IsBoundedReading (reading_by word fields)
+reading_by-bounded None fields = tt
+reading_by-bounded (Some word) fields = reading_for-bounded (verb_of word) fields
 
 skip-bounded : (t : Bool) (r : Reading) → IsBoundedReading r → IsBoundedReading (if t then Skipped else r)
 skip-bounded true r h = tt
@@ -115,11 +156,13 @@ skip-bounded false r h = h
 
 read_line-bounded : (text : List ℕ) → IsBoundedReading (read_line text)
 read_line-bounded [] = tt
-read_line-bounded (b ∷ bs) = skip-bounded (b == 35) (reading_of (fields (b ∷ bs))) (reading_of-bounded (fields (b ∷ bs)))
+read_line-bounded (b ∷ bs) =
+    let found = fields (b ∷ bs) in
+    skip-bounded (b == 35) (reading_of found) (reading_by-bounded (first_of found) found)
 
 one-more : (r : Reading) (rest : List Reading) → IsBoundedReading r → All IsBounded (filter_map line_of rest) → All IsBounded (filter_map line_of (r ∷ rest))
 one-more Skipped rest h all = all
-one-more Unbuilt rest h all = all
+one-more (Faulty fault) rest h all = all
 one-more (Is line) rest h all = All-cons IsBounded line (filter_map line_of rest) h all
 
 lines-bounded : (texts : List (List ℕ)) → All IsBounded (filter_map line_of (map read_line texts))

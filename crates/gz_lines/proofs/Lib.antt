@@ -1,3 +1,5 @@
-mod Bounds
-mod CutLemmas
-mod ReadLemmas
+pub mod Bounds
+pub mod CountLemmas
+pub mod CutLemmas
+pub mod Generating
+pub mod ReadLemmas

@@ -1,19 +1,9 @@
 -- Lines that are read one after another.
 use denote.Ref.{Bor}
-use Rattle.std.proofs.Common.{ℕ, ◌≡◌, ◌+◌, ◌<◌, ◌≤◌, List, [], ◌∷◌, ◌++◌, length, map, take, get_or, refl, ap, ◌∙◌, arith}
+use Rattle.std.proofs.Common.{ℕ, ◌≡◌, ◌+◌, ◌<◌, List, [], ◌∷◌, ◌++◌, length, map, take, get_or, refl, ap, ◌∙◌}
 use Rattle.std.specs.Prelude.{Option, Some, None, filter_map}
 use Rattle.std.proofs.lemmas.List.{append-nil, take_more, map-append}
 use Rattle.std.proofs.lemmas.List.Elements.{filter_map-append}
-use Rattle.gz_lines.specs.Grammar.{line_from}
-
--- no line has five fields
-pub five-fields : (fields : List (List ℕ)) → 5 ≤ length fields → None ≡ line_from fields
-five-fields [] h = absurd (omega arith)
-five-fields (a ∷ []) h = absurd (omega arith)
-five-fields (a ∷ b ∷ []) h = absurd (omega arith)
-five-fields (a ∷ b ∷ c ∷ []) h = absurd (omega arith)
-five-fields (a ∷ b ∷ c ∷ d ∷ []) h = absurd (omega arith)
-five-fields (a ∷ b ∷ c ∷ d ∷ e ∷ more) h = refl
 
 -- one more element that gives something
 pub filter_map-some : {X Y : Type 0} (f : X → Option Y) (xs : List X) (x : X) (y : Y) → f x ≡ Some y → filter_map f (xs ++ x ∷ []) ≡ filter_map f xs ++ y ∷ []

@@ -1,9 +1,7 @@
 -- The forms of fields.
-use Rattle.std.specs.Prelude.{ℕ, ◌+◌, ◌-◌, ◌*◌, ◌^◌, ◌==◌, ◌&&◌, ◌||◌, slice_index, Bool, nat_lt, nat_le, if◌then◌else◌, List, [], ◌∷◌, length, filter_map, fold, Option, Some, None, option_and_then}
+use Rattle.std.specs.Prelude.{ℕ, ◌+◌, ◌-◌, ◌*◌, ◌^◌, ◌==◌, ◌&&◌, ◌||◌, slice_index, Bool, nat_lt, nat_le, if◌then◌else◌, List, length, filter_map, fold, Option, Some, None, option_and_then}
 use Rattle.std.specs.List.{list_all, slice_split}
 use Rattle.std.specs.Char.{is_ascii_digit}
-use Rattle.std.specs.Result.{result_ok}
-use Rattle.hex.specs.Hex.{decode_of}
 
 -- decimal digits without leading zeros, except 0 itself
 abbrev pub is_numeral : List ℕ → Bool
@@ -50,13 +48,3 @@ is_key_field field = nat_le 1 (length field) && nat_le (length field) 255 && lis
 
 abbrev pub key_of : List ℕ → Option (List ℕ)
 key_of field = if is_key_field field then Some field else None
-
--- at most 65,536 bytes
-abbrev pub within : List ℕ → Option (List ℕ)
-within bytes = if nat_le (length bytes) 65536 then Some bytes else None
-
--- bytes: `x:` and an even number of hexadecimal digits
-abbrev pub bytes_of : List ℕ → Option (List ℕ)
-bytes_of [] = None
-bytes_of (a ∷ []) = None
-bytes_of (a ∷ b ∷ digits) = if (a == 120) && (b == 58) then option_and_then within (result_ok (decode_of digits)) else None

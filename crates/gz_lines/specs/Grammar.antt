@@ -1,104 +1,122 @@
 -- What a line of a schedule reads as.
-use Rattle.std.specs.Prelude.{ℕ, ◌==◌, ◌&&◌, Bool, nat_eq, if◌then◌else◌, List, [], ◌∷◌, Option, Some, None, option_map, option_and_then, codes}
-use Rattle.std.specs.Cmp.Lexicographic.{pointwise}
+use Rattle.std.specs.Prelude.{ℕ, ◌==◌, if◌then◌else◌, List, [], ◌∷◌, length, Option, Some, None, Result, Ok, Err, codes}
 use Rattle.gz_core.specs.declared.calls.Call.TheVariants as calls
+use Rattle.gz_core.specs.declared.texts.Why.TheVariants as whys
+use Rattle.gz_lines.specs.declared.faults.Fault.{Fault}
+use Rattle.gz_lines.specs.declared.faults.Fault.TheVariants.{Bad}
 use Rattle.gz_lines.specs.declared.line.Line.{Line}
 use Rattle.gz_lines.specs.declared.line.Line.TheVariants.{OpenSession, Begin, Deliver, Reply, GiveUp, Crash, Take, Settle, Drain}
 use Rattle.gz_lines.specs.declared.line.Reading.{Reading}
-use Rattle.gz_lines.specs.declared.line.Reading.TheVariants.{Skipped, Unbuilt, Is}
+use Rattle.gz_lines.specs.declared.line.Reading.TheVariants.{Skipped, Faulty, Is}
+use Rattle.gz_lines.specs.declared.verbs.Verb.{Verb}
+use Rattle.gz_lines.specs.declared.verbs.Verb.TheVariants as verbs
 use Rattle.gz_lines.specs.Texts.{fields}
-use Rattle.gz_lines.specs.Fields.{number_of, from_one, session_of, sites_of, key_of, bytes_of}
+use Rattle.gz_lines.specs.Fields.{number_of, session_of, sites_of, key_of}
+use Rattle.gz_lines.specs.Faults.{with, or_bad}
+use Rattle.gz_lines.specs.Bytes.{bytes_in}
+use Rattle.gz_lines.specs.Counts.{first_of, one_of, two_of, three_of, counted}
+use Rattle.gz_lines.specs.Verbs.{is_word, verb_of}
 
--- the field is this word
-abbrev pub is_word : List ℕ → List ℕ → Bool
-is_word word field = pointwise nat_eq field word
+-- a field as what it should be, or its fault
+abbrev pub number_in : List ℕ → Result ℕ Fault
+number_in field = or_bad whys.Number (number_of field)
 
--- the value of two fields, or of three, of which each must have its form
-abbrev pub both : {A B : Type 0} → (A → B → Line) → Option A → Option B → Option Line
-both f a b = option_and_then (λ x. option_map (f x) b) a
+abbrev pub session_in : List ℕ → Result ℕ Fault
+session_in field = or_bad whys.Number (session_of field)
 
-abbrev pub all_three : {A B C : Type 0} → (A → B → C → Line) → Option A → Option B → Option C → Option Line
-all_three f a b c = option_and_then (λ x. both (f x) b c) a
+abbrev pub key_in : List ℕ → Result (List ℕ) Fault
+key_in field = or_bad whys.Key (key_of field)
+
+abbrev pub list_in : List ℕ → Result (List ℕ) Fault
+list_in field = or_bad whys.List (sites_of field)
+
+-- the one number, or session, of a line
+abbrev pub number_alone : List (List ℕ) → Result ℕ Fault
+number_alone fields = counted (one_of fields) number_in
+
+abbrev pub session_alone : List (List ℕ) → Result ℕ Fault
+session_alone fields = counted (one_of fields) session_in
 
 -- `session`
-abbrev pub line_of_word : List ℕ → Option Line
-line_of_word verb = if is_word (codes "session") verb then Some OpenSession else None
-
--- `deliver N`, `giveup N`, `take N`, `crash S`, `drain S`, `settle S`
-abbrev pub line_of_one : List ℕ → List ℕ → Option Line
-line_of_one verb x =
-    if is_word (codes "deliver") verb then option_map (λ n. Deliver n) (number_of x)
-    else (if is_word (codes "giveup") verb then option_map (λ n. GiveUp n) (number_of x)
-    else (if is_word (codes "take") verb then option_map (λ n. Take n) (number_of x)
-    else (if is_word (codes "crash") verb then option_map (λ s. Crash s) (session_of x)
-    else (if is_word (codes "drain") verb then option_map (λ s. Drain s) (session_of x)
-    else (if is_word (codes "settle") verb then option_map (λ s. Settle s []) (session_of x)
-    else None)))))
-
--- the same once the number is read, and once it is that of a session
-abbrev pub line_of_session : List ℕ → ℕ → Option Line
-line_of_session verb s =
-    if is_word (codes "crash") verb then Some (Crash s)
-    else (if is_word (codes "drain") verb then Some (Drain s)
-    else (if is_word (codes "settle") verb then Some (Settle s []) else None))
-
-abbrev pub line_of_number : List ℕ → ℕ → Option Line
-line_of_number verb n =
-    if is_word (codes "deliver") verb then Some (Deliver n)
-    else (if is_word (codes "giveup") verb then Some (GiveUp n)
-    else (if is_word (codes "take") verb then Some (Take n)
-    else option_and_then (line_of_session verb) (from_one n)))
-
--- `get S KEY`
-abbrev pub get_line : List ℕ → List ℕ → Option Line
-get_line s k = both (λ session key. Begin session (calls.Get key)) (session_of s) (key_of k)
-
--- `delete S KEY`
-abbrev pub delete_line : List ℕ → List ℕ → Option Line
-delete_line s k = both (λ session key. Begin session (calls.Delete key)) (session_of s) (key_of k)
-
--- `reply N WHICH`
-abbrev pub reply_line : List ℕ → List ℕ → Option Line
-reply_line n w = both (λ number which. Reply number which) (number_of n) (number_of w)
-
-abbrev pub line_of_two : List ℕ → List ℕ → List ℕ → Option Line
-line_of_two verb x y =
-    if is_word (codes "get") verb then get_line x y
-    else (if is_word (codes "delete") verb then delete_line x y
-    else (if is_word (codes "reply") verb then reply_line x y
-    else None))
+abbrev pub open_line : List (List ℕ) → Result Line Fault
+open_line fields = if length fields == 1 then Ok OpenSession else Err (Bad whys.Count)
 
 -- `put S KEY BYTES`
-abbrev pub put_line : List ℕ → List ℕ → List ℕ → Option Line
-put_line s k b = all_three (λ session key bytes. Begin session (calls.Put key bytes)) (session_of s) (key_of k) (bytes_of b)
+abbrev pub put_line : List (List ℕ) → Result Line Fault
+put_line fields = counted (three_of fields) (λ p. with (session_in p.0) (λ session. with (key_in p.1) (λ key. with (bytes_in p.2) (λ bytes. Ok (Begin session (calls.Put key bytes))))))
+
+-- `delete S KEY`
+abbrev pub delete_line : List (List ℕ) → Result Line Fault
+delete_line fields = counted (two_of fields) (λ p. with (session_in p.0) (λ session. with (key_in p.1) (λ key. Ok (Begin session (calls.Delete key)))))
+
+-- `get S KEY`
+abbrev pub get_line : List (List ℕ) → Result Line Fault
+get_line fields = counted (two_of fields) (λ p. with (session_in p.0) (λ session. with (key_in p.1) (λ key. Ok (Begin session (calls.Get key)))))
+
+-- `deliver N`, `giveup N`, `take N`
+abbrev pub deliver_line : List (List ℕ) → Result Line Fault
+deliver_line fields = with (number_alone fields) (λ n. Ok (Deliver n))
+
+abbrev pub give_up_line : List (List ℕ) → Result Line Fault
+give_up_line fields = with (number_alone fields) (λ n. Ok (GiveUp n))
+
+abbrev pub take_line : List (List ℕ) → Result Line Fault
+take_line fields = with (number_alone fields) (λ n. Ok (Take n))
+
+-- `reply N WHICH`
+abbrev pub reply_line : List (List ℕ) → Result Line Fault
+reply_line fields = counted (two_of fields) (λ p. with (number_in p.0) (λ n. with (number_in p.1) (λ which. Ok (Reply n which))))
+
+-- `crash S`, `drain S`
+abbrev pub crash_line : List (List ℕ) → Result Line Fault
+crash_line fields = with (session_alone fields) (λ session. Ok (Crash session))
+
+abbrev pub drain_line : List (List ℕ) → Result Line Fault
+drain_line fields = with (session_alone fields) (λ session. Ok (Drain session))
 
 -- `settle S without LIST`
-abbrev pub settle_line : List ℕ → List ℕ → Option Line
-settle_line s w = both (λ session without. Settle session without) (session_of s) (sites_of w)
+abbrev pub settle_without : Option (List ℕ × List ℕ × List ℕ) → Result Line Fault
+settle_without found = counted found (λ p. with (session_in p.0) (λ session. if is_word (codes "without") p.1 then with (list_in p.2) (λ without. Ok (Settle session without)) else Err (Bad whys.Word)))
 
-abbrev pub line_of_three : List ℕ → List ℕ → List ℕ → List ℕ → Option Line
-line_of_three verb x y z =
-    if is_word (codes "put") verb then put_line x y z
-    else (if is_word (codes "settle") verb && is_word (codes "without") y then settle_line x z else None)
+-- the same, or `settle S`
+abbrev pub settle_by : Option (List ℕ) → List (List ℕ) → Result Line Fault
+settle_by (Some field) fields = with (session_in field) (λ session. Ok (Settle session []))
+settle_by None fields = settle_without (three_of fields)
 
--- the line of these fields, if they are those of one
-abbrev pub line_from : List (List ℕ) → Option Line
-line_from [] = None
-line_from (verb ∷ []) = line_of_word verb
-line_from (verb ∷ x ∷ []) = line_of_one verb x
-line_from (verb ∷ x ∷ y ∷ []) = line_of_two verb x y
-line_from (verb ∷ x ∷ y ∷ z ∷ []) = line_of_three verb x y z
-line_from (verb ∷ x ∷ y ∷ z ∷ a ∷ more) = None
+abbrev pub settle_line : List (List ℕ) → Result Line Fault
+settle_line fields = settle_by (one_of fields) fields
 
--- a line that is none of those is unbuilt
-abbrev pub is_or_unbuilt : Option Line → Reading
-is_or_unbuilt None = Unbuilt
-is_or_unbuilt (Some line) = Is line
+-- the line of these fields, of which the first asks for it
+abbrev pub line_from : Verb → List (List ℕ) → Result Line Fault
+line_from verbs.Session fields = open_line fields
+line_from verbs.Put fields = put_line fields
+line_from verbs.Delete fields = delete_line fields
+line_from verbs.Get fields = get_line fields
+line_from verbs.Deliver fields = deliver_line fields
+line_from verbs.Reply fields = reply_line fields
+line_from verbs.GiveUp fields = give_up_line fields
+line_from verbs.Take fields = take_line fields
+line_from verbs.Crash fields = crash_line fields
+line_from verbs.Settle fields = settle_line fields
+line_from verbs.Drain fields = drain_line fields
+line_from verbs.Unbuilt fields = Err (Bad whys.Unbuilt)
 
--- the reading of a line's fields; a line without fields is skipped
+abbrev pub is_or_faulty : Result Line Fault → Reading
+is_or_faulty (Ok line) = Is line
+is_or_faulty (Err fault) = Faulty fault
+
+-- the reading of a line's fields, by what the first one asks for
+abbrev pub reading_for : Option Verb → List (List ℕ) → Reading
+reading_for None fields = Faulty (Bad whys.Word)
+reading_for (Some verb) fields = is_or_faulty (line_from verb fields)
+
+-- a line without fields is skipped
+abbrev pub reading_by : Option (List ℕ) → List (List ℕ) → Reading
+reading_by None fields = Skipped
+reading_by (Some word) fields = reading_for (verb_of word) fields
+
 abbrev pub reading_of : List (List ℕ) → Reading
-reading_of [] = Skipped
-reading_of (verb ∷ more) = is_or_unbuilt (line_from (verb ∷ more))
+reading_of fields = reading_by (first_of fields) fields
 
 -- a line whose first byte is `#` is a comment
 abbrev pub read_line : List ℕ → Reading

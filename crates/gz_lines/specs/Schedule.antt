@@ -1,14 +1,15 @@
 -- Which texts are schedules, and the first line of a text that keeps it from being one.
-use Rattle.std.specs.Prelude.{ℕ, ◌≡◌, ◌-◌, ◌<◌, ◌≤◌, Bool, true, false, Vec, List, length, map, filter_map, Option, Some, None, Result, Ok, Err, slice_get}
-use Rattle.std.specs.Option.{option_map_or}
+use Rattle.std.specs.Prelude.{ℕ, ◌≡◌, ◌-◌, ◌<◌, ◌≤◌, Vec, List, length, map, filter_map, Option, Some, None, option_and_then, Result, Ok, Err, slice_get}
 use Rattle.std.specs.declared.alloc.Global.{Global}
 use Rattle.gz_core.specs.declared.texts.TextError.{TextError}
 use Rattle.gz_core.specs.declared.texts.TextError.TheVariants.{Bad, TooLong, NoMemory}
 use Rattle.gz_round.specs.Starting.{IsWithin}
+use Rattle.gz_lines.specs.declared.faults.Fault.{Fault}
+use Rattle.gz_lines.specs.declared.faults.Fault.TheVariants as faults
 use Rattle.gz_lines.specs.declared.line.Line.{Line}
 use Rattle.gz_lines.specs.declared.line.Line.TheVariants.{OpenSession, Begin, Deliver, Reply, GiveUp, Crash, Take, Settle, Drain}
 use Rattle.gz_lines.specs.declared.line.Reading.{Reading}
-use Rattle.gz_lines.specs.declared.line.Reading.TheVariants.{Skipped, Unbuilt, Is}
+use Rattle.gz_lines.specs.declared.line.Reading.TheVariants.{Skipped, Faulty, Is}
 use Rattle.gz_lines.specs.Texts.{lines}
 use Rattle.gz_lines.specs.Grammar.{read_line}
 
@@ -31,33 +32,33 @@ readings text = map read_line (lines text)
 -- the line that was read, if there is one
 abbrev pub line_of : Reading → Option Line
 line_of Skipped = None
-line_of Unbuilt = None
+line_of (Faulty fault) = None
 line_of (Is line) = Some line
 
--- a line that is skipped is built, too
-abbrev pub is_built : Reading → Bool
-is_built Skipped = true
-is_built Unbuilt = false
-is_built (Is line) = true
+-- the fault of a line, if it has one
+abbrev pub fault_of : Reading → Option Fault
+fault_of Skipped = None
+fault_of (Faulty fault) = Some fault
+fault_of (Is line) = None
 
--- the line at a place is built; a place past the last line has none
-abbrev pub is_built_at : List Reading → ℕ → Bool
-is_built_at all i = option_map_or is_built (slice_get all i) true
+-- the fault of the line at a place, if there is a line and it has one
+abbrev pub fault_at : List Reading → ℕ → Option Fault
+fault_at all i = option_and_then fault_of (slice_get all i)
 
--- no line above this place is unbuilt
-abbrev pub AreBuilt : List Reading → ℕ → Type 0
-AreBuilt all n = (i : ℕ) → i < n → is_built_at all i ≡ true
+-- no line above this place has a fault
+abbrev pub AreFaultless : List Reading → ℕ → Type 0
+AreFaultless all n = (i : ℕ) → i < n → fault_at all i ≡ None
 
--- this line, counted from 1, is the first that is unbuilt
-pub record IsFirstUnbuilt (all : List Reading) (line : ℕ) : Type 0 where
+-- this line, counted from 1, is the first with a fault, and has this one
+pub record IsFirstFault (all : List Reading) (line : ℕ) (fault : Fault) : Type 0 where
   pub counted : 1 ≤ line
   pub within : line ≤ length all
-  pub above : AreBuilt all (line - 1)
-  pub unbuilt : is_built_at all (line - 1) ≡ false
+  pub above : AreFaultless all (line - 1)
+  pub found : fault_at all (line - 1) ≡ Some fault
 
--- a text is a schedule exactly where each line is built; else the first line that isn't is told
+-- a text is a schedule exactly where no line has a fault; else the first line with one is told, with its fault
 abbrev pub Reads : List ℕ → Result (Vec Line Global) TextError → Type 0
-Reads text (Ok found) = AreBuilt (readings text) (length (readings text)) × (found.items ≡ filter_map line_of (readings text))
-Reads text (Err (Bad line why)) = IsFirstUnbuilt (readings text) line
-Reads text (Err (TooLong line)) = ⊥
+Reads text (Ok found) = AreFaultless (readings text) (length (readings text)) × (found.items ≡ filter_map line_of (readings text))
+Reads text (Err (Bad line why)) = IsFirstFault (readings text) line (faults.Bad why)
+Reads text (Err (TooLong line)) = IsFirstFault (readings text) line faults.TooLong
 Reads text (Err NoMemory) = Unit {0}

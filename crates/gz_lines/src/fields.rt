@@ -1,15 +1,12 @@
-//! The forms of fields: numbers, sites, keys and bytes.
+//! The forms of fields: numbers, sites and keys.
 ghost use Rattle.std.specs.Prelude.{◌≡◌, ◌==◌, ◌<◌, ◌≤◌, ◌^◌, IfOk, IsTrue, min, slice_index, map, filter_map};
 ghost use Rattle.std.specs.List.{list_all};
 ghost use Rattle.std.specs.Char.{is_ascii_digit};
-ghost use Rattle.gz_lines.specs.Fields.{is_numeral, value_of, number_of, from_one, session_of, site_of, sites_of, is_printable, is_key_field, key_of, bytes_of};
+ghost use Rattle.gz_lines.specs.Fields.{is_numeral, value_of, number_of, from_one, session_of, site_of, sites_of, is_printable, is_key_field, key_of};
 
 use crate::cut;
 use gz_core::{Items, Key, Session, SiteId};
 use std::alloc::{AllocError, Global};
-
-/// The most bytes that a line may write.
-pub const MOST_BYTES: usize = 65_536;
 
 // One more than the greatest number of a field.
 const NUMBERS: u64 = 1 << 32;
@@ -143,18 +140,4 @@ pub fn key(alloc: Global, field: &[u8]) -> Result<Option<Key>, AllocError>
     }
     let bytes = Vec::from_slice(alloc, field)?;
     Ok(Key::new(bytes))
-}
-
-/// Bytes: `x:` and an even number of hexadecimal digits.
-pub fn bytes(alloc: Global, field: &[u8]) -> Result<Option<Items<u8>>, AllocError>
-    ensures { IfOk result (λ bytes. bytes ≡ bytes_of field.now) }
-{
-    let [b'x', b':', digits @ ..] = field else {
-        return Ok(None);
-    };
-    match hex::decode(alloc, digits) {
-        Ok(bytes) if bytes.len() <= MOST_BYTES => Ok(Some(Items::from_vec(bytes))),
-        Err(hex::FromHexError::OutOfMemory) => Err(AllocError),
-        _ => Ok(None),
-    }
 }

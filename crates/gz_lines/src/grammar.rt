@@ -1,10 +1,17 @@
-//! What a line of a schedule reads as.
+//! What a line of a schedule reads as. The first fault from the left is told: first that of the word, then that of the
+//! number of fields, then that of a field.
 ghost use Rattle.std.specs.Prelude.{◌≡◌, IfOk, map};
-ghost use Rattle.gz_lines.specs.Grammar.{line_of_word, line_of_one, line_of_number, line_of_session, line_of_two, line_of_three, get_line, delete_line, reply_line, put_line, settle_line, line_from, reading_of, read_line};
+ghost use Rattle.gz_lines.specs.Grammar.{open_line, put_line, delete_line, get_line, reply_line, settle_without, settle_line, line_from, reading_of, read_line, key_in, list_in};
+ghost use Rattle.gz_lines.specs.Counts.{three_of};
 
+use crate::bytes::bytes;
+use crate::counts::{first, one, three, two};
+use crate::faults::Fault;
 use crate::line::{Line, Reading};
+use crate::numbers::{crash, deliver, drain, give_up, number, session, settle_all, take};
+use crate::verbs::{Verb, verb_of};
 use crate::{cut, fields};
-use gz_core::{Call, Items, Session};
+use gz_core::{Call, Items, Key, SiteId, Why};
 use std::alloc::{AllocError, Global};
 
 /// The reading of a line.
@@ -25,178 +32,164 @@ pub fn read_line(alloc: Global, line: &[u8]) -> Result<Reading, AllocError>
 fn reading(alloc: Global, fields: &[&[u8]]) -> Result<Reading, AllocError>
     ensures { IfOk result (λ reading. reading ≡ reading_of (map (λ x. x.now) fields.now)) }
 {
-    if fields.is_empty() {
+    let Some(word) = first(fields) else {
         return Ok(Reading::Skipped);
-    }
-    match line(alloc, fields)? {
-        Some(line) => Ok(Reading::Is(line)),
-        None => Ok(Reading::Unbuilt),
-    }
-}
-
-// The line of these fields.
-fn line(alloc: Global, fields: &[&[u8]]) -> Result<Option<Line>, AllocError>
-    ensures { IfOk result (λ line. line ≡ line_from (map (λ x. x.now) fields.now)) }
-{
-    match fields {
-        [] => Ok(None),
-        [verb] => Ok(line_of_word(verb)),
-        [verb, field] => Ok(line_of_one(alloc, verb, field)),
-        [verb, first, second] => line_of_two(alloc, verb, first, second),
-        [verb, first, second, third] => line_of_three(alloc, verb, first, second, third),
-        [_, _, _, _, _, ..] => Ok(None),
+    };
+    let Some(verb) = verb_of(word) else {
+        return Ok(Reading::Faulty(Fault::Bad(Why::Word)));
+    };
+    match line(alloc, verb, fields)? {
+        Ok(line) => Ok(Reading::Is(line)),
+        Err(fault) => Ok(Reading::Faulty(fault)),
     }
 }
 
-// A line of one word.
-fn line_of_word(verb: &[u8]) -> Option<Line>
-    ensures { result ≡ line_of_word verb.now }
+// The line of these fields, of which the first asks for it.
+fn line(alloc: Global, verb: Verb, fields: &[&[u8]]) -> Result<Result<Line, Fault>, AllocError>
+    ensures { IfOk result (λ line. line ≡ line_from verb (map (λ x. x.now) fields.now)) }
 {
-    if verb == b"session".as_slice() {
-        Some(Line::OpenSession)
+    match verb {
+        Verb::Session => Ok(open_session(fields)),
+        Verb::Put => put(alloc, fields),
+        Verb::Delete => delete(alloc, fields),
+        Verb::Get => get(alloc, fields),
+        Verb::Deliver => Ok(deliver(fields)),
+        Verb::Reply => Ok(reply(fields)),
+        Verb::GiveUp => Ok(give_up(fields)),
+        Verb::Take => Ok(take(fields)),
+        Verb::Crash => Ok(crash(fields)),
+        Verb::Settle => settle(alloc, fields),
+        Verb::Drain => Ok(drain(fields)),
+        Verb::Unbuilt => Ok(Err(Fault::Bad(Why::Unbuilt))),
+    }
+}
+
+fn open_session(fields: &[&[u8]]) -> Result<Line, Fault>
+    ensures { result ≡ open_line (map (λ x. x.now) fields.now) }
+{
+    if fields.len() == 1 {
+        Ok(Line::OpenSession)
     } else {
-        None
+        Err(Fault::Bad(Why::Count))
     }
 }
 
-// A line of a word and a field. Each such field is a number.
-fn line_of_one(alloc: Global, verb: &[u8], field: &[u8]) -> Option<Line>
-    ensures { result ≡ line_of_one verb.now field.now }
+fn put(alloc: Global, fields: &[&[u8]]) -> Result<Result<Line, Fault>, AllocError>
+    ensures { IfOk result (λ line. line ≡ put_line (map (λ x. x.now) fields.now)) }
 {
-    let n = fields::number(field)?;
-    line_of_number(alloc, verb, n)
-}
-
-// A line of a word and a number.
-fn line_of_number(alloc: Global, verb: &[u8], n: u32) -> Option<Line>
-    ensures { result ≡ line_of_number verb.now n }
-{
-    if verb == b"deliver".as_slice() {
-        Some(Line::Deliver { n })
-    } else if verb == b"giveup".as_slice() {
-        Some(Line::GiveUp { n })
-    } else if verb == b"take".as_slice() {
-        Some(Line::Take { n })
-    } else {
-        let session = fields::session_numbered(n)?;
-        line_of_session(alloc, verb, session)
-    }
-}
-
-// A line of a word and a session.
-fn line_of_session(alloc: Global, verb: &[u8], session: Session) -> Option<Line>
-    ensures { result ≡ line_of_session verb.now session }
-{
-    if verb == b"crash".as_slice() {
-        Some(Line::Crash { session })
-    } else if verb == b"drain".as_slice() {
-        Some(Line::Drain { session })
-    } else if verb == b"settle".as_slice() {
-        let without = Items::new(alloc);
-        Some(Line::Settle { session, without })
-    } else {
-        None
-    }
-}
-
-// A line of a word and two fields.
-fn line_of_two(
-    alloc: Global,
-    verb: &[u8],
-    first: &[u8],
-    second: &[u8],
-) -> Result<Option<Line>, AllocError>
-    ensures { IfOk result (λ line. line ≡ line_of_two verb.now first.now second.now) }
-{
-    if verb == b"get".as_slice() {
-        get(alloc, first, second)
-    } else if verb == b"delete".as_slice() {
-        delete(alloc, first, second)
-    } else if verb == b"reply".as_slice() {
-        Ok(reply(first, second))
-    } else {
-        Ok(None)
-    }
-}
-
-// A line of a word and three fields.
-fn line_of_three(
-    alloc: Global,
-    verb: &[u8],
-    first: &[u8],
-    second: &[u8],
-    third: &[u8],
-) -> Result<Option<Line>, AllocError>
-    ensures { IfOk result (λ line. line ≡ line_of_three verb.now first.now second.now third.now) }
-{
-    if verb == b"put".as_slice() {
-        put(alloc, first, second, third)
-    } else if verb == b"settle".as_slice() && second == b"without".as_slice() {
-        settle(alloc, first, third)
-    } else {
-        Ok(None)
-    }
-}
-
-fn get(alloc: Global, session: &[u8], key: &[u8]) -> Result<Option<Line>, AllocError>
-    ensures { IfOk result (λ line. line ≡ get_line session.now key.now) }
-{
-    let Some(session) = fields::session(session) else {
-        return Ok(None);
+    let Some((owner, key, bytes_field)) = three(fields) else {
+        return Ok(Err(Fault::Bad(Why::Count)));
     };
-    let Some(key) = fields::key(alloc, key)? else {
-        return Ok(None);
+    let session = match session(owner) {
+        Ok(session) => session,
+        Err(fault) => return Ok(Err(fault)),
     };
-    let call = Call::Get { key };
-    Ok(Some(Line::Begin { session, call }))
-}
-
-fn delete(alloc: Global, session: &[u8], key: &[u8]) -> Result<Option<Line>, AllocError>
-    ensures { IfOk result (λ line. line ≡ delete_line session.now key.now) }
-{
-    let Some(session) = fields::session(session) else {
-        return Ok(None);
+    let key = match key_in(alloc, key)? {
+        Ok(key) => key,
+        Err(fault) => return Ok(Err(fault)),
     };
-    let Some(key) = fields::key(alloc, key)? else {
-        return Ok(None);
-    };
-    let call = Call::Delete { key };
-    Ok(Some(Line::Begin { session, call }))
-}
-
-fn reply(n: &[u8], which: &[u8]) -> Option<Line>
-    ensures { result ≡ reply_line n.now which.now }
-{
-    let n = fields::number(n)?;
-    let which = fields::number(which)?;
-    Some(Line::Reply { n, which })
-}
-
-fn put(alloc: Global, session: &[u8], key: &[u8], bytes: &[u8]) -> Result<Option<Line>, AllocError>
-    ensures { IfOk result (λ line. line ≡ put_line session.now key.now bytes.now) }
-{
-    let Some(session) = fields::session(session) else {
-        return Ok(None);
-    };
-    let Some(key) = fields::key(alloc, key)? else {
-        return Ok(None);
-    };
-    let Some(bytes) = fields::bytes(alloc, bytes)? else {
-        return Ok(None);
+    let bytes = match bytes(alloc, bytes_field)? {
+        Ok(bytes) => bytes,
+        Err(fault) => return Ok(Err(fault)),
     };
     let call = Call::Put { key, bytes };
-    Ok(Some(Line::Begin { session, call }))
+    Ok(Ok(Line::Begin { session, call }))
+}
+
+fn delete(alloc: Global, fields: &[&[u8]]) -> Result<Result<Line, Fault>, AllocError>
+    ensures { IfOk result (λ line. line ≡ delete_line (map (λ x. x.now) fields.now)) }
+{
+    let Some((owner, key)) = two(fields) else {
+        return Ok(Err(Fault::Bad(Why::Count)));
+    };
+    let session = match session(owner) {
+        Ok(session) => session,
+        Err(fault) => return Ok(Err(fault)),
+    };
+    let key = match key_in(alloc, key)? {
+        Ok(key) => key,
+        Err(fault) => return Ok(Err(fault)),
+    };
+    let call = Call::Delete { key };
+    Ok(Ok(Line::Begin { session, call }))
+}
+
+fn get(alloc: Global, fields: &[&[u8]]) -> Result<Result<Line, Fault>, AllocError>
+    ensures { IfOk result (λ line. line ≡ get_line (map (λ x. x.now) fields.now)) }
+{
+    let Some((owner, key)) = two(fields) else {
+        return Ok(Err(Fault::Bad(Why::Count)));
+    };
+    let session = match session(owner) {
+        Ok(session) => session,
+        Err(fault) => return Ok(Err(fault)),
+    };
+    let key = match key_in(alloc, key)? {
+        Ok(key) => key,
+        Err(fault) => return Ok(Err(fault)),
+    };
+    let call = Call::Get { key };
+    Ok(Ok(Line::Begin { session, call }))
+}
+
+fn reply(fields: &[&[u8]]) -> Result<Line, Fault>
+    ensures { result ≡ reply_line (map (λ x. x.now) fields.now) }
+{
+    let Some((n, which)) = two(fields) else {
+        return Err(Fault::Bad(Why::Count));
+    };
+    let n = number(n)?;
+    let which = number(which)?;
+    Ok(Line::Reply { n, which })
+}
+
+// A call that is carried to its end, perhaps without some sites.
+fn settle(alloc: Global, fields: &[&[u8]]) -> Result<Result<Line, Fault>, AllocError>
+    ensures { IfOk result (λ line. line ≡ settle_line (map (λ x. x.now) fields.now)) }
+{
+    match one(fields) {
+        Some(owner) => Ok(settle_all(alloc, owner)),
+        None => settle_without(alloc, fields),
+    }
 }
 
 // A call that is carried to its end without some sites.
-fn settle(alloc: Global, session: &[u8], without: &[u8]) -> Result<Option<Line>, AllocError>
-    ensures { IfOk result (λ line. line ≡ settle_line session.now without.now) }
+fn settle_without(alloc: Global, fields: &[&[u8]]) -> Result<Result<Line, Fault>, AllocError>
+    ensures { IfOk result (λ line. line ≡ settle_without (three_of (map (λ x. x.now) fields.now))) }
 {
-    let Some(session) = fields::session(session) else {
-        return Ok(None);
+    let Some((owner, word, sites)) = three(fields) else {
+        return Ok(Err(Fault::Bad(Why::Count)));
     };
-    let Some(without) = fields::sites(alloc, without)? else {
-        return Ok(None);
+    let session = match session(owner) {
+        Ok(session) => session,
+        Err(fault) => return Ok(Err(fault)),
     };
-    Ok(Some(Line::Settle { session, without }))
+    if word != b"without".as_slice() {
+        return Ok(Err(Fault::Bad(Why::Word)));
+    }
+    let without = match list_in(alloc, sites)? {
+        Ok(without) => without,
+        Err(fault) => return Ok(Err(fault)),
+    };
+    Ok(Ok(Line::Settle { session, without }))
+}
+
+// A key.
+fn key_in(alloc: Global, field: &[u8]) -> Result<Result<Key, Fault>, AllocError>
+    ensures { IfOk result (λ key. key ≡ key_in field.now) }
+{
+    match fields::key(alloc, field)? {
+        Some(key) => Ok(Ok(key)),
+        None => Ok(Err(Fault::Bad(Why::Key))),
+    }
+}
+
+// A list of sites.
+fn list_in(alloc: Global, field: &[u8]) -> Result<Result<Items<SiteId>, Fault>, AllocError>
+    ensures { IfOk result (λ sites. sites ≡ list_in field.now) }
+{
+    match fields::sites(alloc, field)? {
+        Some(sites) => Ok(Ok(sites)),
+        None => Ok(Err(Fault::Bad(Why::List))),
+    }
 }

@@ -1,11 +1,17 @@
 //! The lines of schedules, and how they are read.
 #![tactic(auto)]
 
+pub mod bytes;
+mod counts;
 mod cut;
+pub mod faults;
 pub mod fields;
 mod grammar;
 pub mod line;
+mod numbers;
 pub mod schedule;
+mod verbs;
 
+pub use faults::Fault;
 pub use line::Line;
 pub use schedule::read_schedule;

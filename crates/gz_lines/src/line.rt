@@ -1,4 +1,5 @@
 //! A line of a schedule.
+use crate::faults::Fault;
 use gz_core::{Call, Items, Session, SiteId};
 
 /// What a line of a schedule asks for. Requests and replies count from 1.
@@ -70,7 +71,7 @@ impl Drop for Line {
 pub enum Reading {
     /// An empty line, a line of blanks, or a comment.
     Skipped,
-    /// A line that is none of those that can be played.
-    Unbuilt,
+    /// A line with a fault.
+    Faulty(Fault),
     Is(Line),
 }

@@ -1,14 +1,15 @@
 //! A schedule: the lines that the program plays.
 ghost use Rattle.std.specs.Prelude.{◌≡◌, ◌<◌, ◌≤◌, ◌+◌, ◌-◌, ◌^◌, length, map, filter_map, IfOk, MatchOption, All};
-ghost use Rattle.gz_lines.specs.Schedule.{readings, line_of, is_built, is_built_at, AreBuilt, IsFirstUnbuilt, IsBounded, Reads};
+ghost use Rattle.gz_lines.specs.Schedule.{readings, line_of, fault_of, AreFaultless, IsFirstFault, IsBounded, Reads};
 
 use crate::cut;
+use crate::faults::Fault;
 use crate::grammar::read_line;
 use crate::line::{Line, Reading};
-use gz_core::{TextError, Why};
+use gz_core::TextError;
 use std::alloc::{AllocError, Global};
 
-/// The lines of a schedule, or the first line that can't be played, counted from 1.
+/// The lines of a schedule, or the first line with a fault, counted from 1.
 #[tactic(auto, using(crate::proofs::CutLemmas::length_readings))]
 pub fn read_schedule(alloc: Global, bytes: &[u8]) -> Result<Vec<Line>, TextError>
     requires { length bytes.now < 2 ^ 32 - 1 }
@@ -19,11 +20,8 @@ pub fn read_schedule(alloc: Global, bytes: &[u8]) -> Result<Vec<Line>, TextError
     let Ok(readings) = readings(alloc, bytes) else {
         return Err(TextError::NoMemory);
     };
-    if let Some(line) = first_unbuilt(readings.as_slice()) {
-        return Err(TextError::Bad {
-            line,
-            why: Why::Unbuilt,
-        });
+    if let Some((line, fault)) = first_fault(readings.as_slice()) {
+        return Err(fault.at(line));
     }
     match lines_read(alloc, readings) {
         Ok(lines) => Ok(lines),
@@ -66,24 +64,25 @@ fn line_of(reading: Reading) -> Option<Line>
     }
 }
 
-// The first line that can't be played, counted from 1.
-fn first_unbuilt(readings: &[Reading]) -> Option<u32>
+// The first line with a fault, counted from 1, and its fault.
+fn first_fault(readings: &[Reading]) -> Option<(u32, Fault)>
     requires { length readings.now < 2 ^ 32 }
-    ensures { MatchOption result (AreBuilt readings.now (length readings.now)) (IsFirstUnbuilt readings.now) }
+    ensures { MatchOption result (AreFaultless readings.now (length readings.now)) (λ found. IsFirstFault readings.now found.0 found.1) }
 {
     for i in 0..readings.len() {
-        if !is_built(&readings[i]) {
-            return Some(i as u32 + 1);
+        if let Some(fault) = fault_of(&readings[i]) {
+            return Some((i as u32 + 1, fault));
         }
     }
     None
 }
 
-fn is_built(reading: &Reading) -> bool
-    ensures { result ≡ is_built reading.now }
+// The fault of a line, where it has one.
+fn fault_of(reading: &Reading) -> Option<Fault>
+    ensures { result ≡ fault_of reading.now }
 {
     match reading {
-        Reading::Unbuilt => false,
-        _ => true,
+        Reading::Faulty(fault) => Some(*fault),
+        _ => None,
     }
 }

@@ -1,5 +1,7 @@
-//! Tests of what texts read as: configurations.
+//! Tests of what texts read as: configurations and schedules.
 #![tactic(auto)]
 
+#[cfg(test)]
+mod schedules;
 #[cfg(test)]
 mod settings;

@@ -1,11 +1,9 @@
-//! Tests of worlds over sites in memory, and of the schedules that are read and played in them.
+//! Tests of worlds over sites in memory, and of the schedules that are played in them.
 #![tactic(auto)]
 
 #[cfg(test)]
 mod opened;
 #[cfg(test)]
 mod played;
-#[cfg(test)]
-mod read;
 #[cfg(test)]
 mod worlds;

@@ -1,7 +1,6 @@
 //! Texts of schedules, read and refused.
 use gz_core::{Call, Key, SiteId, TextError, Why};
-use gz_script::line::Line;
-use gz_script::read_schedule;
+use gz_lines::{Line, read_schedule};
 use std::alloc::Global;
 use std::test::Fail;
 
@@ -152,53 +151,70 @@ fn schedules_are_read(rt: HostRuntime) {
     }
 }
 
-/// The line that a text is refused at, if it is.
-fn refused_at(alloc: Global, text: &str) -> Option<u32> {
+/// What a text is refused with, if it is.
+fn refusal_of(alloc: Global, text: &str) -> Option<TextError> {
     if text.len() >= 100 {
         return None;
     }
     match read_schedule(alloc, text.as_bytes()) {
-        Err(
-            TextError::Bad {
-                line,
-                why: Why::Unbuilt,
-            },
-        ) => Some(line),
-        _ => None,
+        Err(error) => Some(error),
+        Ok(_) => None,
     }
 }
 
-/// Texts, and the first line of each that can't be played.
-const REFUSED: &[(&str, u32)] = &[
-    ("session\ngetat 1 a 1\n", 2),
-    ("session\npat 1 a\n", 2),
-    ("# c\n\nsession\nput 1 a x:0\nsettle 1\n", 4),
-    ("session\nput 01 a x:01\nsettle 1\n", 2),
-    ("deliver 1\ndeliver 01\n", 2),
-    ("deliver 4294967296\n", 1),
-    ("deliver\n", 1),
-    ("take 1\ntake -1\n", 2),
-    ("delete 1\n", 1),
-    ("delete 0 a\n", 1),
-    ("session\ndelete 1 a x:01\n", 2),
-    ("giveup 1 2\n", 1),
-    ("crash 1\ncrash 0\n", 2),
-    ("drain x\n", 1),
-    ("reply 1\n", 1),
-    ("reply 1 1\nreply 1 1 1\n", 2),
-    ("settle 0\n", 1),
-    ("settle 1 without\n", 1),
-    ("settle 1 with 1\n", 1),
-    ("settle 1 without 16\n", 1),
-    ("settle 1 without 1,\n", 1),
-    ("settle 1 without 1, 2\n", 1),
-    ("settle 1 without ,1\n", 1),
+/// Texts, and the first line of each that has a fault, with its fault.
+const REFUSED: &[(&str, u32, Why)] = &[
+    ("session\ngetat 1 a\n", 2, Why::Unbuilt),
+    ("collect 0 a 1\n", 1, Why::Unbuilt),
+    ("lose\nput 1\n", 1, Why::Unbuilt),
+    ("take 1\n\nrot 1 a 1.1 0 y:\n", 3, Why::Unbuilt),
+    ("session\npat 1 a\n", 2, Why::Word),
+    ("Session\n", 1, Why::Word),
+    ("session 1\n", 1, Why::Count),
+    ("# c\n\nsession\nput 1 a x:0\nsettle 1\n", 4, Why::Bytes),
+    ("session\nput 01 a x:01\nsettle 1\n", 2, Why::Number),
+    ("put 1 a\n", 1, Why::Count),
+    ("put 0 a\x07 y\n", 1, Why::Number),
+    ("put 1 a\x07 y\n", 1, Why::Key),
+    ("put 1 a 01\n", 1, Why::Bytes),
+    ("put 1 a g:0\n", 1, Why::Bytes),
+    ("put 1 a g:0:01\n", 1, Why::Bytes),
+    ("put 1 a g:0:1:2\n", 1, Why::Bytes),
+    ("put 1 a g:4294967296:1\n", 1, Why::Bytes),
+    ("put 1 a g::1\n", 1, Why::Bytes),
+    ("deliver 1\ndeliver 01\n", 2, Why::Number),
+    ("deliver 4294967296\n", 1, Why::Number),
+    ("deliver\n", 1, Why::Count),
+    ("take 1\ntake -1\n", 2, Why::Number),
+    ("delete 1\n", 1, Why::Count),
+    ("delete 0 a\n", 1, Why::Number),
+    ("session\ndelete 1 a x:01\n", 2, Why::Count),
+    ("get 1 é\n", 1, Why::Key),
+    ("giveup 1 2\n", 1, Why::Count),
+    ("crash 1\ncrash 0\n", 2, Why::Number),
+    ("drain x\n", 1, Why::Number),
+    ("reply 1\n", 1, Why::Count),
+    ("reply 1 1\nreply 1 1 1\n", 2, Why::Count),
+    ("reply x y\nreply 1 y\n", 1, Why::Number),
+    ("settle 0\n", 1, Why::Number),
+    ("settle 1 without\n", 1, Why::Count),
+    ("settle 1 with 1\n", 1, Why::Word),
+    ("settle 0 with 1\n", 1, Why::Number),
+    ("settle 1 without 16\n", 1, Why::List),
+    ("settle 1 without 1,\n", 1, Why::List),
+    ("settle 1 without 1, 2\n", 1, Why::Count),
+    ("settle 1 without ,1\n", 1, Why::List),
+    ("session\r", 1, Why::Word),
 ];
 
-/// Has each of the texts refused; else the place of the first one that isn't, or at another line.
+/// Has each of the texts refused; else the place of the first one that isn't, or with another fault.
 fn refuse_each(alloc: Global) -> Result<(), usize> {
-    for (place, (text, line)) in REFUSED.iter().enumerate() {
-        if refused_at(alloc, text) != Some(*line) {
+    for (place, (text, line, why)) in REFUSED.iter().enumerate() {
+        let told = TextError::Bad {
+            line: *line,
+            why: *why,
+        };
+        if refusal_of(alloc, text) != Some(told) {
             return Err(place);
         }
     }
@@ -206,7 +222,56 @@ fn refuse_each(alloc: Global) -> Result<(), usize> {
 }
 
 #[test]
-fn the_first_line_that_is_not_built_is_told(rt: HostRuntime) -> Result<(), Fail> {
+fn the_first_fault_is_told(rt: HostRuntime) -> Result<(), Fail> {
     refuse_each(rt.alloc())?;
     Ok(())
+}
+
+/// Texts whose first faulty line has too many bytes, with the number of that line.
+const TOO_LONG: &[(&str, u32)] = &[
+    ("put 1 a g:0:1048577\n", 1),
+    ("session\n\nput 1 a g:4294967295:4294967295\nput 1\n", 3),
+];
+
+#[test]
+fn too_many_bytes_are_told(rt: HostRuntime) {
+    for (text, line) in TOO_LONG {
+        assert!(rt; refusal_of(rt.alloc(), text) == Some(TextError::TooLong { line: *line }));
+    }
+}
+
+/// The number of bytes of the one put of a short text, and the last of them.
+fn put_in(alloc: Global, text: &str) -> Option<(usize, u8)> {
+    if text.len() >= 100 {
+        return None;
+    }
+    let lines = read_schedule(alloc, text.as_bytes()).ok()?;
+    match lines.as_slice() {
+        [
+            Line::Begin {
+                call: Call::Put { bytes, .. },
+                ..
+            },
+        ] => {
+            let last = bytes.as_slice().last()?;
+            Some((bytes.len(), *last))
+        }
+        _ => None,
+    }
+}
+
+/// Puts of generated bytes, with their number and the last of them.
+const GENERATED: &[(&str, usize, u8)] = &[
+    ("put 1 a g:0:1", 1, 0x3c),
+    ("put 1 a g:0:2", 2, 0x47),
+    ("put 1 a g:0:3", 3, 0xd1),
+    ("put 1 a g:0:4", 4, 0xaa),
+    ("put 1 a g:4294967295:1048576", 1_048_576, 0x8e),
+];
+
+#[test]
+fn bytes_are_generated(rt: HostRuntime) {
+    for (text, count, last) in GENERATED {
+        assert!(rt; put_in(rt.alloc(), text) == Some((*count, *last)));
+    }
 }

@@ -1,0 +1,26 @@
+//! What is wrong with a line.
+ghost use Rattle.std.specs.Prelude.{◌≡◌};
+ghost use Rattle.gz_lines.specs.Faults.{error_at};
+
+use gz_core::{TextError, Why};
+
+/// What is wrong with a line.
+#[derive(Clone, Copy, Debug, PartialEq, Eq)]
+pub enum Fault {
+    /// The line is outside the grammar.
+    Bad(Why),
+    /// The line has more bytes than an object may have.
+    TooLong,
+}
+
+impl Fault {
+    /// The error of a text whose line, counted from 1, has this fault.
+    pub fn at(self, line: u32) -> TextError
+        ensures { result ≡ error_at line self }
+    {
+        match self {
+            Fault::Bad(why) => TextError::Bad { line, why },
+            Fault::TooLong => TextError::TooLong { line },
+        }
+    }
+}

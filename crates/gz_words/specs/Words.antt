@@ -1,0 +1,63 @@
+-- The words of the command line, and what they ask for.
+use Rattle.std.specs.Prelude.{ℕ, ◌≡◌, ◌+◌, ◌%◌, ◌≤◌, ◌==◌, ◌&&◌, Bool, true, false, nat_eq, nat_le, if◌then◌else◌, List, [], ◌∷◌, length, Option, Some, None, option_map, codes}
+use Rattle.std.specs.Char.{is_ascii_hexdigit}
+use Rattle.std.specs.Cmp.Lexicographic.{pointwise}
+use Rattle.std.specs.List.{list_all, list_any}
+use Rattle.gz_lines.specs.Fields.{number_of}
+use Rattle.gz_words.specs.declared.command.Command.{Command}
+use Rattle.gz_words.specs.declared.command.Command.TheVariants.{Replay, Code}
+
+-- what the words ask for: to replay the schedule of a name, under the configuration of a name, or to cut the bytes
+-- that digits spell into k + m pieces
+pub data Task : Type 0 where
+  replay : List ℕ → Option (List ℕ) → Task
+  code : ℕ → ℕ → List ℕ → Task
+
+-- the word begins with a dash
+abbrev pub is_option : List ℕ → Bool
+is_option [] = false
+is_option (b ∷ bs) = b == 45
+
+-- an even number of hexadecimal digits, in upper or lower case
+abbrev pub is_hex : List ℕ → Bool
+is_hex digits = (length digits % 2 == 0) && list_all is_ascii_hexdigit digits
+
+-- at least one data piece, and at most 256 pieces
+abbrev pub is_shape : ℕ → ℕ → Bool
+is_shape k m = nat_le 1 k && nat_le (k + m) 256
+
+-- `replay SCHEDULE` and `replay SCHEDULE CONFIG`
+abbrev pub replay_in : List ℕ → List ℕ → Option (List ℕ) → Option Task
+replay_in verb schedule config = if pointwise nat_eq verb (codes "replay") then Some (replay schedule config) else None
+
+-- `code K M HEX`, once the numbers are read
+abbrev pub code_of : Option ℕ → Option ℕ → List ℕ → Option Task
+code_of None m digits = None
+code_of (Some k) None digits = None
+code_of (Some k) (Some m) digits = if is_shape k m && is_hex digits then Some (code k m digits) else None
+
+abbrev pub code_in : List ℕ → List ℕ → List ℕ → List ℕ → Option Task
+code_in verb k m digits = if pointwise nat_eq verb (codes "code") then code_of (number_of k) (number_of m) digits else None
+
+-- what words without a dash ask for
+abbrev pub form_of : List (List ℕ) → Option Task
+form_of [] = None
+form_of (verb ∷ []) = None
+form_of (verb ∷ schedule ∷ []) = replay_in verb schedule None
+form_of (verb ∷ schedule ∷ config ∷ []) = replay_in verb schedule (Some config)
+form_of (verb ∷ k ∷ m ∷ digits ∷ []) = code_in verb k m digits
+form_of (verb ∷ a ∷ b ∷ c ∷ d ∷ more) = None
+
+-- what the words ask for, none where they are of no form; a word that begins with a dash is of no form
+abbrev pub task_in : List (List ℕ) → Option Task
+task_in words = if list_any is_option words then None else form_of words
+
+-- what a command asks for
+abbrev pub task_of : Command → Task
+task_of (Replay schedule config) = replay schedule.now (option_map (λ name. name.now) config)
+task_of (Code k m digits) = code k m digits.now
+
+-- the numbers and the digits of a command are those of a code
+abbrev pub IsSound : Command → Type 0
+IsSound (Replay schedule config) = Unit {0}
+IsSound (Code k m digits) = (1 ≤ k) × (k + m ≤ 256) × (is_hex digits.now ≡ true)

@@ -1,0 +1,109 @@
+//! The forms of words.
+ghost use Rattle.std.specs.Prelude.{◌≡◌, ◌&&◌, IfSome, map, option_map};
+ghost use Rattle.std.specs.Char.{is_ascii_hexdigit};
+ghost use Rattle.std.specs.List.{list_all, list_any};
+ghost use Rattle.gz_words.specs.Words.{task_in, task_of, form_of, replay_in, code_in, is_option, is_shape, is_hex, IsSound};
+
+use crate::command::Command;
+use gz_lines::fields::number;
+
+/// What the words ask for, none where they are of no form. A word that begins with a dash is of no form.
+pub fn own_reading<'a>(words: &[&'a str]) -> Option<Command<'a>>
+    ensures exact { option_map task_of result ≡ task_in (map (λ word. word.now) words.now) }
+    ensures sound { IfSome result IsSound }
+{
+    if has_option(words) {
+        None
+    } else {
+        form_of(words)
+    }
+}
+
+// Whether a word begins with a dash.
+fn has_option(words: &[&str]) -> bool
+    ensures { result ≡ list_any is_option (map (λ word. word.now) words.now) }
+{
+    for word in words {
+        if is_option(word) {
+            return true;
+        }
+    }
+    false
+}
+
+fn is_option(word: &str) -> bool
+    ensures { result ≡ is_option word.now }
+{
+    match word.as_bytes() {
+        [first, ..] => *first == b'-',
+        [] => false,
+    }
+}
+
+// What words without a dash ask for: `replay SCHEDULE`, `replay SCHEDULE CONFIG`, `code K M HEX`.
+#[tactic(auto, using(crate::proofs::Forms::no_form))]
+fn form_of<'a>(words: &[&'a str]) -> Option<Command<'a>>
+    ensures exact { option_map task_of result ≡ form_of (map (λ word. word.now) words.now) }
+    ensures sound { IfSome result IsSound }
+{
+    match words {
+        [] => None,
+        [_] => None,
+        [verb, schedule] => replay(verb, schedule, None),
+        [verb, schedule, config] => replay(verb, schedule, Some(*config)),
+        [verb, k, m, digits] => code(verb, k, m, digits),
+        [_, _, _, _, _, ..] => None,
+    }
+}
+
+fn replay<'a>(verb: &str, schedule: &'a str, config: Option<&'a str>) -> Option<Command<'a>>
+    ensures exact { option_map task_of result ≡ replay_in verb.now schedule.entry.now (option_map (λ name. name.now) config.entry) }
+    ensures sound { IfSome result IsSound }
+{
+    if verb == "replay" {
+        Some(Command::Replay { schedule, config })
+    } else {
+        None
+    }
+}
+
+fn code<'a>(verb: &str, k: &str, m: &str, digits: &'a str) -> Option<Command<'a>>
+    ensures exact { option_map task_of result ≡ code_in verb.now k.now m.now digits.entry.now }
+    ensures sound { IfSome result IsSound }
+{
+    if verb != "code" {
+        return None;
+    }
+    let k = number(k.as_bytes())?;
+    let m = number(m.as_bytes())?;
+    let digits = digits.as_bytes();
+    if is_shape(k, m) && is_hex(digits) {
+        Some(Command::Code {
+            k: k as usize,
+            m: m as usize,
+            digits,
+        })
+    } else {
+        None
+    }
+}
+
+// Whether there is at least one data piece, and there are at most 256 pieces.
+fn is_shape(k: u32, m: u32) -> bool
+    ensures { result ≡ is_shape k m }
+{
+    k >= 1 && k as u64 + m as u64 <= 256
+}
+
+// Whether these are an even number of hexadecimal digits.
+fn is_hex(digits: &[u8]) -> bool
+    ensures { result ≡ is_hex digits.now }
+{
+    digits.len() % 2 == 0 && are_hex_digits(digits)
+}
+
+fn are_hex_digits(digits: &[u8]) -> bool
+    ensures { result ≡ list_all is_ascii_hexdigit digits.now }
+{
+    digits.iter().all(|digit| digit.is_ascii_hexdigit())
+}

@@ -1,0 +1,10 @@
+//! The words of the command line: `clap` splits them, and the program's own grammar decides.
+#![tactic(auto)]
+
+pub mod command;
+mod grammar;
+mod parser;
+pub mod read;
+
+pub use command::Command;
+pub use read::{command_of, texts_of};
