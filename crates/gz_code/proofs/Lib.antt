@@ -2,6 +2,7 @@ pub mod Cutting
 pub mod Decoded
 pub mod Growing
 pub mod Interpolation
+pub mod OneSplit
 pub mod Pieces
 pub mod Rebuilding
 pub mod Refusals

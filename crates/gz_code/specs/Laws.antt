@@ -1,5 +1,6 @@
--- What polynomials of degree below k owe to their k coefficients.
-use Rattle.std.specs.Prelude.{◌≡◌, ◌≢◌, ℕ, ◌<◌, List, length, slice_index}
+-- What polynomials of degree below k owe to their k coefficients, and code words to them.
+use Rattle.std.specs.Prelude.{◌≡◌, ◌≢◌, ℕ, ◌+◌, ◌<◌, ◌≤◌, List, length, slice_index}
+use Rattle.gz_code.specs.CodeWord.{IsSplit}
 use Rattle.gz_code.specs.Polynomial.{value, IsPolynomial, ArePoints}
 
 -- with one coefficient that is not 0, any list of different zeros is shorter than k
@@ -13,3 +14,8 @@ abbrev pub EqualAtPointsIsEqual : Type 0
 EqualAtPointsIsEqual =
     (k : ℕ) (p q points : List ℕ) → IsPolynomial k p → IsPolynomial k q → ArePoints k (slice_index points)
     → ((j : ℕ) → j < k → value p (slice_index points j) ≡ value q (slice_index points j)) → p ≡ q
+
+-- two lists of pieces of one object are the same list
+abbrev pub SplitIsOne : Type 0
+SplitIsOne =
+    (k m : ℕ) (object : List ℕ) (first second : List (List ℕ)) → k + m ≤ 256 → IsSplit k m object first → IsSplit k m object second → first ≡ second

@@ -2,7 +2,7 @@
 //! pieces give it back.
 #![tactic(auto)]
 
-ghost use Rattle.gz_code.specs.Laws.{FewerZerosThanCoefficients, EqualAtPointsIsEqual};
+ghost use Rattle.gz_code.specs.Laws.{FewerZerosThanCoefficients, EqualAtPointsIsEqual, SplitIsOne};
 
 mod decode;
 mod encode;
@@ -21,4 +21,9 @@ pub fn fewer_zeros_than_coefficients()
 /// Law: two polynomials of degree below k that agree at k different points are equal.
 pub fn equal_at_points_is_equal()
     ensures { EqualAtPointsIsEqual }
+{}
+
+/// Law: an object has one list of k + m pieces, so any two that are its split are equal.
+pub fn split_is_one()
+    ensures { SplitIsOne }
 {}

@@ -1,0 +1,5 @@
+//! Tests of records as bytes.
+#![tactic(auto)]
+
+#[cfg(test)]
+mod fragments;

@@ -1,0 +1,4 @@
+pub mod Bytes
+pub mod Keys
+pub mod Fields
+pub mod Records
