@@ -1,4 +1,4 @@
-//! Calls on many objects, played over three sites in memory.
+//! Calls on many objects or on one, played over three sites in memory.
 ghost use Rattle.std.specs.Prelude.{◌≡◌, ◌<◌, ◌≤◌, IfOk, All};
 ghost use Rattle.gz_core.specs.Configurations.{IsConfig};
 ghost use Rattle.gz_lines.specs.Schedule.{IsBounded};
@@ -20,10 +20,18 @@ pub struct Played {
     pub events: usize,
 }
 
-/// Plays so many calls, of which every other one puts an object of its own and the next one gets it, and tells the time
-/// that the fastest of the rounds took.
-pub fn play_calls(rt: &HostRuntime, calls: u32, rounds: u32) -> Result<Played> {
-    let lines = lines_of(rt.alloc(), calls)?;
+/// What the calls of a schedule do.
+#[derive(Clone, Copy)]
+pub enum Load {
+    /// Every other call puts an object of its own, and the next one gets it.
+    Objects,
+    /// Every call puts one and the same object, whose rows grow by a column at each.
+    Rewrites,
+}
+
+/// Plays so many calls, and tells the time that the fastest of the rounds took.
+pub fn play_calls(rt: &HostRuntime, load: Load, calls: u32, rounds: u32) -> Result<Played> {
+    let lines = lines_of(rt.alloc(), load, calls)?;
     let mut best = play_once(rt, &lines)?;
     for _ in 1..rounds {
         let played = play_once(rt, &lines)?;
@@ -70,36 +78,51 @@ fn open(alloc: Global) -> Result<World<MemSite>>
 }
 
 /// The lines of the calls of one session.
-fn lines_of(alloc: Global, calls: u32) -> Result<Vec<Line>>
+fn lines_of(alloc: Global, load: Load, calls: u32) -> Result<Vec<Line>>
     ensures { IfOk result (λ lines. All IsBounded lines.items) }
 {
     let mut lines = Vec::new(alloc);
     lines.push(Line::OpenSession)?;
     for i in 0..calls {
-        lines.push(begin(call_of(alloc, i)?))?;
+        lines.push(begin(call_of(alloc, load, i)?))?;
         lines.push(settle(alloc))?;
     }
     Ok(lines)
 }
 
-/// The key of the calls `i` and `i + 1`, where `i` is even.
-fn key_of(alloc: Global, i: u32) -> Result<Key> {
-    match Key::new(format!(in alloc; "key-{}", i / 2)?.into_bytes()) {
+/// The key of an object.
+fn key_of(alloc: Global, object: u32) -> Result<Key> {
+    match Key::new(format!(in alloc; "key-{object}")?.into_bytes()) {
         Some(key) => Ok(key),
         None => bail!("no key"),
     }
 }
 
-/// A put of eight bytes, or a get of what the call before put.
-fn call_of(alloc: Global, i: u32) -> Result<Call>
+/// The call with a number, counted from 0.
+fn call_of(alloc: Global, load: Load, i: u32) -> Result<Call>
     ensures { IfOk result (λ call. IsWithin call) }
 {
-    let key = key_of(alloc, i)?;
-    if !i.is_multiple_of(2) {
-        return Ok(Call::Get { key });
+    match load {
+        Load::Rewrites => put_of(alloc, 0),
+        Load::Objects if i.is_multiple_of(2) => put_of(alloc, i / 2),
+        Load::Objects => get_of(alloc, i / 2),
     }
+}
+
+/// A put of eight bytes.
+fn put_of(alloc: Global, object: u32) -> Result<Call>
+    ensures { IfOk result (λ call. IsWithin call) }
+{
+    let key = key_of(alloc, object)?;
     let bytes = Items::from_slice(alloc, &[1, 2, 3, 4, 5, 6, 7, 8])?;
     Ok(Call::Put { key, bytes })
+}
+
+fn get_of(alloc: Global, object: u32) -> Result<Call>
+    ensures { IfOk result (λ call. IsWithin call) }
+{
+    let key = key_of(alloc, object)?;
+    Ok(Call::Get { key })
 }
 
 /// The line that begins a call.

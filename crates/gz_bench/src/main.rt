@@ -8,7 +8,7 @@ mod work;
 ghost use Rattle.std.specs.Prelude.{◌+◌, ◌≤◌};
 
 use anyhow::{Result, bail, ensure};
-use growth::play_calls;
+use growth::{Load, play_calls};
 use gz_code::{join, split, split_plainly};
 use std::alloc::Global;
 use std::env;
@@ -102,6 +102,15 @@ fn show_sums(rt: &HostRuntime) -> Result<()> {
     Ok(())
 }
 
+/// The load of a task that plays a schedule.
+fn load_of(task: &str) -> Result<Load> {
+    match task {
+        "growth" => Ok(Load::Objects),
+        "rewrites" => Ok(Load::Rewrites),
+        _ => bail!("no task {task}"),
+    }
+}
+
 /// Times a task on an object of so many bytes.
 fn time(rt: &HostRuntime, task: &str, job: &Job, len: usize) -> Result<u128> {
     let object = object_of(rt.alloc(), 1, len)?;
@@ -119,8 +128,8 @@ fn show_time(rt: &HostRuntime, task: &str, job: &Job, len: &str) -> Result<()> {
     Ok(())
 }
 
-fn show_growth(rt: &HostRuntime, calls: &str, rounds: &str) -> Result<()> {
-    let played = play_calls(rt, calls.parse()?, rounds.parse()?)?;
+fn show_growth(rt: &HostRuntime, load: Load, calls: &str, rounds: &str) -> Result<()> {
+    let played = play_calls(rt, load, calls.parse()?, rounds.parse()?)?;
     println!(rt; "{} {}", played.nanoseconds, played.events)?;
     Ok(())
 }
@@ -128,9 +137,9 @@ fn show_growth(rt: &HostRuntime, calls: &str, rounds: &str) -> Result<()> {
 fn run(rt: &HostRuntime, words: &[String]) -> Result<()> {
     match words {
         [_] => show_sums(rt),
-        [_, task, calls, rounds] if task.as_str() == "growth" => show_growth(rt, calls, rounds),
+        [_, task, calls, rounds] => show_growth(rt, load_of(task)?, calls, rounds),
         [_, task, k, m, len, rounds] => show_time(rt, task, &Job::parse(k, m, rounds)?, len),
-        _ => bail!("usage: gz_bench [TASK K M LENGTH ROUNDS | growth CALLS ROUNDS]"),
+        _ => bail!("usage: gz_bench [TASK K M LENGTH ROUNDS | growth CALLS ROUNDS | rewrites PUTS ROUNDS]"),
     }
 }
 

@@ -60,16 +60,9 @@ impl Client {
         ensures same { IsSameClient self.old self.new }
         ensures err { OnErr result (self.new ≡ self.old) }
     {
-        let name = PutName {
-            session: self.session,
-            seq: self.calls + 1,
-        };
-        let mut run = Run::start(alloc, &self.config, name, call, self.round)?;
-        let send = run.open(alloc, &self.config, first)?;
-        self.calls += 1;
-        self.round = run.round;
-        self.run = Some(run);
-        Ok(Turn { send, answer: None })
+        let (client, turn) = self.begun(alloc, call, first)?;
+        *self = client;
+        Ok(turn)
     }
 
     /// Hands the client a reply of request `n`, which it awaits. What it sends at this goes out under the
@@ -88,10 +81,9 @@ impl Client {
         ensures same { IsSameClient self.old self.new }
         ensures err { OnErr result (self.new ≡ self.old) }
     {
-        let mut run = self.copy_run()?;
-        let at = run.site_of(n);
-        run.note_reply(alloc, at, answer)?;
-        self.act(alloc, run, first)
+        let (client, turn) = self.handed(alloc, n, answer, first)?;
+        *self = client;
+        Ok(turn)
     }
 
     /// Tells the client that request `n`, which it awaits, won't be answered. What it sends at this goes out
@@ -104,28 +96,95 @@ impl Client {
         ensures same { IsSameClient self.old self.new }
         ensures err { OnErr result (self.new ≡ self.old) }
     {
+        let (client, turn) = self.gave_up(alloc, n, first)?;
+        *self = client;
+        Ok(turn)
+    }
+
+    /// The client once it has begun a call, and its turn, for a caller that has more memory to take before it changes.
+    pub fn begun(&self, alloc: Global, call: Call, first: u32) -> Result<(Client, Turn), AllocError>
+        requires begin { CanBegin self.now }
+        requires within { IsWithin call }
+        requires first { first < 2 ^ 31 }
+
+        ensures ok { IfOk result (λ after. Begins self.now after.0 first call after.1) }
+        ensures same { IfOk result (λ after. IsSameClient self.now after.0) }
+    {
+        let name = PutName {
+            session: self.session,
+            seq: self.calls + 1,
+        };
+        let mut run = Run::start(alloc, &self.config, name, call, self.round)?;
+        let send = run.open(alloc, &self.config, first)?;
+        let turn = Turn { send, answer: None };
+        Ok((self.with_run(self.calls + 1, run.round, Some(run)), turn))
+    }
+
+    /// The client once a reply of request `n`, which it awaits, was handed to it, and its turn, for a caller that has more
+    /// memory to take before it changes.
+    pub fn handed(
+        &self,
+        alloc: Global,
+        n: u32,
+        answer: &Reply,
+        first: u32,
+    ) -> Result<(Client, Turn), AllocError>
+        requires told { CanBeTold self.now n first }
+        requires first { first < 2 ^ 31 }
+
+        ensures ok { IfOk result (λ after. Extends self.now after.0 n first (λ a. Handed a answer.now) after.1) }
+        ensures same { IfOk result (λ after. IsSameClient self.now after.0) }
+    {
+        let mut run = self.copy_run()?;
+        let at = run.site_of(n);
+        run.note_reply(alloc, at, answer)?;
+        self.act(alloc, run, first)
+    }
+
+    /// The client once it was told that request `n`, which it awaits, won't be answered, and its turn, for a caller that
+    /// has more memory to take before it changes.
+    pub fn gave_up(&self, alloc: Global, n: u32, first: u32) -> Result<(Client, Turn), AllocError>
+        requires told { CanBeTold self.now n first }
+        requires first { first < 2 ^ 31 }
+
+        ensures ok { IfOk result (λ after. Extends self.now after.0 n first (λ a. GaveUp a) after.1) }
+        ensures same { IfOk result (λ after. IsSameClient self.now after.0) }
+    {
         let mut run = self.copy_run()?;
         let at = run.site_of(n);
         run.note_give_up(at);
         self.act(alloc, run, first)
     }
 
-    /// All that the client does once its running call was told of a request: `run` is the call with what it was told.
-    fn act(&mut self, alloc: Global, run: Run, first: u32) -> Result<Turn, AllocError>
-        requires config { IsConfig self.old.config }
+    /// The client once its running call has acted, and its turn: `run` is the call with what it was told.
+    fn act(&self, alloc: Global, run: Run, first: u32) -> Result<(Client, Turn), AllocError>
+        requires config { IsConfig self.now.config }
         requires first { first < 2 ^ 31 }
         requires round { run.round < 2 ^ 31 + first }
-        requires ready { IsReady self.old.config run }
+        requires ready { IsReady self.now.config run }
 
-        ensures ok { IfOk result (λ turn. HasActed self.old self.new run first turn) }
-        ensures same { IsSameClient self.old self.new }
-        ensures err { OnErr result (self.new ≡ self.old) }
+        ensures ok { IfOk result (λ after. HasActed self.now after.0 run first after.1) }
+        ensures same { IfOk result (λ after. IsSameClient self.now after.0) }
     {
         let mut run = run;
         let turn = run.act(alloc, &self.config, first)?;
-        self.round = run.round;
-        self.run = going_on(run, &turn);
-        Ok(turn)
+        Ok((
+            self.with_run(self.calls, run.round, going_on(run, &turn)),
+            turn,
+        ))
+    }
+
+    /// The client of the same session, with so many calls, this round and this running call.
+    fn with_run(&self, calls: u32, round: u32, run: Option<Run>) -> Client
+        ensures { result ≡ record self.now { calls = calls; round = round; run = run } }
+    {
+        Client {
+            config: self.config,
+            session: self.session,
+            calls,
+            round,
+            run,
+        }
     }
 
     /// A copy of the running call.

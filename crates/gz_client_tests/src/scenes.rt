@@ -280,12 +280,12 @@ impl Driver {
         Ok([written, read])
     }
 
-    /// Which requests a get awaits once the second of three was answered, as a copy of its client tells it.
+    /// Which requests a get awaits once the second of three was answered.
     fn awaited_by_a_get(&mut self, alloc: Global) -> Result<Awaited, Stuck>
         requires { IsHeld self.old.client self.old.calls self.old.first }
     {
         self.run(alloc, Kind::Get, &[Take(2)])?;
-        Ok(awaited_by(&self.client.copy()?))
+        Ok(awaited_by(&self.client))
     }
 }
 

@@ -28,7 +28,7 @@ use gz_history::CallRec;
 use gz_site::Site;
 use std::alloc::{AllocError, Global};
 
-/// A turn that was made on a copy of a session's client: the client after it, the turn, and what is told of it.
+/// A turn of a session's client: the client after it, the turn, and what is told of it.
 struct Moved {
     client: Client,
     turn: Turn,
@@ -115,9 +115,8 @@ fn begun(
     ensures same { IfOk result (λ moved. IsSameClient client.now moved.client) }
     ensures told { IfOk result (λ moved. moved.effect ≡ effect_of first session moved.turn) }
 {
-    let mut client = client.copy()?;
     let call = copy_of_call(call)?;
-    let turn = client.begin(alloc, call, first)?;
+    let (client, turn) = client.begun(alloc, call, first)?;
     Moved::new(session, first, client, turn)
 }
 
@@ -136,8 +135,7 @@ fn handed(
     ensures same { IfOk result (λ moved. IsSameClient client.now moved.client) }
     ensures told { IfOk result (λ moved. moved.effect ≡ effect_of first session moved.turn) }
 {
-    let mut client = client.copy()?;
-    let turn = client.reply(alloc, n, reply, first)?;
+    let (client, turn) = client.handed(alloc, n, reply, first)?;
     Moved::new(session, first, client, turn)
 }
 
@@ -155,8 +153,7 @@ fn given_up(
     ensures same { IfOk result (λ moved. IsSameClient client.now moved.client) }
     ensures told { IfOk result (λ moved. moved.effect ≡ effect_of first session moved.turn) }
 {
-    let mut client = client.copy()?;
-    let turn = client.give_up(alloc, n, first)?;
+    let (client, turn) = client.gave_up(alloc, n, first)?;
     Moved::new(session, first, client, turn)
 }
 

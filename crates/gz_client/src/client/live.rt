@@ -1,5 +1,5 @@
-//! Which requests a client awaits, and a copy of it.
-ghost use Rattle.std.specs.Prelude.{◌≡◌, ℕ, ◌==◌, List, nat_lt, IfOk};
+//! Which requests a client awaits.
+ghost use Rattle.std.specs.Prelude.{◌≡◌, ℕ, ◌==◌, List, nat_lt};
 ghost use Rattle.std.specs.List.{list_any};
 ghost use Rattle.gz_round.specs.History.{Tale};
 ghost use Rattle.gz_round.specs.Awaiting.{has_number};
@@ -7,24 +7,9 @@ ghost use Rattle.gz_client.specs.Tales.{Holds, live};
 ghost use Rattle.gz_client.specs.Lowest.{IsLowestLive};
 
 use super::Client;
-use gz_round::{Mark, Run};
-use std::alloc::AllocError;
+use gz_round::Mark;
 
 impl Client {
-    /// A copy of the client.
-    pub fn copy(&self) -> Result<Client, AllocError>
-        ensures { IfOk result (λ client. client ≡ self.now) }
-    {
-        let run = copy_of_run(&self.run)?;
-        Ok(Client {
-            config: self.config,
-            session: self.session,
-            calls: self.calls,
-            round: self.round,
-            run,
-        })
-    }
-
     /// Whether the running call awaits request `n`. Takes no memory.
     pub fn awaits(&self, n: u32) -> bool
         ensures { (next : ℕ) (ts : List Tale) → Holds self.now next ts → result ≡ nat_lt 0 (live self.now.config (λ m. m == n) ts) }
@@ -40,16 +25,6 @@ impl Client {
         ensures { (next : ℕ) (ts : List Tale) → Holds self.now next ts → IsLowestLive self.now.config ts result }
     {
         self.live_at(0)
-    }
-}
-
-/// A copy of a running call, where there is one.
-fn copy_of_run(run: &Option<Run>) -> Result<Option<Run>, AllocError>
-    ensures { IfOk result (λ copy. copy ≡ run.now) }
-{
-    match run {
-        Some(run) => Ok(Some(run.copy()?)),
-        None => Ok(None),
     }
 }
 

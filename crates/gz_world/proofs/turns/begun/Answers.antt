@@ -9,6 +9,5 @@ use Rattle.gz_world.proofs.turns.begun.Goals as goal
 pub returns-clause-holds : goal.returns-clause-holds
 returns-clause-holds c = if_ok_map c.new.result _ _
     (λ moved is. subst (λ (q : Moved). Begins c.args.client.now q.client c.args.first c.args.call.now q.turn) (sym is)
-    (subst (λ (q : Call). Begins c.args.client.now c.begin.new.self c.args.first q c.in_ok-turn.turn) c.in_ok-call.ensures
-    (subst (λ (q : Client). Begins q c.begin.new.self c.args.first c.in_ok-call.call c.in_ok-turn.turn) c.in_ok-client.ensures c.in_ok-turn.ensures.ok)))
+    (subst (λ (q : Call). Begins c.args.client.now c.in_ok-client.client c.args.first q c.in_ok-client.turn) c.in_ok-call.ensures c.in_ok-client.ensures.ok))
     c.new.ensures

@@ -1,6 +1,5 @@
 use Rattle.std.proofs.Common.{subst, sym}
 use Rattle.gz_round.specs.History.{GaveUp}
-use Rattle.gz_client.specs.declared.client.Client.{Client}
 use Rattle.gz_client.specs.Tales.{Extends}
 use Rattle.gz_world.specs.declared.turns.Moved.{Moved}
 use Rattle.gz_world.proofs.Results.{if_ok_map}
@@ -8,6 +7,5 @@ use Rattle.gz_world.proofs.turns.given_up.Goals as goal
 
 pub returns-clause-holds : goal.returns-clause-holds
 returns-clause-holds c = if_ok_map c.new.result _ _
-    (λ moved is. subst (λ (q : Moved). Extends c.args.client.now q.client c.args.n c.args.first (λ a. GaveUp a) q.turn) (sym is)
-    (subst (λ (q : Client). Extends q c.give_up.new.self c.args.n c.args.first (λ a. GaveUp a) c.in_ok-turn.turn) c.in_ok-client.ensures c.in_ok-turn.ensures.ok))
+    (λ moved is. subst (λ (q : Moved). Extends c.args.client.now q.client c.args.n c.args.first (λ a. GaveUp a) q.turn) (sym is) c.in_ok-client.ensures.ok)
     c.new.ensures

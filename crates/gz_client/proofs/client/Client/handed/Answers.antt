@@ -4,7 +4,7 @@ use Rattle.gz_round.specs.History.{Handed}
 use Rattle.gz_round.proofs.Numbers.{numbered_handed}
 use Rattle.gz_client.specs.Tales.{CanBeTold}
 use Rattle.gz_client.proofs.Holding.{run_held, about, acted_extends, told_runs, told_site, told_round, can_hear}
-use Rattle.gz_client.proofs.client.Client.reply.Goals as goal
+use Rattle.gz_client.proofs.client.Client.handed.Goals as goal
 
 pub copy_run-requires : goal.copy_run-requires
 copy_run-requires c = told_runs c.args.self.now c.args.n c.args.first c.requires.told
@@ -34,17 +34,14 @@ act-requires-clause-ready c =
 
 pub returns-clause-ok : goal.returns-clause-ok
 returns-clause-ok c =
-    IfOk-weaker c.act.result _ _ (λ turn acted. λ next t ts a h awaited l.
+    IfOk-weaker c.act.result _ _ (λ after acted. λ next t ts a h awaited l.
     let k = run_held c.args.self.now next t ts c.in_ok-run.run' c.in_ok-run.ensures h in
     let i = about c.args.self.now c.in_ok-run.run' c.args.n c.args.first c.site_of-at.result next t ts a c.in_ok-run.ensures c.site_of-at.ensures h awaited in
-    acted_extends c.args.self.now c.act.new.self c.in_ok-run.run' c.note_reply.new.self c.args.first turn (Handed a c.args.answer.now) next t ts c.in_ok-run.ensures acted h l refl
+    acted_extends c.args.self.now after.0 c.in_ok-run.run' c.note_reply.new.self c.args.first after.1 (Handed a c.args.answer.now) next t ts c.in_ok-run.ensures acted h l refl
     (numbered_handed c.args.self.now.config t.moments a c.args.answer.now next c.args.first l k.numbered) (c.in_ok-note_reply.ensures.ready c.args.self.now.config t.caller ts t.moments a i.inside i.awaits i.ready)) c.act.ensures.ok
 
 pub returns-clause-same : goal.returns-clause-same
 returns-clause-same c = c.act.ensures.same
-
-pub returns-clause-err : goal.returns-clause-err
-returns-clause-err c = c.act.ensures.err
 
 pub act-requires-clause-round : goal.act-requires-clause-round
 act-requires-clause-round c =
