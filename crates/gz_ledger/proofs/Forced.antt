@@ -3,7 +3,8 @@ use Rattle.std.proofs.Common.{◌≡◌, ℕ, ◌<◌, ◌≤◌, Bool, true, fa
 use Rattle.std.proofs.lemmas.Bool.{both_ways}
 use Rattle.gz_core.specs.Names.{Name, BallotAt, fast, is_below, same_ballot}
 use Rattle.gz_core.specs.Counts.{count_sites}
-use Rattle.gz_core.specs.Slots.{OpenAt, Promises, VotesClassic}
+use Rattle.gz_core.specs.Slots.{Promises, VotesClassic}
+use Rattle.gz_core.specs.declared.slots.Slot.TheVariants.{OpenAt}
 use Rattle.gz_config.specs.declared.Config.{Config}
 use Rattle.gz_core.proofs.Ballots.{below_cases, below_at, same_refl}
 use Rattle.gz_core.proofs.Counting.{count_weaker, count_found}

@@ -3,7 +3,8 @@ use Rattle.std.specs.Prelude.{ℕ, ◌≡◌, ◌≤◌, ◌<◌, suc, true, fal
 use Rattle.gz_core.specs.Names.{Name, BallotAt, fast, same_ballot}
 use Rattle.gz_core.specs.Counts.{count_sites}
 use Rattle.gz_core.specs.Configurations.{AreQuorums}
-use Rattle.gz_core.specs.Slots.{DecidedAs, VotesClassic}
+use Rattle.gz_core.specs.Slots.{VotesClassic}
+use Rattle.gz_core.specs.declared.slots.Slot.TheVariants.{DecidedAs}
 use Rattle.gz_config.specs.declared.Config.{Config}
 use Rattle.gz_model.specs.Choosing.{IsSafe}
 use Rattle.gz_ledger.specs.Acceptors.{HasValue}
