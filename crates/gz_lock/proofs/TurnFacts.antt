@@ -62,3 +62,8 @@ module _ {V E R : Type 0} (past : V → List E) (stands : V → List (Operation 
       none_own = none_own;
       after = released ∙ ap (λ (k : SeatView E R). let m : Me (Option (Held V E R)) (SeatView E R) = (staged k Idle k.seen, []) in m) (same ∙ is₂);
     }
+
+    -- of what the seat knows only its history changes
+    pub seat_stays : m₃.0 ≡ staged m₂.0 m₃.0.stage m₃.0.seen → m₄ ≡ (staged old Idle m₄.0.seen, [])
+    seat_stays same = let seen : List (Turn E R) = m₃.0.seen in
+        released ∙ (λ i. ((ap (λ (k : SeatView E R). staged k Idle seen) same ∙ ap (λ (k : SeatView E R). staged k Idle seen) is₂) i, [])) ∙ (λ i. (staged old Idle (sym (ap (λ (m : Me (Option (Held V E R)) (SeatView E R)). m.0.seen) released) i), []))

@@ -3,7 +3,8 @@ ghost use Rattle.std.specs.Prelude.{◌≡◌, ◌≢◌, ◌≤◌, [], ◌∷�
 ghost use Rattle.gz_lock.specs.Histories.{turns_of, StandsFor};
 ghost use Rattle.gz_lock.specs.Steps.{held_of};
 ghost use Rattle.gz_lock.specs.declared.views.Held.{Held};
-ghost use Rattle.gz_lock.specs.Seats.{IsSized, newcomer, gave, given, took_in, Rests, KnowsJoined, TookTurn, TookNoTurn};
+ghost use Rattle.gz_lock.specs.Seats.{IsSized, newcomer, gave, given, took_in, Rests, staged, KnowsJoined, TookTurn, TookNoTurn};
+ghost use Rattle.gz_lock.specs.declared.views.Stage.TheVariants.{Idle};
 
 use crate::plays::{Cut, Glue, Learn, Release};
 use crate::rule::{COUNT, Home, SERVING, SLOT, Slot, View};
@@ -91,6 +92,7 @@ impl<V: Turned> Lock<V> {
         requires rests { Rests seat.old.me }
         requires fits { V.fits entry }
         ensures seat { (seat.new.table_id ≡ seat.old.table_id) × Rests seat.new.me }
+        ensures same { seat.new.me ≡ (staged seat.old.me.0 Idle seat.new.me.0.seen, []) }
         ensures ok { IfOk result (λ reply. TookTurn V.sound seat.old.me.0 entry reply seat.new.me) }
         ensures err { OnErr result (TookNoTurn seat.old.me.0 seat.new.me) }
         ensures known { seat.old.me.0.number ≡ 0 → KnowsJoined seat.new.me.0 }

@@ -92,7 +92,7 @@ pub(crate) fn take_turn<V: Turned>(
     ensures seat { (seat.new.table_id ≡ seat.old.table_id) × (seat.new.id ≡ seat.old.id) }
     ensures ok { IfOk result (λ reply. (ticket : ℕ) × IsCounted V.past V.stands V.kept seat.old.me.0 ticket entry reply seat.new.me) }
     ensures err { OnErr result (seat.new.me.0 ≡ seat.old.me.0) }
-    ensures holds { (seat.new.me.0.live ≡ true) × (seat.new.me.0.number ≡ seat.old.me.0.number) × IsAtTurn seat.new.me.0.stage × HoldsSlot V.past V.stands V.kept seat.new.me }
+    ensures holds { (seat.new.me.0.live ≡ true) × (seat.new.me.0 ≡ staged seat.old.me.0 seat.new.me.0.stage seat.new.me.0.seen) × IsAtTurn seat.new.me.0.stage × HoldsSlot V.past V.stands V.kept seat.new.me }
 {
     let mut value = take_out(table, seat);
     let asked = Snapshot::of(&entry);

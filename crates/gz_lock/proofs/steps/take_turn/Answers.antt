@@ -1,6 +1,7 @@
 use Rattle.std.proofs.Common.{rules, ◌≡◌, ℕ, true, [], ◌∷◌, ◌++◌, None, Some, refl, sym, ap, ◌∙◌, subst}
 use Rattle.gz_lock.specs.Histories.{StandsFor, turn}
 use Rattle.gz_lock.specs.Rule.{IsAtTurn}
+use Rattle.gz_lock.specs.Seats.{staged}
 use Rattle.gz_lock.specs.Steps.{held_of, HoldsSlot, IsCounted}
 use Rattle.gz_lock.specs.declared.views.Stage.TheVariants.{Served}
 use Rattle.gz_lock.specs.declared.views.SeatView.{SeatView}
@@ -40,7 +41,7 @@ returns-in-Ok-clause-holds g c = let k = c.args.seat.now.me.0 in let back = c.pu
     let last : Last g.row.V-Entry.Denot g.row.V-Reply.Denot = record { entry = c.of-asked.result; reply = c.of.result } in let held : Held g.row.V.Denot g.row.V-Entry.Denot g.row.V-Reply.Denot = held_of c.turn.new.self (Some last) in
     let view : back.me.0 ≡ k = ap (λ m. m.0) c.put_back.ensures.slot ∙ ap (λ m. m.0) c.take_out-value.ensures.slot in
     let told = c.fetch_add.ensures.2 ticket held last (ap (λ k. k.stage) view ∙ c.requires.served.2.1) (ap (λ m. m.1) c.put_back.ensures.slot) refl in
-    (ap (λ k. k.live) told.view ∙ (ap (λ k. k.live) view ∙ c.requires.served.0), ap (λ k. k.number) told.view ∙ ap (λ k. k.number) view, subst IsAtTurn (sym (ap (λ k. k.stage) told.view)) tt, told.holds)
+    (ap (λ k. k.live) told.view ∙ (ap (λ k. k.live) view ∙ c.requires.served.0), told.view ∙ (λ i. staged (view i) (sym (ap (λ k. k.stage) told.view) i) (sym (ap (λ k. k.seen) told.view) i)), subst IsAtTurn (sym (ap (λ k. k.stage) told.view)) tt, told.holds)
 
 pub returns-in-Err-clause-err : goal.returns-in-Err-clause-err
 returns-in-Err-clause-err g c = ap (λ m. m.0) c.put_back-in-Err.ensures.slot ∙ ap (λ m. m.0) c.take_out-value.ensures.slot
@@ -50,7 +51,7 @@ returns-in-Err-clause-holds g c = let past = g.V.Turned.past in let stands = g.V
     let view : back.me.0 ≡ k = ap (λ m. m.0) c.put_back-in-Err.ensures.slot ∙ ap (λ m. m.0) c.take_out-value.ensures.slot in
     let fits = stands_after_none past stands kept c.take_out-value.result c.turn.new.self k.seen c.take_out-value.ensures.value c.in-Err.ensures.err c.in-Err.ensures.kept in (
       ap (λ k. k.live) view ∙ c.requires.served.0,
-      ap (λ k. k.number) view,
+      view ∙ (λ i. staged k (sym view i).stage (sym view i).seen),
       subst IsAtTurn (sym (ap (λ k. k.stage) view ∙ c.requires.served.2.1)) tt,
       record {
         held = held_of c.turn.new.self None;

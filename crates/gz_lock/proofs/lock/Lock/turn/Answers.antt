@@ -1,7 +1,7 @@
 use Rattle.std.proofs.Common.{rules, ◌≡◌, ◌∙◌, ap}
 use Rattle.gz_lock.specs.Seats.{TookTurn}
 use Rattle.gz_lock.proofs.TurnSteps.{releases}
-use Rattle.gz_lock.proofs.TurnFacts.{if_ok, on_err, took_turn, took_no_turn}
+use Rattle.gz_lock.proofs.TurnFacts.{if_ok, on_err, took_turn, took_no_turn, seat_stays}
 use Rattle.gz_lock.proofs.lock.Lock.turn.Goals as goal
 
 pub fetch_add-requires : goal.fetch_add-requires
@@ -23,6 +23,10 @@ returns-clause-err g c = let told = c.fetch_add.ensures.2 in let old = c.args.se
     c.take_ticket-ticket.ensures.waits c.await_service.ensures.served told.0 same)
     c.take_turn-reply.ensures.err
 
+pub returns-clause-same : goal.returns-clause-same
+returns-clause-same g c = seat_stays g.V.Turned.past g.V.Turned.stands g.V.Turned.kept c.args.seat.now.me.0 c.take_ticket-ticket.new.seat.me c.await_service.new.seat.me c.take_turn-reply.new.seat.me c.fetch_add.new.seat.me
+    c.take_ticket-ticket.result c.take_ticket-ticket.ensures.waits c.await_service.ensures.served c.fetch_add.ensures.2.0 c.take_turn-reply.ensures.holds.1
+
 pub returns-clause-known : goal.returns-clause-known
-returns-clause-known g c = let at = c.take_turn-reply.ensures.holds in let number₂ = ap (λ k. k.number) c.await_service.ensures.served.view in let number₁ = ap (λ m. m.0.number) c.take_ticket-ticket.ensures.waits in
-    λ first. c.fetch_add.ensures.2.1 (at.1 ∙ (number₂ ∙ (number₁ ∙ first)))
+returns-clause-known g c = let number₃ = ap (λ k. k.number) c.take_turn-reply.ensures.holds.1 in let number₂ = ap (λ k. k.number) c.await_service.ensures.served.view in
+    let number₁ = ap (λ m. m.0.number) c.take_ticket-ticket.ensures.waits in λ first. c.fetch_add.ensures.2.1 (number₃ ∙ (number₂ ∙ (number₁ ∙ first)))
