@@ -11,7 +11,6 @@ use Rattle.gz_core.proofs.Columns.{none_below}
 use Rattle.gz_core.proofs.Counting.{count_found}
 use Rattle.gz_core.proofs.Quorums.{need_some}
 use Rattle.gz_pick.specs.Evidences.{votes_for, decides, is_for, is_named}
-use Rattle.gz_accept.proofs.Making.{done_above}
 use Rattle.gz_core.proofs.Ballots.{name_refl}
 use Rattle.gz_config.specs.declared.Config.{Config}
 use Rattle.gz_core.specs.declared.requests.RowStep.{RowStep}
