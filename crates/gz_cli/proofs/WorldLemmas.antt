@@ -17,13 +17,17 @@ use Rattle.gz_world.specs.Opening.{AreEmpty, IsOpened}
 use Rattle.gz_world.specs.Reached.{IsOpening, IsReached, opened, stepped, AllTell}
 use Rattle.gz_world.specs.States.{State, request_of}
 use Rattle.gz_world.specs.Told.{IsReachedBy}
+use Rattle.gz_world.specs.declared.events.ApplyError.{ApplyError}
 use Rattle.gz_world.specs.declared.world.Member.{Member}
 use Rattle.gz_world.specs.declared.world.World.{World}
 use Rattle.gz_world.proofs.Members.{numbered_suc}
 use Rattle.gz_world.proofs.Opened.{no_tales_yet, fits_opened}
 use Rattle.gz_laws.proofs.Agreement.{agreement}
 use Rattle.gz_laws.proofs.Legality.{legal}
-use Rattle.gz_cli.specs.Worlds.{default, AreFresh, AllTellAt, PlaysSome, IsPlayed, AgreesBy}
+use Rattle.gz_cli.specs.Worlds.{default, AreFresh, AllTellAt, PlaysSome, IsPlayed, IsFilled, AgreesBy}
+use Rattle.gz_cli.specs.declared.status.Status.{Status}
+use Rattle.gz_cli.specs.declared.status.Status.TheVariants.{Full}
+use Rattle.gz_world.specs.Counting.{IsFull}
 use Rattle.gz_cli.proofs.PlayLemmas.{some_lines}
 use Rattle.gz_cli.proofs.TellLemmas.{step_tell}
 
@@ -96,7 +100,8 @@ legal-by told sites lines w p tell = legal (state_of told p.tales w) (reached_pl
 -- there is agreement in it
 pub agrees-by : {S : Type 0} (told : S → Option Told) (sites : List S) (lines : List Line) (w : World S) → IsPlayed told sites (PlaysSome lines) w → AllTellAt told sites → AgreesBy told w
 agrees-by told sites lines w p tell =
-    (p.tales, (p.fits, λ key. agreement key (state_of told p.tales w) (reached_played told sites lines w p) (tells_played told sites lines w p tell)))
+    let reached = reached_played told sites lines w p in
+    (p.tales, (p.fits, (reached, λ key. agreement key (state_of told p.tales w) reached (tells_played told sites lines w p tell))))
 
 -- lines that were played to their end, and lines that were played in part
 pub some-whole : {S : Type 0} (told : S → Option Told) (lines : List Line) (old new : World S) → ChangesBy told (Plays lines) old new → ChangesBy told (PlaysSome lines) old new
@@ -104,10 +109,16 @@ some-whole told lines old new changes = λ tales fits.
     let k = changes tales fits in
     (k.0, (k.1.0, inl k.1.1))
 
-pub some-part : {S : Type 0} (told : S → Option Told) (lines : List Line) (old new : World S) → ChangesBy told (PlaysInPart lines) old new → ChangesBy told (PlaysSome lines) old new
-some-part told lines old new changes = λ tales fits.
+pub some-part : {S : Type 0} (told : S → Option Told) (error : ApplyError) (lines : List Line) (old new : World S) → ChangesBy told (PlaysInPart error lines) old new → ChangesBy told (PlaysSome lines) old new
+some-part told error lines old new changes = λ tales fits.
     let k = changes tales fits in
-    (k.0, (k.1.0, inr k.1.1))
+    (k.0, (k.1.0, inr (error, k.1.1)))
+
+-- a world that takes no more events, by the status that tells it
+pub filled_by : {S : Type 0} (w : World S) (events held : ℕ) (status : Status) → status ≡ Full events held → status ≡ Full (length w.journal.items) w.held → IsFull w → IsFilled events held w
+filled_by w events held status is told full =
+    let same : Full events held ≡ Full (length w.journal.items) w.held = sym is ∙ told in
+    record { full = full; events_are = cc; held_is = cc }
 
 -- one more site that holds nothing
 pub more-empty : {S : Type 0} (told : S → Option Told) (sites : List S) (site : S) → AreEmpty told sites → IfSome (told site) IsEmpty → AreEmpty told (sites ++ site ∷ [])

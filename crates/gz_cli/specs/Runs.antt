@@ -15,12 +15,14 @@ use Rattle.gz_lines.specs.declared.faults.Fault.{Fault}
 use Rattle.gz_lines.specs.declared.faults.Fault.TheVariants as faults
 use Rattle.gz_lines.specs.declared.line.Line.{Line}
 use Rattle.gz_world.specs.States.{State}
+use Rattle.gz_world.specs.declared.events.ApplyError.TheVariants as applying
 use Rattle.gz_world.specs.declared.world.World.{World}
+use Rattle.gz_cli.specs.declared.bench.Bench.{Bench}
 use Rattle.gz_cli.specs.declared.status.Status.{Status}
 use Rattle.gz_cli.specs.declared.status.Status.TheVariants.{Done, Usage, ShelfFault, NoFile, FileTooLarge, BadText, TooLong, Full, SinkFault, NoMemory}
 use Rattle.gz_cli.specs.Codes.{Codes}
 use Rattle.gz_cli.specs.Words.{Task, replay, code}
-use Rattle.gz_cli.specs.Worlds.{PlaysSome, Leaves, IsFilled, log_of_world}
+use Rattle.gz_cli.specs.Worlds.{Leaves, IsFilled, log_of_world}
 
 -- the files of a shelf, none where it does not tell them
 abbrev pub Files : Type 0
@@ -178,22 +180,29 @@ Writes told None files sites left Written = ⊥
 Writes told (Some (replay name)) files sites left Written = Replays told Plays files name sites left (λ w. Written (log_of_world w))
 Writes told (Some (code k m digits)) files sites left Written = Codes k m digits Written
 
--- the world that is left took no more events, in the course of the lines
-abbrev pub Fills : {S : Type 0} → (S → Option Told) → Option Task → Files → List S → Option (World S) → ℕ → ℕ → Type 0
-Fills told None files sites left events held = ⊥
-Fills told (Some (replay name)) files sites left events held = Replays told PlaysInPart files name sites left (IsFilled events held)
-Fills told (Some (code k m digits)) files sites left events held = ⊥
-
--- want of memory came before a world was opened, or the lines were played, to their end or in part, and some first part of the log was written
-abbrev pub IsCutShort : {S : Type 0} → (S → Option Told) → Files → List ℕ → List S → Option (World S) → Option (List ℕ) → Option (List ℕ) → Type 0
-IsCutShort told files name sites left before after =
-    ((left ≡ None) × (after ≡ before)) ⊎ Replays told PlaysSome files name sites left (λ w. IsSomePart before (log_of_world w) after)
+-- the lines were played up to an event that the world that is left refused, since it was full
+abbrev pub FillsUp : {S : Type 0} → (S → Option Told) → Files → List ℕ → List S → Option (World S) → ℕ → ℕ → Type 0
+FillsUp told files name sites left events held = Replays told (PlaysInPart applying.Full) files name sites left (IsFilled events held)
 
 -- the same for what the words ask for
-abbrev pub IsCut : {S : Type 0} → (S → Option Told) → Option Task → Files → List S → Option (World S) → Option (List ℕ) → Option (List ℕ) → Type 0
-IsCut told None files sites left before after = ⊥
-IsCut told (Some (replay name)) files sites left before after = IsCutShort told files name sites left before after
-IsCut told (Some (code k m digits)) files sites left before after = (after ≡ before) ⊎ Codes k m digits (λ text. IsSomePart before text after)
+abbrev pub Fills : {S : Type 0} → (S → Option Told) → Option Task → Files → List S → Option (World S) → ℕ → ℕ → Type 0
+Fills told None files sites left events held = ⊥
+Fills told (Some (replay name)) files sites left events held = FillsUp told files name sites left events held
+Fills told (Some (code k m digits)) files sites left events held = ⊥
+
+-- where memory ran out, the bench is as it was and nothing was written; or the lines were played in part and nothing was written; or they were
+-- played to their end and a first part of the log was written
+abbrev pub IsCutShort : {S : Type 0} → (S → Option Told) → Files → List ℕ → Bench S → Bench S → Option (List ℕ) → Option (List ℕ) → Type 0
+IsCutShort told files name old new before after =
+    ((new ≡ old) × (after ≡ before))
+    ⊎ (Replays told (PlaysInPart applying.NoMemory) files name old.sites.items new.world (λ w. after ≡ before)
+    ⊎ Replays told Plays files name old.sites.items new.world (λ w. IsSomePart before (log_of_world w) after))
+
+-- the same for what the words ask for
+abbrev pub IsCut : {S : Type 0} → (S → Option Told) → Option Task → Files → Bench S → Bench S → Option (List ℕ) → Option (List ℕ) → Type 0
+IsCut told None files old new before after = ⊥
+IsCut told (Some (replay name)) files old new before after = IsCutShort told files name old new before after
+IsCut told (Some (code k m digits)) files old new before after = (after ≡ before) ⊎ Codes k m digits (λ text. IsSomePart before text after)
 
 -- the shelf tells that the file has these bytes
 abbrev pub TellsBytes : Files → List ℕ → List ℕ → Type 0

@@ -13,8 +13,9 @@ use Rattle.gz_world.specs.Bridge.{state_of}
 use Rattle.gz_world.specs.Counting.{IsFull}
 use Rattle.gz_world.specs.Fits.{Fits}
 use Rattle.gz_world.specs.Opening.{AreEmpty}
-use Rattle.gz_world.specs.Reached.{IsOpening}
+use Rattle.gz_world.specs.Reached.{IsOpening, IsReached}
 use Rattle.gz_world.specs.States.{State}
+use Rattle.gz_world.specs.declared.events.ApplyError.{ApplyError}
 use Rattle.gz_world.specs.declared.events.Entry.{Entry}
 use Rattle.gz_world.specs.declared.events.Outcome.{Outcome}
 use Rattle.gz_world.specs.declared.events.Outcome.TheVariants as outcomes
@@ -47,7 +48,7 @@ log_of_world w = log_of w.calls.items (length w.journal.items) (count_by is_skip
 
 -- the lines were played, to their end or in part
 abbrev pub PlaysSome : List Line → State → State → Type 0
-PlaysSome lines old new = Plays lines old new ⊎ PlaysInPart lines old new
+PlaysSome lines old new = Plays lines old new ⊎ ((error : ApplyError) × PlaysInPart error lines old new)
 
 -- the world was opened over these sites, in which nothing had happened, and was changed so
 pub record IsPlayed {S : Type 0} (told : S → Option Told) (sites : List S) (Change : State → State → Type 0) (w : World S) : Type 0 where
@@ -72,6 +73,6 @@ pub record IsFilled {S : Type 0} (events held : ℕ) (w : World S) : Type 0 wher
   pub events_are : events ≡ length w.journal.items
   pub held_is : held ≡ w.held
 
--- there is agreement on each object, by the tales that the sessions' clients stand for
+-- there is agreement on each object, by tales that the sessions' clients stand for and that the events of the run told
 abbrev pub AgreesBy : {S : Type 0} → (S → Option Told) → World S → Type 0
-AgreesBy told w = (tales : ℕ → List Tale) × (Fits tales w × ((key : List ℕ) → AreAgreed key (state_of told tales w)))
+AgreesBy told w = (tales : ℕ → List Tale) × (Fits tales w × (IsReached (state_of told tales w) × ((key : List ℕ) → AreAgreed key (state_of told tales w))))

@@ -1,5 +1,5 @@
 //! A schedule is played over a world that is opened for it, and the log of the world is written.
-ghost use Rattle.std.specs.Prelude.{◌≡◌, ◌≤◌, ℕ, length, All, count_by, IfSome, None};
+ghost use Rattle.std.specs.Prelude.{◌≡◌, ◌≤◌, ◌⊎◌, ℕ, length, All, count_by, IfSome, None};
 ghost use Rattle.gz_site.specs.Files.{IsSomePart};
 ghost use Rattle.gz_history.specs.Legal.{IsLegal};
 ghost use Rattle.gz_script.specs.Plays.{Plays, PlaysInPart, ChangesBy};
@@ -33,8 +33,8 @@ pub fn replay_lines<O: Sink, S: Site>(
     ensures cause { PlayCause (O.faults out.old) (O.faults out.new) result }
     ensures done { result ≡ Status.Done → Leaves S.told bench.old.sites.items (Plays lines.now) bench.new.world (λ w. Whole (O.written out.old) (log_of_world w) (O.written out.new)) }
     ensures unwritten { result ≡ Status.SinkFault → Leaves S.told bench.old.sites.items (Plays lines.now) bench.new.world (λ w. IsSomePart (O.written out.old) (log_of_world w) (O.written out.new)) }
-    ensures full { (events held : ℕ) → result ≡ Status.Full events held → Leaves S.told bench.old.sites.items (PlaysInPart lines.now) bench.new.world (IsFilled events held) × (O.written out.new ≡ O.written out.old) }
-    ensures some { Leaves S.told bench.old.sites.items (PlaysSome lines.now) bench.new.world (λ w. IsSomePart (O.written out.old) (log_of_world w) (O.written out.new)) }
+    ensures full { (events held : ℕ) → result ≡ Status.Full events held → Leaves S.told bench.old.sites.items (PlaysInPart ApplyError.Full lines.now) bench.new.world (IsFilled events held) × (O.written out.new ≡ O.written out.old) }
+    ensures memory { result ≡ Status.NoMemory → (Leaves S.told bench.old.sites.items (PlaysInPart ApplyError.NoMemory lines.now) bench.new.world (λ w. O.written out.new ≡ O.written out.old) ⊎ Leaves S.told bench.old.sites.items (Plays lines.now) bench.new.world (λ w. IsSomePart (O.written out.old) (log_of_world w) (O.written out.new))) }
     ensures reached { IfSome bench.new.world (λ w. IsReachedBy S.told w) }
     ensures legal { AllTellAt S.told bench.old.sites.items → IfSome bench.new.world (λ w. IsLegal w.calls.items) }
     ensures agreed { AllTellAt S.told bench.old.sites.items → IfSome bench.new.world (λ w. AgreesBy S.told w) }
@@ -70,7 +70,8 @@ fn play_and_write<O: Sink, S: Site>(
     ensures cause { PlayCause (O.faults out.old) (O.faults out.new) result }
     ensures plays { HasPlayed result → ChangesBy S.told (Plays lines.now) world.old world.new }
     ensures some { ChangesBy S.told (PlaysSome lines.now) world.old world.new }
-    ensures full { (events held : ℕ) → result ≡ Status.Full events held → ChangesBy S.told (PlaysInPart lines.now) world.old world.new × IsFilled events held world.new × (O.written out.new ≡ O.written out.old) }
+    ensures full { (events held : ℕ) → result ≡ Status.Full events held → ChangesBy S.told (PlaysInPart ApplyError.Full lines.now) world.old world.new × IsFilled events held world.new × (O.written out.new ≡ O.written out.old) }
+    ensures memory { result ≡ Status.NoMemory → ((ChangesBy S.told (PlaysInPart ApplyError.NoMemory lines.now) world.old world.new × (O.written out.new ≡ O.written out.old)) ⊎ ChangesBy S.told (Plays lines.now) world.old world.new) }
     ensures done { result ≡ Status.Done → Whole (O.written out.old) (log_of_world world.new) (O.written out.new) }
     ensures part { IsSomePart (O.written out.old) (log_of_world world.new) (O.written out.new) }
 {

@@ -1,12 +1,12 @@
 //! The top call of the program.
 ghost use Rattle.std.specs.Prelude.{◌≡◌, ◌↔◌, ◌⊎◌, ℕ, None, IfSome};
 ghost use Rattle.gz_history.specs.Legal.{IsLegal};
-ghost use Rattle.gz_script.specs.Plays.{Plays, PlaysInPart};
+ghost use Rattle.gz_script.specs.Plays.{Plays};
 ghost use Rattle.gz_site.specs.Files.{IsSomePart};
 ghost use Rattle.gz_world.specs.Told.{IsReachedBy};
 ghost use Rattle.gz_cli.specs.Words.{task_in};
-ghost use Rattle.gz_cli.specs.Worlds.{AreFresh, AllTellAt, AgreesBy, PlaysSome, IsFilled, log_of_world};
-ghost use Rattle.gz_cli.specs.Runs.{Cause, RunCause, Replays, Writes, Fills, IsCutShort, IsCut, IsFeasible, AreSteady, IsAnswered, IsCode, IsRefusal, Whole};
+ghost use Rattle.gz_cli.specs.Worlds.{AreFresh, AllTellAt, AgreesBy, log_of_world};
+ghost use Rattle.gz_cli.specs.Runs.{Cause, RunCause, Replays, Writes, FillsUp, Fills, IsCutShort, IsCut, IsFeasible, AreSteady, IsAnswered, IsCode, IsRefusal, Whole};
 
 use crate::bench::Bench;
 use crate::load::load;
@@ -53,7 +53,7 @@ pub fn run<F: Shelf, O: Sink, S: Site>(
     ensures refused { IsRefusal result → (bench.new ≡ bench.old) × (O.written out.new ≡ O.written out.old) }
     ensures full { (events held : ℕ) → result ≡ Status.Full events held → Fills S.told (task_in words.now) (F.files shelf.old) bench.old.sites.items bench.new.world events held × (O.written out.new ≡ O.written out.old) }
     ensures unwritten { result ≡ Status.SinkFault → Writes S.told (task_in words.now) (F.files shelf.old) bench.old.sites.items bench.new.world (λ text. IsSomePart (O.written out.old) text (O.written out.new)) }
-    ensures memory { result ≡ Status.NoMemory → IsCut S.told (task_in words.now) (F.files shelf.old) bench.old.sites.items bench.new.world (O.written out.old) (O.written out.new) }
+    ensures memory { result ≡ Status.NoMemory → IsCut S.told (task_in words.now) (F.files shelf.old) bench.old bench.new (O.written out.old) (O.written out.new) }
 {
     match command_of(words) {
         None => Status::Usage,
@@ -78,9 +78,9 @@ fn replay<F: Shelf, O: Sink, S: Site>(
     ensures legal { AllTellAt S.told bench.old.sites.items → IfSome bench.new.world (λ w. IsLegal w.calls.items) }
     ensures agreed { AllTellAt S.told bench.old.sites.items → IfSome bench.new.world (λ w. AgreesBy S.told w) }
     ensures refused { IsRefusal result → (bench.new ≡ bench.old) × (O.written out.new ≡ O.written out.old) }
-    ensures full { (events held : ℕ) → result ≡ Status.Full events held → Replays S.told PlaysInPart (F.files shelf.old) schedule.now bench.old.sites.items bench.new.world (IsFilled events held) × (O.written out.new ≡ O.written out.old) }
+    ensures full { (events held : ℕ) → result ≡ Status.Full events held → FillsUp S.told (F.files shelf.old) schedule.now bench.old.sites.items bench.new.world events held × (O.written out.new ≡ O.written out.old) }
     ensures unwritten { result ≡ Status.SinkFault → Replays S.told Plays (F.files shelf.old) schedule.now bench.old.sites.items bench.new.world (λ w. IsSomePart (O.written out.old) (log_of_world w) (O.written out.new)) }
-    ensures memory { result ≡ Status.NoMemory → IsCutShort S.told (F.files shelf.old) schedule.now bench.old.sites.items bench.new.world (O.written out.old) (O.written out.new) }
+    ensures memory { result ≡ Status.NoMemory → IsCutShort S.told (F.files shelf.old) schedule.now bench.old bench.new (O.written out.old) (O.written out.new) }
 {
     match load(alloc, schedule, shelf) {
         Ok(lines) => replay_lines(alloc, lines.as_slice(), out, bench),

@@ -344,14 +344,40 @@ fn each_status_of_a_file(rt: HostRuntime) -> Result<(), Fail> {
     Ok(())
 }
 
+/// A schedule of a session that crashes in a put, is settled so many times, and then crashes so many times more. A settled
+/// session that has crashed is handed one reply 65,536 times, which is skipped each time.
+fn filling(alloc: Global, settled: u32, crashed: u32) -> Result<Vec<u8>, AllocError> {
+    let mut text = Vec::from_slice(alloc, b"session\nput 1 a x:01\ncrash 1\n")?;
+    for _ in 0..settled {
+        text.extend_from_slice(b"settle 1\n")?;
+    }
+    for _ in 0..crashed {
+        text.extend_from_slice(b"crash 1\n")?;
+    }
+    Ok(text)
+}
+
+/// How often a session that crashed is settled and crashes again, and what comes of it: the 4,000,000th event is the last that
+/// a world takes.
+static FILLINGS: [(u32, u32, u8, &str, &str); 3] = [
+    (
+        61,
+        2_300,
+        0,
+        "done",
+        "1.1 put a 01 2 - open\nend 1 4000000 3999996\n",
+    ),
+    (61, 2_301, 9, "full after 4000000 events, 257 bytes", ""),
+    (62, 0, 9, "full after 4000000 events, 257 bytes", ""),
+];
+
 #[test]
-fn a_full_world_is_told(rt: HostRuntime) -> Result<(), Fail> {
-    let full = Status::Full {
-        events: 4_000_000,
-        held: 0,
-    };
-    let case = played(b"", 9, "full after 4000000 events, 0 bytes", "");
-    assert!(rt; is_told(rt.alloc(), &full, &case)?);
+fn a_world_is_filled_to_its_last_event(rt: HostRuntime) -> Result<(), Fail> {
+    for (settled, crashed, number, status, log) in &FILLINGS {
+        let text = filling(rt.alloc(), *settled, *crashed)?;
+        let case = played(text.as_slice(), *number, status, log);
+        assert!(rt; holds(rt.alloc(), &case)?);
+    }
     Ok(())
 }
 

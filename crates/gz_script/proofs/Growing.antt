@@ -17,8 +17,8 @@ use Rattle.gz_world.specs.declared.events.Event.TheVariants as events
 use Rattle.gz_world.specs.declared.events.Skip.{Skip}
 use Rattle.gz_world.specs.declared.world.World.{World}
 use Rattle.gz_lines.specs.declared.line.Line.{Line}
-use Rattle.gz_lines.specs.declared.line.Line.TheVariants.{OpenSession, Begin, Deliver, Reply, GiveUp, Crash, Take, Settle, Drain}
-use Rattle.gz_script.specs.Plays.{Happen, taken, settled, SettlesTimes, drained, PlaysLine, ChangesBy}
+use Rattle.gz_script.specs.Plays.{PlaysLine, ChangesBy}
+use Rattle.gz_script.proofs.Keeping.{line_keeps}
 
 -- a request after some events
 pub record IsLater (old new : RequestAt) : Type 0 where
@@ -99,29 +99,13 @@ step_keeps : (old : State) (event : Event) (new : State) → Step old event new 
 step_keeps old event new h =
     kept_then old.net h.1.0.net new.net (acts_keep old event h.0 h.1.0 (refusal_of old event) h.1.1.1.0) (kept_same h.1.0.net new.net h.1.1.1.1.net)
 
-happen_keep : (es : List Event) (x y : State) → Happen es x y → AreKept x.net y.net
-happen_keep [] x y h = kept_same x.net y.net (ap (λ (s : State). s.net) (sym h))
-happen_keep (e ∷ es) x y h = kept_then x.net h.0.net y.net (step_keeps x e h.0 h.1.0) (happen_keep es h.0 y h.1.1)
-
-settles_keep : (session : ℕ) (without : List ℕ) (k : ℕ) (x y : State) → SettlesTimes session without k x y → AreKept x.net y.net
-settles_keep session without zero x y h = kept_same x.net y.net (ap (λ (s : State). s.net) (sym h))
-settles_keep session without (suc k) x y h =
-    kept_then x.net h.0.net y.net (settles_keep session without k x h.0 h.1.0) (happen_keep (settled without h.1.1.0 h.0) h.0 y h.1.1.1.1)
-
 -- what a line does
-pub line_keeps : (line : Line) (x y : State) → PlaysLine line x y → AreKept x.net y.net
-line_keeps OpenSession x y h = happen_keep (events.OpenSession ∷ []) x y h
-line_keeps (Begin session call) x y h = happen_keep (events.Begin session call ∷ []) x y h
-line_keeps (Deliver n) x y h = happen_keep (events.Deliver n ∷ []) x y h
-line_keeps (Reply n which) x y h = happen_keep (events.Reply n which ∷ []) x y h
-line_keeps (GiveUp n) x y h = happen_keep (events.GiveUp n ∷ []) x y h
-line_keeps (Crash session) x y h = happen_keep (events.Crash session ∷ []) x y h
-line_keeps (Take n) x y h = happen_keep (taken n x) x y h
-line_keeps (Settle session without) x y h = settles_keep session without h.0 x y h.1.1.0
-line_keeps (Drain session) x y h = happen_keep (drained session x) x y h
+pub line_grows : (line : Line) (x y : State) → PlaysLine line x y → AreKept x.net y.net
+line_grows line x y h =
+    line_keeps (λ s. AreKept x.net s.net) (λ old new event step kept. kept_then x.net old.net new.net kept (step_keeps old event new step)) line x y h (kept_same x.net x.net refl)
 
 -- a world that plays a line
 pub changes_keep : {S : Type 0} (told : S → Option Told) (old new : World S) (line : Line) → IsFitting old → ChangesBy told (PlaysLine line) old new → AreKept (map request_of old.net.items) (map request_of new.net.items)
 changes_keep told old new line fits a =
     let k = a fits.0 fits.1 in
-    line_keeps line (state_of told fits.0 old) (state_of told k.0 new) k.1.1
+    line_grows line (state_of told fits.0 old) (state_of told k.0 new) k.1.1

@@ -1,4 +1,6 @@
+pub mod Filling
 mod Growing
+pub mod Keeping
 mod LineLemmas
 mod Listing
 mod PlayLemmas

@@ -1,6 +1,6 @@
 -- Changes of worlds, one after another.
-use Rattle.std.proofs.Common.{ℕ, ◌≡◌, true, false, List, [], ◌∷◌, ◌++◌, length, take, inl, inr, refl, ap, sym, subst, arith}
-use Rattle.std.specs.Prelude.{Option, Result, Err}
+use Rattle.std.proofs.Common.{ℕ, ◌≡◌, true, false, List, [], ◌∷◌, ◌++◌, length, take, inl, inr, refl, ap, sym, ◌∙◌, subst, arith}
+use Rattle.std.specs.Prelude.{Bool, IsTrue, Option, Some, Result, Ok, Err, IfErr, slice_get, ◌↔◌}
 use Rattle.std.specs.Result.{IsErrAnd}
 use Rattle.gz_round.specs.History.{Tale}
 use Rattle.gz_site.specs.Told.{Told}
@@ -11,38 +11,50 @@ use Rattle.gz_world.specs.States.{State, numbered}
 use Rattle.gz_world.specs.Told.{StepsBy, StaysBy}
 use Rattle.gz_world.proofs.Performing.{states_equal, step_of}
 use Rattle.gz_world.specs.declared.events.Applied.{Applied}
+use Rattle.gz_world.specs.declared.events.ApplyError.{ApplyError}
+use Rattle.gz_world.specs.declared.events.ApplyError.TheVariants.{Full, NoMemory}
 use Rattle.gz_world.specs.declared.events.Event.{Event}
 use Rattle.gz_world.specs.declared.events.Event.TheVariants as events
 use Rattle.gz_world.specs.declared.world.World.{World}
-use Rattle.gz_script.specs.Plays.{Happen, HappenInPart, has_reply, taken, is_left_out, settled, ChangesBy}
+use Rattle.gz_script.specs.Plays.{TakesNone, Happen, BrokeOff, StopsAt, HappenInPart, has_reply, taken, is_left_out, settled, ChangesBy}
 
--- the error of a result
-pub err_is : {T E : Type 0} (r : Result T E) (P : E → Type 0) (e : E) → r ≡ Err e → IsErrAnd r P → P e
-err_is {T = T} r P e is h = let at : IsErrAnd {T = T} (Err e) P = subst (λ (q : Result T _). IsErrAnd {T = T} q P) is h in at
+-- what holds of an error that was passed on holds of the result
+pub if_err_of : {T E : Type 0} (r : Result T E) (e : E) (P : E → Type 0) → IsErrAnd r (λ x. x ≡ e) → P e → IfErr r P
+if_err_of (Ok x) e P h p = tt
+if_err_of (Err x) e P h p = subst P (sym h) p
+
+pub if_err_map : {T E : Type 0} (r : Result T E) (P Q : E → Type 0) → ((e : E) → P e → Q e) → IfErr r P → IfErr r Q
+if_err_map (Ok x) P Q f h = tt
+if_err_map (Err e) P Q f h = f e h
+
+-- an event that was applied was applied in a world that isn't full
+pub applied_taken : {S T : Type 0} (old new : World S) (r : Result T ApplyError) (x : T) → r ≡ Ok x
+    → ((r ≡ Err Full) ↔ ((old.spent ≡ false) × IsFull old)) → ((r ≡ Err NoMemory) ↔ IsTrue new.spent) → (IsTrue old.spent → IsTrue new.spent) → IsFull old → ⊥
+applied_taken old new r x is full spent ever filled =
+    let at : (b : Bool) → old.spent ≡ b → ⊥ = λ b e. elim b as (λ v. old.spent ≡ v → ⊥) [
+      | true ↦ λ t. let no : r ≡ Err NoMemory = spent.1 (ever t) in let both : Ok x ≡ Err NoMemory = sym is ∙ no in cc
+      | false ↦ λ t. let no : r ≡ Err Full = full.1 (t, filled) in let both : Ok x ≡ Err Full = sym is ∙ no in cc
+    ] e in
+    at old.spent refl
 
 -- an event that was applied has happened
-pub event_happens : {S : Type 0} (told : S → Option Told) (old new : World S) (event : Event) (applied : Applied) → StepsBy told old event new applied → ChangesBy told (Happen (event ∷ [])) old new
-event_happens told old new event applied steps = λ tales fits.
+pub event_happens : {S : Type 0} (told : S → Option Told) (old new : World S) (event : Event) (applied : Applied) → (IsFull old → ⊥) → StepsBy told old event new applied
+    → ChangesBy told (Happen (event ∷ [])) old new
+event_happens told old new event applied taken steps = λ tales fits.
     let k = steps tales fits in
-    (k.0, (k.1.0, (state_of told k.0 new, (step_of (state_of told tales old) event (state_of told k.0 new) applied k.1.1, refl))))
+    (k.0, (k.1.0, (state_of told k.0 new, (record { taken = taken; step = step_of (state_of told tales old) event (state_of told k.0 new) applied k.1.1 }, refl))))
 
--- where none was applied, nothing has happened
-pub none_happens : {S : Type 0} (told : S → Option Told) (old new : World S) → StaysBy told old new → ChangesBy told (Happen []) old new
-none_happens told old new stays = λ tales fits.
+broke_off : (error : ApplyError) (event : Event) (s : State) → (error ≡ Full → TakesNone s) → BrokeOff error (Some event) s
+broke_off Full event s full = full refl
+broke_off NoMemory event s full = tt
+
+-- one that was not applied stopped the events
+pub event_stops : {S : Type 0} (told : S → Option Told) (old new : World S) (event : Event) (error : ApplyError) → (error ≡ Full → IsFull old) → StaysBy told old new
+    → ChangesBy told (StopsAt error event) old new
+event_stops told old new event error full stays = λ tales fits.
     let k = stays tales fits in
-    (tales, (k.0, states_equal (state_of told tales old) (state_of told tales new) k.1))
-
--- a world that didn't change
-pub nothing_happens : {S : Type 0} (told : S → Option Told) (w : World S) → ChangesBy told (Happen []) w w
-nothing_happens told w = λ tales fits. (tales, (fits, refl))
-
--- a world that was full still is
-pub full_stays : {S : Type 0} (told : S → Option Told) (old new : World S) → IsFitting old → StaysBy told old new → IsFull old → IsFull new
-full_stays told old new f stays full =
-    let k = stays f.0 f.1 in
-    let j : length new.journal.items ≡ length old.journal.items = ap length k.1.frame.journal in
-    let h : new.held ≡ old.held = k.1.held in
-    elim full [ inl e ↦ inl (omega (arith, j, e)) | inr e ↦ inr (omega (arith, h, e)) ]
+    let same = states_equal (state_of told tales old) (state_of told tales new) k.1 in
+    (tales, (k.0, (same, subst (λ s. BrokeOff error (Some event) s) same (broke_off error event (state_of told tales old) full))))
 
 -- a change is also another one
 pub changes_as : {S : Type 0} (told : S → Option Told) (A B : State → State → Type 0) (old new : World S)
@@ -70,15 +82,28 @@ pub happen_as : {S : Type 0} (told : S → Option Told) (f : State → List Even
     → ((tales : ℕ → List Tale) → es ≡ f (state_of told tales old)) → ChangesBy told (Happen es) old new → ChangesBy told (λ s. Happen (f s) s) old new
 happen_as told f es old new is = changes_as told (Happen es) (λ s. Happen (f s) s) old new (λ tales y h. subst (λ xs. Happen xs (state_of told tales old) y) (is tales) h)
 
--- the first few of them
-pub part_as : {S : Type 0} (told : S → Option Told) (f : State → List Event) (i : ℕ) (es : List Event) (old new : World S)
-    → ((tales : ℕ → List Tale) → es ≡ take i (f (state_of told tales old))) → ChangesBy told (Happen es) old new → ChangesBy told (λ s. HappenInPart (f s) s) old new
-part_as told f i es old new is =
-    changes_as told (Happen es) (λ s. HappenInPart (f s) s) old new (λ tales y h. (i, subst (λ xs. Happen xs (state_of told tales old) y) (is tales) h))
+-- the first few of them happen, and the next one stops them
+pub part_stops : {S : Type 0} (told : S → Option Told) (f : State → List Event) (error : ApplyError) (event : Event) (i : ℕ) (old mid new : World S)
+    → ((tales : ℕ → List Tale) → slice_get (f (state_of told tales old)) i ≡ Some event)
+    → ChangesBy told (λ s. Happen (take i (f s)) s) old mid → ChangesBy told (StopsAt error event) mid new → ChangesBy told (λ s. HappenInPart error (f s) s) old new
+part_stops told f error event i old mid new at =
+    changes_then told (λ s. Happen (take i (f s)) s) (StopsAt error event) (λ s. HappenInPart error (f s) s) old mid new
+    (λ tales after z a b. (
+      i,
+      (
+        subst (λ s. Happen (take i (f (state_of told tales old))) (state_of told tales old) s) b.0 a,
+        subst (λ o. BrokeOff error o z) (sym (at tales)) b.1,
+      ),
+    ))
 
--- none of them
-pub part_none : {S : Type 0} (told : S → Option Told) (f : State → List Event) (old new : World S) → ChangesBy told (Happen []) old new → ChangesBy told (λ s. HappenInPart (f s) s) old new
-part_none told f old new = part_as told f 0 [] old new (λ tales. refl)
+-- a world that didn't change
+pub nothing_happens : {S : Type 0} (told : S → Option Told) (w : World S) → ChangesBy told (Happen []) w w
+nothing_happens told w = λ tales fits. (tales, (fits, refl))
+
+-- the first one stops them
+pub first_stops : {S : Type 0} (told : S → Option Told) (f : State → List Event) (error : ApplyError) (event : Event) (old new : World S)
+    → ((tales : ℕ → List Tale) → slice_get (f (state_of told tales old)) 0 ≡ Some event) → ChangesBy told (StopsAt error event) old new → ChangesBy told (λ s. HappenInPart error (f s) s) old new
+first_stops told f error event old new at = part_stops told f error event 0 old old new at (nothing_happens told old)
 
 -- a request that has a reply is taken by handing it
 pub taken_again : (n : ℕ) (s : State) → has_reply (numbered s.net n) ≡ true → events.Reply n 1 ∷ [] ≡ taken n s

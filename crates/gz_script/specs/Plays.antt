@@ -8,20 +8,41 @@ use Rattle.gz_world.specs.Bridge.{state_of}
 use Rattle.gz_world.specs.Fits.{Fits}
 use Rattle.gz_world.specs.States.{State, RequestAt, numbered}
 use Rattle.gz_world.specs.Steps.{Step}
+use Rattle.gz_world.specs.declared.events.ApplyError.{ApplyError}
+use Rattle.gz_world.specs.declared.events.ApplyError.TheVariants.{Full, NoMemory}
 use Rattle.gz_world.specs.declared.events.Event.{Event}
 use Rattle.gz_world.specs.declared.events.Event.TheVariants as events
 use Rattle.gz_world.specs.declared.world.World.{World}
 use Rattle.gz_lines.specs.declared.line.Line.{Line}
 use Rattle.gz_lines.specs.declared.line.Line.TheVariants.{OpenSession, Begin, Deliver, Reply, GiveUp, Crash, Take, Settle, Drain}
 
+-- the world takes no more events: 4,000,000 are in its journal, or it holds 1,073,741,824 bytes
+abbrev pub TakesNone : State → Type 0
+TakesNone s = (4000000 ≤ length s.journal) ⊎ (1073741824 ≤ s.held)
+
+-- one event happens, in a world that takes it
+pub record Happens (event : Event) (old new : State) : Type 0 where
+  pub taken : TakesNone old → ⊥
+  pub step : Step old event new
+
 -- events happen one after another
 abbrev pub Happen : List Event → State → State → Type 0
 Happen [] old new = old ≡ new
-Happen (event ∷ more) old new = (mid : State) × (Step old event mid × Happen more mid new)
+Happen (event ∷ more) old new = (mid : State) × (Happens event old mid × Happen more mid new)
 
--- the first few of the events happen, and no other
-abbrev pub HappenInPart : List Event → State → State → Type 0
-HappenInPart all old new = (i : ℕ) × Happen (take i all) old new
+-- why events were broken off before this one: the world was full and refused it, or memory ran out, maybe before there was a next one
+abbrev pub BrokeOff : ApplyError → Option Event → State → Type 0
+BrokeOff Full None s = ⊥
+BrokeOff Full (Some event) s = TakesNone s
+BrokeOff NoMemory next s = Unit {0}
+
+-- events were broken off at this one: nothing happened
+abbrev pub StopsAt : ApplyError → Event → State → State → Type 0
+StopsAt error event old new = (old ≡ new) × BrokeOff error (Some event) new
+
+-- the first few of the events happen, and then they were broken off
+abbrev pub HappenInPart : ApplyError → List Event → State → State → Type 0
+HappenInPart error all old new = (i : ℕ) × (Happen (take i all) old new × BrokeOff error (slice_get all i) new)
 
 -- whether there is a reply of a request
 abbrev pub has_reply : Option RequestAt → Bool
@@ -52,9 +73,9 @@ abbrev pub Settles : ℕ → List ℕ → State → State → Type 0
 Settles session without old new = (k : ℕ) × ((k ≤ 65536) × (SettlesTimes session without k old new × (IsLowestLive new.cfg (new.tales session) None ⊎ (k ≡ 65536))))
 
 -- the same, broken off in the course of a time
-abbrev pub SettlesInPart : ℕ → List ℕ → State → State → Type 0
-SettlesInPart session without old new = (k : ℕ) × ((k < 65536) × ((mid : State) × (SettlesTimes session without k old mid
-    × ((n : ℕ) × (IsLowestLive mid.cfg (mid.tales session) (Some n) × HappenInPart (settled without n mid) mid new)))))
+abbrev pub SettlesInPart : ApplyError → ℕ → List ℕ → State → State → Type 0
+SettlesInPart error session without old new = (k : ℕ) × ((k < 65536) × ((mid : State) × (SettlesTimes session without k old mid
+    × ((n : ℕ) × (IsLowestLive mid.cfg (mid.tales session) (Some n) × HappenInPart error (settled without n mid) mid new)))))
 
 -- the numbers of a session's requests, where the first request has this number
 abbrev pub sent_from : ℕ → ℕ → List RequestAt → List ℕ
@@ -76,29 +97,25 @@ waiting session net = unanswered net (sent_by session net)
 abbrev pub drained : ℕ → State → List Event
 drained session s = map (λ n. events.Deliver n) (waiting session s.net)
 
--- one line
+-- one line, by what its events do, which are read off the world in which it is reached, and by what a line that settles does
+abbrev pub LineDoes : (List Event → State → State → Type 0) → (ℕ → List ℕ → State → State → Type 0) → Line → State → State → Type 0
+LineDoes Events Settling OpenSession old new = Events (events.OpenSession ∷ []) old new
+LineDoes Events Settling (Begin session call) old new = Events (events.Begin session call ∷ []) old new
+LineDoes Events Settling (Deliver n) old new = Events (events.Deliver n ∷ []) old new
+LineDoes Events Settling (Reply n which) old new = Events (events.Reply n which ∷ []) old new
+LineDoes Events Settling (GiveUp n) old new = Events (events.GiveUp n ∷ []) old new
+LineDoes Events Settling (Crash session) old new = Events (events.Crash session ∷ []) old new
+LineDoes Events Settling (Take n) old new = Events (taken n old) old new
+LineDoes Events Settling (Settle session without) old new = Settling session without old new
+LineDoes Events Settling (Drain session) old new = Events (drained session old) old new
+
+-- one line is played
 abbrev pub PlaysLine : Line → State → State → Type 0
-PlaysLine OpenSession old new = Happen (events.OpenSession ∷ []) old new
-PlaysLine (Begin session call) old new = Happen (events.Begin session call ∷ []) old new
-PlaysLine (Deliver n) old new = Happen (events.Deliver n ∷ []) old new
-PlaysLine (Reply n which) old new = Happen (events.Reply n which ∷ []) old new
-PlaysLine (GiveUp n) old new = Happen (events.GiveUp n ∷ []) old new
-PlaysLine (Crash session) old new = Happen (events.Crash session ∷ []) old new
-PlaysLine (Take n) old new = Happen (taken n old) old new
-PlaysLine (Settle session without) old new = Settles session without old new
-PlaysLine (Drain session) old new = Happen (drained session old) old new
+PlaysLine line old new = LineDoes Happen Settles line old new
 
 -- one line, broken off in the course of its events
-abbrev pub PlaysLineInPart : Line → State → State → Type 0
-PlaysLineInPart OpenSession old new = HappenInPart (events.OpenSession ∷ []) old new
-PlaysLineInPart (Begin session call) old new = HappenInPart (events.Begin session call ∷ []) old new
-PlaysLineInPart (Deliver n) old new = HappenInPart (events.Deliver n ∷ []) old new
-PlaysLineInPart (Reply n which) old new = HappenInPart (events.Reply n which ∷ []) old new
-PlaysLineInPart (GiveUp n) old new = HappenInPart (events.GiveUp n ∷ []) old new
-PlaysLineInPart (Crash session) old new = HappenInPart (events.Crash session ∷ []) old new
-PlaysLineInPart (Take n) old new = HappenInPart (taken n old) old new
-PlaysLineInPart (Settle session without) old new = SettlesInPart session without old new
-PlaysLineInPart (Drain session) old new = HappenInPart (drained session old) old new
+abbrev pub PlaysLineInPart : ApplyError → Line → State → State → Type 0
+PlaysLineInPart error line old new = LineDoes (HappenInPart error) (SettlesInPart error) line old new
 
 -- the lines, one after another
 abbrev pub Plays : List Line → State → State → Type 0
@@ -106,8 +123,9 @@ Plays [] old new = old ≡ new
 Plays (line ∷ lines) old new = (mid : State) × (PlaysLine line old mid × Plays lines mid new)
 
 -- the lines above some line, and that line in part
-abbrev pub PlaysInPart : List Line → State → State → Type 0
-PlaysInPart lines old new = (i : ℕ) × ((line : Line) × ((slice_get lines i ≡ Some line) × ((mid : State) × (Plays (take i lines) old mid × PlaysLineInPart line mid new))))
+abbrev pub PlaysInPart : ApplyError → List Line → State → State → Type 0
+PlaysInPart error lines old new =
+    (i : ℕ) × ((line : Line) × ((slice_get lines i ≡ Some line) × ((mid : State) × (Plays (take i lines) old mid × PlaysLineInPart error line mid new))))
 
 -- a world of the program, whatever the tales of its sessions are, becomes another one by such a change of its state
 abbrev pub ChangesBy : {S : Type 0} → (S → Option Told) → (State → State → Type 0) → World S → World S → Type 0

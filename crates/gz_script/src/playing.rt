@@ -1,13 +1,12 @@
 //! Schedules are played: each line's events are read off the world in which it is reached.
-ghost use Rattle.std.specs.Prelude.{◌≡◌, ◌↔◌, ◌∷◌, [], Err, OnOk, OnErr, IfOk, All, ◌==◌, map};
+ghost use Rattle.std.specs.Prelude.{◌≡◌, ◌∷◌, [], OnOk, IfErr, All, ◌==◌, map};
 ghost use Rattle.std.specs.List.{list_any};
 ghost use Rattle.gz_round.specs.Starting.{IsWithin};
-ghost use Rattle.gz_world.specs.Counting.{IsFull};
 ghost use Rattle.gz_world.specs.Fits.{IsFitting, IsBounded as IsBoundedEvent};
 ghost use Rattle.gz_world.specs.States.{request_of, numbered};
 ghost use Rattle.gz_world.specs.Told.{IsReachedBy};
 ghost use Rattle.gz_script.specs.Outboxes.{AreListed};
-ghost use Rattle.gz_script.specs.Plays.{Happen, HappenInPart, taken, is_left_out, settled, Settles, SettlesInPart, drained, PlaysLine, PlaysLineInPart, Plays, PlaysInPart, ChangesBy};
+ghost use Rattle.gz_script.specs.Plays.{Happen, StopsAt, HappenInPart, taken, is_left_out, settled, Settles, SettlesInPart, drained, PlaysLine, PlaysLineInPart, Plays, PlaysInPart, ChangesBy};
 ghost use Rattle.gz_lines.specs.Schedule.{IsBounded};
 
 use crate::outboxes::{Outboxes, has_reply};
@@ -27,8 +26,7 @@ pub fn play<S: Site>(lines: &[Line], world: &mut World<S>) -> Result<(), ApplyEr
     requires bounded { All IsBounded lines.now }
     ensures fits { IsFitting world.new }
     ensures plays { OnOk result (ChangesBy S.told (Plays lines.now) world.old world.new) }
-    ensures part { OnErr result (ChangesBy S.told (PlaysInPart lines.now) world.old world.new) }
-    ensures full { result ≡ Err ApplyError.Full → IsFull world.new }
+    ensures part { IfErr result (λ error. ChangesBy S.told (PlaysInPart error lines.now) world.old world.new) }
     ensures reached { IsReachedBy S.told world.old → IsReachedBy S.told world.new }
 {
     let mut boxes = Outboxes::new(world.alloc);
@@ -50,8 +48,7 @@ fn play_line<S: Site>(
     ensures listed { OnOk result (AreListed boxes.new (map request_of world.old.net.items)) }
     ensures fits { IsFitting world.new }
     ensures plays { OnOk result (ChangesBy S.told (PlaysLine line.now) world.old world.new) }
-    ensures part { OnErr result (ChangesBy S.told (PlaysLineInPart line.now) world.old world.new) }
-    ensures full { result ≡ Err ApplyError.Full → IsFull world.new }
+    ensures part { IfErr result (λ error. ChangesBy S.told (PlaysLineInPart error line.now) world.old world.new) }
 {
     match line {
         Line::OpenSession => happen(world, Event::OpenSession),
@@ -78,9 +75,7 @@ fn happen<S: Site>(world: &mut World<S>, event: Event) -> Result<(), ApplyError>
     requires bounded { IsBoundedEvent event }
     ensures fits { IsFitting world.new }
     ensures ok { OnOk result (ChangesBy S.told (Happen (event ∷ [])) world.old world.new) }
-    ensures err { OnErr result (ChangesBy S.told (HappenInPart (event ∷ [])) world.old world.new) }
-    ensures none { OnErr result (ChangesBy S.told (Happen []) world.old world.new) }
-    ensures full { result ≡ Err ApplyError.Full → IsFull world.new }
+    ensures err { IfErr result (λ error. ChangesBy S.told (StopsAt error event) world.old world.new) }
 {
     world.apply(event)?;
     Ok(())
@@ -92,8 +87,7 @@ fn begin<S: Site>(world: &mut World<S>, session: Session, call: &Call) -> Result
     requires bounded { IsWithin call.now }
     ensures fits { IsFitting world.new }
     ensures ok { OnOk result (ChangesBy S.told (Happen (Event.Begin session call.now ∷ [])) world.old world.new) }
-    ensures err { OnErr result (ChangesBy S.told (HappenInPart (Event.Begin session call.now ∷ [])) world.old world.new) }
-    ensures full { result ≡ Err ApplyError.Full → IsFull world.new }
+    ensures err { IfErr result (λ error. ChangesBy S.told (HappenInPart error (Event.Begin session call.now ∷ [])) world.old world.new) }
 {
     match gz_world::calls::copy_of_call(call) {
         Ok(call) => happen(world, Event::Begin { session, call }),
@@ -106,8 +100,7 @@ fn take<S: Site>(world: &mut World<S>, n: u32) -> Result<(), ApplyError>
     requires { IsFitting world.old }
     ensures fits { IsFitting world.new }
     ensures ok { OnOk result (ChangesBy S.told (λ s. Happen (taken n s) s) world.old world.new) }
-    ensures err { OnErr result (ChangesBy S.told (λ s. HappenInPart (taken n s) s) world.old world.new) }
-    ensures full { result ≡ Err ApplyError.Full → IsFull world.new }
+    ensures err { IfErr result (λ error. ChangesBy S.told (λ s. HappenInPart error (taken n s) s) world.old world.new) }
 {
     if has_reply(world.net.as_slice(), n) {
         return happen(world, Event::Reply { n, which: 1 });
@@ -142,8 +135,7 @@ fn settle_request<S: Site>(
     requires { IsFitting world.old }
     ensures fits { IsFitting world.new }
     ensures ok { OnOk result (ChangesBy S.told (λ s. Happen (settled without.now n s) s) world.old world.new) }
-    ensures err { OnErr result (ChangesBy S.told (λ s. HappenInPart (settled without.now n s) s) world.old world.new) }
-    ensures full { result ≡ Err ApplyError.Full → IsFull world.new }
+    ensures err { IfErr result (λ error. ChangesBy S.told (λ s. HappenInPart error (settled without.now n s) s) world.old world.new) }
 {
     if is_left_out(world, n, without) {
         return happen(world, Event::GiveUp { n });
@@ -160,8 +152,7 @@ fn settle<S: Site>(
     requires { IsFitting world.old }
     ensures fits { IsFitting world.new }
     ensures ok { OnOk result (ChangesBy S.told (Settles session without.now) world.old world.new) }
-    ensures err { OnErr result (ChangesBy S.told (SettlesInPart session without.now) world.old world.new) }
-    ensures full { result ≡ Err ApplyError.Full → IsFull world.new }
+    ensures err { IfErr result (λ error. ChangesBy S.told (SettlesInPart error session without.now) world.old world.new) }
 {
     for _ in 0..MOST_TIMES {
         match world.lowest_live(session) {
@@ -177,8 +168,7 @@ fn deliver_all<S: Site>(world: &mut World<S>, numbers: &[u32]) -> Result<(), App
     requires { IsFitting world.old }
     ensures fits { IsFitting world.new }
     ensures ok { OnOk result (ChangesBy S.told (Happen (map (λ n. Event.Deliver n) numbers.now)) world.old world.new) }
-    ensures err { OnErr result (ChangesBy S.told (HappenInPart (map (λ n. Event.Deliver n) numbers.now)) world.old world.new) }
-    ensures full { result ≡ Err ApplyError.Full → IsFull world.new }
+    ensures err { IfErr result (λ error. ChangesBy S.told (HappenInPart error (map (λ n. Event.Deliver n) numbers.now)) world.old world.new) }
 {
     for n in numbers {
         happen(world, Event::Deliver { n: *n })?;
@@ -197,8 +187,7 @@ fn drain<S: Site>(
     ensures fits { IsFitting world.new }
     ensures listed { OnOk result (AreListed boxes.new (map request_of world.old.net.items)) }
     ensures ok { OnOk result (ChangesBy S.told (λ s. Happen (drained session s) s) world.old world.new) }
-    ensures err { OnErr result (ChangesBy S.told (λ s. HappenInPart (drained session s) s) world.old world.new) }
-    ensures full { result ≡ Err ApplyError.Full → IsFull world.new }
+    ensures err { IfErr result (λ error. ChangesBy S.told (λ s. HappenInPart error (drained session s) s) world.old world.new) }
 {
     match boxes.look(world.net.as_slice(), session) {
         Ok(()) => deliver_all(world, boxes.of(session)),

@@ -51,8 +51,8 @@ WriteNext old key expect row (Ok Changed) new = (etag_of (old.rows key) ≢ expe
 WriteNext old key expect row (Err Failed) new = (etag_of (old.rows key) ≡ expect) × ((old.top ≡ 2 ^ 64 - 1) × (new ≡ old))
 WriteNext old key expect row (Err NoMemory) new = new ≡ old
 
--- a call that is made to fail answers Failed, after its effect where it is to have it; want of memory is free
+-- a call that is made to fail answers Failed, after its effect where it is to have it; want of memory is free, and is then the answer
 abbrev pub Fated : {T : Type 0} → Option Bool → Told → (Result T SiteFault → Told → Type 0) → Result T SiteFault → Told → Type 0
 Fated None old Does result new = Does result new
 Fated (Some false) old Does result new = (result ≡ Err Failed) × (new ≡ old)
-Fated {T} (Some true) old Does result new = ((result ≡ Err NoMemory) × (new ≡ old)) ⊎ ((result ≡ Err Failed) × ((done : Result T SiteFault) × Does done new))
+Fated {T} (Some true) old Does result new = ((result ≡ Err NoMemory) × (new ≡ old)) ⊎ ((result ≡ Err Failed) × ((done : Result T SiteFault) × ((done ≢ Err NoMemory) × Does done new)))

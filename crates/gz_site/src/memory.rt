@@ -178,8 +178,9 @@ impl Site for MemSite {
             None => self.contents.read(key),
             Some(false) => Err(self.fail()),
             Some(true) => match self.contents.read(key) {
+                Ok(_) => Err(self.fail()),
+                Err(SiteFault::Failed) => Err(self.fail()),
                 Err(SiteFault::NoMemory) => Err(SiteFault::NoMemory),
-                _ => Err(self.fail()),
             },
         }
     }
@@ -204,8 +205,9 @@ impl Site for MemSite {
             },
             Some(false) => Err(self.fail()),
             Some(true) => match self.contents.write(key, expect, row) {
+                Ok(_) => Err(self.fail()),
+                Err(SiteFault::Failed) => Err(self.fail()),
                 Err(SiteFault::NoMemory) => Err(SiteFault::NoMemory),
-                _ => Err(self.fail()),
             },
         }
     }

@@ -1,4 +1,5 @@
-use Rattle.std.proofs.Common.{refl, sym, subst}
+use Rattle.std.proofs.Common.{refl, sym, subst, inl, inr}
+use Rattle.gz_world.specs.declared.events.ApplyError.TheVariants.{Full, NoMemory}
 use Rattle.gz_script.specs.Plays.{Plays, PlaysInPart}
 use Rattle.gz_cli.specs.declared.status.Status.{Status}
 use Rattle.gz_cli.specs.Runs.{HasPlayed}
@@ -33,22 +34,31 @@ returns-clause-full g c = λ events held full.
         world = c.play_and_write-status.new.world;
         is_left = refl;
         played =
-            played g.S.Site.told c.args.bench.now.sites.items (PlaysInPart c.args.lines.now) c.open-world.result c.play_and_write-status.new.world c.open-world.ensures.opened
+            played g.S.Site.told c.args.bench.now.sites.items (PlaysInPart Full c.args.lines.now) c.open-world.result c.play_and_write-status.new.world c.open-world.ensures.opened
             c.requires.fresh k.0;
         holds = k.1;
       },
       k.2,
     )
 
-pub returns-clause-some : goal.returns-clause-some
-returns-clause-some g c = record {
-  world = c.play_and_write-status.new.world;
-  is_left = refl;
-  played =
-      played g.S.Site.told c.args.bench.now.sites.items (PlaysSome c.args.lines.now) c.open-world.result c.play_and_write-status.new.world c.open-world.ensures.opened c.requires.fresh
-      c.play_and_write-status.ensures.some;
-  holds = c.play_and_write-status.ensures.part;
-}
+pub returns-clause-memory : goal.returns-clause-memory
+returns-clause-memory g c = λ memory. elim (c.play_and_write-status.ensures.memory memory) [
+  | inl broken ↦ inl (record {
+    world = c.play_and_write-status.new.world;
+    is_left = refl;
+    played =
+        played g.S.Site.told c.args.bench.now.sites.items (PlaysInPart NoMemory c.args.lines.now) c.open-world.result c.play_and_write-status.new.world c.open-world.ensures.opened
+        c.requires.fresh broken.0;
+    holds = broken.1;
+  })
+  | inr whole ↦ inr (record {
+    world = c.play_and_write-status.new.world;
+    is_left = refl;
+    played =
+        played g.S.Site.told c.args.bench.now.sites.items (Plays c.args.lines.now) c.open-world.result c.play_and_write-status.new.world c.open-world.ensures.opened c.requires.fresh whole;
+    holds = c.play_and_write-status.ensures.part;
+  })
+]
 
 pub returns-clause-reached : goal.returns-clause-reached
 returns-clause-reached g c =

@@ -30,4 +30,7 @@ returns-in-Ok-clause-memory g c = λ memory.
     let files = g.F.Shelf.files c.args.shelf.now in
     let lines = c.as_slice.result.now in
     let loads : Loads files c.args.schedule.now lines = subst (λ (ls : List Line). Loads files c.args.schedule.now ls) (sym c.as_slice.ensures.value) c.in-Ok.ensures.loads in
-    inr (lines, (loads, c.replay_lines.ensures.some))
+    elim (c.replay_lines.ensures.memory memory) [
+      | inl broken ↦ inr (inl (lines, (loads, broken)))
+      | inr whole ↦ inr (inr (lines, (loads, whole)))
+    ]

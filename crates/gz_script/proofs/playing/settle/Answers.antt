@@ -1,8 +1,8 @@
 use Rattle.std.proofs.Common.{arith}
 use Rattle.std.specs.Prelude.{length}
-use Rattle.gz_world.proofs.Results.{on_err_any}
 use Rattle.gz_script.specs.Plays.{SettlesInPart, ChangesBy}
 use Rattle.gz_script.proofs.LineLemmas.{settle_more, settle_ends, settle_tires, settle_stops}
+use Rattle.gz_script.proofs.PlayLemmas.{if_err_of}
 use Rattle.gz_script.proofs.playing.settle.Goals as goal
 
 pub returns-in-None-clause-ok : goal.returns-in-None-clause-ok
@@ -12,8 +12,9 @@ returns-in-None-clause-ok g c =
 
 pub returns-in_err-settle_request-in-Some-clause-err : goal.returns-in_err-settle_request-in-Some-clause-err
 returns-in_err-settle_request-in-Some-clause-err g c =
-    on_err_any c.from_residual.result (ChangesBy g.S.Site.told (SettlesInPart c.args.session c.args.without.now) c.args.world.now c.settle_request.new.world)
-    (settle_stops g.S.Site.told c.args.world.now c.loop.world c.settle_request.new.world c.args.session c.args.without.now c.loop.counter c.in-Some.n (omega arith)
+    let error = c.in_err-settle_request-in-Some.field-0.0 in
+    if_err_of c.from_residual.result error (λ e. ChangesBy g.S.Site.told (SettlesInPart e c.args.session c.args.without.now) c.args.world.now c.settle_request.new.world) c.from_residual.ensures.1
+    (settle_stops g.S.Site.told error c.args.world.now c.loop.world c.settle_request.new.world c.args.session c.args.without.now c.loop.counter c.in-Some.n (omega arith)
     (λ tales fits. c.in-Some.ensures (length c.loop.world.journal.items) tales fits) c.loop.invariant.settles c.in_err-settle_request-in-Some.ensures.err)
 
 pub loop-preserved : goal.loop-preserved
