@@ -8,7 +8,7 @@ use Rattle.gz_core.specs.Values.{name_of}
 use Rattle.gz_core.specs.Rows.{RowAt, IsRow, column_in}
 use Rattle.gz_core.specs.declared.slots.Slot.{Slot}
 use Rattle.gz_core.specs.declared.slots.Slot.TheVariants.{Gone, OpenAt, DecidedAs}
-use Rattle.gz_core.specs.Slots.{Act, VotesFast, Promises, VotesClassic, Decides, Trims, slots, slot_of, with_slot, trimmed}
+use Rattle.gz_core.specs.Slots.{is_collected, Act, VotesFast, Promises, VotesClassic, Decides, Trims, slots, slot_of, with_slot, trimmed}
 use Rattle.gz_core.specs.declared.rows.Column.{Column}
 use Rattle.gz_core.specs.declared.rows.Column.TheVariants.{Open, Decided}
 use Rattle.gz_accept.specs.Laws.{Leads, PromisesRise, VotesRise, DecisionsStay, CollectedStays, IsAtLeast}
@@ -66,11 +66,11 @@ trim_goes r to x there same v =
     ]
 
 -- a version is collected exactly where it is at or below a floor that was raised
-collected_low : (row : RowAt) (v : ℕ) → slots row v ≡ Gone → (nat_lt 0 row.floor && nat_le v row.floor) ≡ true
+collected_low : (row : RowAt) (v : ℕ) → slots row v ≡ Gone → is_collected row v ≡ true
 collected_low row v gone =
-    elim (cases_Bool (nat_lt 0 row.floor && nat_le v row.floor)) [ inl e ↦ e | inr e ↦ absurd (slot_there (column_in row.columns v) (rw e at gone)) ]
+    elim (cases_Bool (is_collected row v)) [ inl e ↦ e | inr e ↦ absurd (slot_there (column_in row.columns v) (rw e at gone)) ]
 
-low_collected : (row : RowAt) (v : ℕ) → (nat_lt 0 row.floor && nat_le v row.floor) ≡ true → slots row v ≡ Gone
+low_collected : (row : RowAt) (v : ℕ) → is_collected row v ≡ true → slots row v ≡ Gone
 low_collected row v low = rw low refl
 
 -- what is not collected has nothing collected above it
@@ -107,7 +107,7 @@ open_low before had (Some (Open promise (Some vote))) rule was =
 
 vote_low : (row : RowAt) (v : ℕ) (before : BallotAt) (had : BallotAt × Name) → IsRow row → slots row v ≡ OpenAt before (Some had) → is_below before had.0 ≡ false
 vote_low row v before had rule was =
-    elim (cases_Bool (nat_lt 0 row.floor && nat_le v row.floor)) [
+    elim (cases_Bool (is_collected row v)) [
       | inl e ↦ let no : Gone ≡ OpenAt before (Some had) = rw e at was in absurd cc
       | inr e ↦ open_low before had (column_in row.columns v) (column_rule row.columns v rule.columns) (rw e at was)
     ]

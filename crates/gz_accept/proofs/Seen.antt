@@ -5,7 +5,7 @@ use Rattle.std.proofs.lemmas.Bool.{cases_Bool}
 use Rattle.std.proofs.lemmas.Bool.Decides.{nat_tests}
 use mathlib.Core.Path.{fun_ext}
 use Rattle.gz_core.specs.Rows.{RowAt, column_in}
-use Rattle.gz_core.specs.Slots.{slots, slot_of, with_slot, trimmed}
+use Rattle.gz_core.specs.Slots.{is_collected, slots, slot_of, with_slot, trimmed}
 use Rattle.gz_core.specs.Values.{name_of}
 use Rattle.gz_core.specs.declared.values.Value.{Value}
 use Rattle.gz_core.specs.declared.rows.Column.{Column}
@@ -53,8 +53,8 @@ slot_there (Some (Open promise vote)) = λ gone. cc
 slot_there (Some (Decided value)) = λ gone. cc
 
 -- a version that was not collected is not at or below a floor that was raised
-not_low : (row : RowAt) (v : ℕ) → slots row v ≢ Gone → (nat_lt 0 row.floor && nat_le v row.floor) ≡ false
-not_low row v there = elim (cases_Bool (nat_lt 0 row.floor && nat_le v row.floor)) [ inl e ↦ absurd (there (rw e refl)) | inr e ↦ e ]
+not_low : (row : RowAt) (v : ℕ) → slots row v ≢ Gone → is_collected row v ≡ false
+not_low row v there = elim (cases_Bool (is_collected row v)) [ inl e ↦ absurd (there (rw e refl)) | inr e ↦ e ]
 
 -- it shows its column
 pub slots_there : (row : RowAt) (v : ℕ) → slots row v ≢ Gone → slots row v ≡ slot_of (column_in row.columns v)

@@ -1,5 +1,5 @@
 -- A row seen version by version, and what the acceptor's steps make of it. (Lamport 2006, "Fast Paxos".)
-use Rattle.std.specs.Prelude.{ℕ, ◌≡◌, ◌≢◌, ◌+◌, ◌==◌, true, false, ◌&&◌, nat_lt, nat_le, if◌then◌else◌, Option, Some, None}
+use Rattle.std.specs.Prelude.{ℕ, Bool, ◌≡◌, ◌≢◌, ◌+◌, ◌==◌, true, false, ◌&&◌, nat_lt, nat_le, if◌then◌else◌, Option, Some, None}
 use Rattle.gz_core.specs.Names.{Name, BallotAt, fast, is_below}
 use Rattle.gz_core.specs.Values.{name_of}
 use Rattle.gz_core.specs.Rows.{RowAt, column_in}
@@ -22,9 +22,13 @@ slot_of None = OpenAt fast None
 slot_of (Some (Open promise vote)) = OpenAt promise (vote_pair vote)
 slot_of (Some (Decided value)) = DecidedAs (name_of value)
 
--- the row, version by version; a floor of 0 means that nothing was collected
+-- whether a version was collected; a floor of 0 means that none was
+abbrev pub is_collected : RowAt → ℕ → Bool
+is_collected row v = nat_lt 0 row.floor && nat_le v row.floor
+
+-- the row, version by version
 abbrev pub slots : RowAt → ℕ → Slot
-slots row v = if nat_lt 0 row.floor && nat_le v row.floor then Gone else slot_of (column_in row.columns v)
+slots row v = if is_collected row v then Gone else slot_of (column_in row.columns v)
 
 -- the vote that stands
 abbrev pub slot_vote : Slot → Option (BallotAt × Name)

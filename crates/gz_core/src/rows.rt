@@ -1,8 +1,8 @@
 //! The row of an object at a site: one column for each version, an acceptor's state of one instance of Fast Paxos.
-ghost use Rattle.std.specs.Prelude.{◌≡◌, ◌&&◌, nat_lt, nat_le, Some};
+ghost use Rattle.std.specs.Prelude.{◌≡◌, Some};
 ghost use Rattle.std.specs.Option.{option_copied};
 ghost use Rattle.gz_core.specs.Rows.{IsRow, empty_row, column_in};
-ghost use Rattle.gz_core.specs.Slots.{slots, slot_of, vote_pair};
+ghost use Rattle.gz_core.specs.Slots.{is_collected, slots, slot_of, vote_pair};
 
 use crate::lists::Items;
 use crate::names::{Ballot, PutName, Version};
@@ -111,7 +111,7 @@ impl Row {
 
     /// Whether a version was collected.
     pub fn is_collected(&self, version: Version) -> bool
-        ensures same { result ≡ (nat_lt 0 self.now.floor && nat_le version self.now.floor) }
+        ensures same { result ≡ is_collected self.now version }
         ensures row { IsRow self.now }
     {
         self.floor > Version::none() && version <= self.floor
