@@ -21,11 +21,11 @@ use Rattle.gz_pick.specs.declared.heard.Pick.TheVariants.{Forced, Free}
 use Rattle.gz_model.specs.Choosing.{Allows}
 use Rattle.gz_round.specs.History.{Moment, Caller, Tale}
 use Rattle.gz_round.specs.Sites.{some_heard}
-use Rattle.gz_round.specs.Shown.{IsGrounded as IsGroundedTo}
+use Rattle.gz_round.specs.Shown.{heard_at, IsGrounded as IsGroundedTo}
 use Rattle.gz_round.specs.Rounds.{MayPromise, IsLeft, MayPropose}
 use Rattle.gz_round.specs.Sending.{AreAllowed, MayMake}
 use Rattle.gz_ledger.specs.Acceptors.{HasValue}
-use Rattle.gz_ledger.specs.Histories.{Write, IsIn, IsVotedAt}
+use Rattle.gz_ledger.specs.Histories.{Seen, Write, IsIn, IsVotedAt}
 use Rattle.gz_ledger.specs.Guards.{IsGrounded, IsClear, May}
 use Rattle.gz_ledger.specs.Deeds.{Store, writes_of}
 use Rattle.gz_laws.specs.Heard.{heard_of, MomentsStand, SentStep, PastStep, Keeps}
@@ -74,16 +74,28 @@ top_column bound (c ∷ cs) rises h =
           ]
     ]
 
--- a ground that was heard
-grounded_heard : (c : Config) (st : Store) (ms : List Moment) (v : ℕ) → 1 ≤ v → MomentsStand st ms → IsGroundedTo c ms v → IsGrounded c (heard_of ms) v
-grounded_heard c st ms v above stands (inl n) = inl (next_heard c st ms v stands n)
-grounded_heard c st ms v above stands (inr k) =
+-- a row that was heard with a vote or a decision at the version or above
+pub record IsTopHeard (c : Config) (heard : List Seen) (v : ℕ) : Type 0 where
+  pub entry : Seen
+  pub within : entry.site < c.n
+  pub found : IsIn entry heard
+  pub version : ℕ
+  pub above : v ≤ version
+  pub value : HasValue (entry.row version)
+
+pub top_heard : (c : Config) (st : Store) (ms : List Moment) (v : ℕ) → 1 ≤ v → MomentsStand st ms → 1 ≤ heard_at c (λ r. nat_le v (row_top r)) ms → IsTopHeard c (heard_of ms) v
+top_heard c st ms v above stands k =
     let f = count_found c.n (some_heard (λ r. nat_le v (row_top r)) ms) k in
     let g = heard_found st (λ r. nat_le v (row_top r)) ms f.0 stands f.2 in
     let le = le_means v (row_top g.0) g.1.1.0 in
     let t = top_column 0 g.0.columns g.1.0.rises (omega (arith, le, above)) in
     let s : slots g.0 (row_top g.0) ≡ slot_of (Some t.0) = slots_open g.0 (row_top g.0) g.1.0.floor ∙ ap slot_of t.1.0 in
-    inr (record { site = f.0; row = slots g.0 }, row_top g.0, g.1.1.1, le, subst HasValue (sym s) (shows_slot t.0 t.1.1))
+    record { entry = record { site = f.0; row = slots g.0 }; within = f.1; found = g.1.1.1; version = row_top g.0; above = le; value = subst HasValue (sym s) (shows_slot t.0 t.1.1) }
+
+-- a ground that was heard
+grounded_heard : (c : Config) (st : Store) (ms : List Moment) (v : ℕ) → 1 ≤ v → MomentsStand st ms → IsGroundedTo c ms v → IsGrounded c (heard_of ms) v
+grounded_heard c st ms v above stands (inl n) = inl (next_heard c st ms v stands n)
+grounded_heard c st ms v above stands (inr k) = let t = top_heard c st ms v above stands k in inr (t.entry, t.version, t.found, t.above, t.value)
 
 -- a promise of a ballot that was promised before is this call's, at this version
 fresh_ballot : (c : Config) (w : Caller) (past : List Tale) (ms : List Moment) (st : Store) (v : ℕ) (b : BallotAt) → Keeps w.name past ms st → AreAllowed c w past ms → MayPromise c w past ms v b

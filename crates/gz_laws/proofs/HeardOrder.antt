@@ -96,10 +96,16 @@ row_asked : (op : Op) → is_row_request op ≡ true
 row_asked (ReadRow key) = refl
 row_asked (WriteRow key expect step row) = refl
 
+pub to_here : (a : Asked) (s : ℕ) → a.site ≡ s → is_to a s ≡ true
+to_here a s same = ap (λ t. t && (a.site == s)) (row_asked a.op) ∙ (let t : (a.site == s) ≡ true = grind (arith, nat_tests) in t)
+
+pub to_other : (a : Asked) (s : ℕ) → a.site ≢ s → is_to a s ≡ false
+to_other a s apart = ap (λ t. t && (a.site == s)) (row_asked a.op) ∙ (let t : (a.site == s) ≡ false = grind (arith, nat_tests) in t)
+
 -- a site that answers awaits nothing, so a site that still awaits is another one
 other_site : (b : Asked) (reply : Reply) (ms : List Moment) (s : ℕ) (a : Asked) → (site_now (Handed b reply ∷ ms) s).awaits ≡ Some a → b.site ≢ s
 other_site b reply ms s a e same =
-    let to : is_to b s ≡ true = ap (λ t. t && (b.site == s)) (row_asked b.op) ∙ (let t : (b.site == s) ≡ true = grind (arith, nat_tests) in t) in
+    let to = to_here b s same in
     let now = site_now ms s in
     let next = after_reply (seen_in (written_by b.op) reply) (is_changed reply) now in
     let here : next.awaits ≡ Some a = sym (ap (λ t. (if t then next else now).awaits) to) ∙ e in

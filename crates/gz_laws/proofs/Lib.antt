@@ -6,12 +6,16 @@ pub mod CastRuns
 pub mod Currents
 pub mod Exchanges
 pub mod Exchanging
+pub mod FirstPromises
+pub mod GivingIn
+pub mod GoingOn
 pub mod Growing
 pub mod Guarding
 pub mod HeardOrder
 pub mod Hearing
 pub mod Keeping
 pub mod Keys
+pub mod LastRows
 pub mod Legality
 pub mod Listing
 pub mod Nets

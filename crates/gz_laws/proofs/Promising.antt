@@ -37,14 +37,14 @@ pub classic_not_fast : (b : BallotAt) → IsClassic b → same_ballot b fast ≡
 classic_not_fast b h = let r = h.0 in let t : (b.round == 0) ≡ false = grind (arith, nat_tests) in ap (λ k. k && (b.session == 0)) t
 
 -- the promise that a step makes
-step_promises : (step : RowStep) (v : ℕ) (b : BallotAt) → act_of step ≡ Promises v b → promise_by step ≡ Some (v, b)
+pub step_promises : (step : RowStep) (v : ℕ) (b : BallotAt) → act_of step ≡ Promises v b → promise_by step ≡ Some (v, b)
 step_promises (FastVote u x) v b e = cc
 step_promises (Promise u d) v b e = let p : u ≡ v = cc in let q : d ≡ b = cc in λ i. Some (p i, q i)
 step_promises (ClassicVote u d x) v b e = cc
 step_promises (Decide u x) v b e = cc
 step_promises (Trim to x) v b e = cc
 
-op_promises : (op : Op) (v : ℕ) (b : BallotAt) → IsStepOf op (Promises v b) → of_step promise_by op ≡ Some (v, b)
+pub op_promises : (op : Op) (v : ℕ) (b : BallotAt) → IsStepOf op (Promises v b) → of_step promise_by op ≡ Some (v, b)
 op_promises (ReadRow key) v b h = absurd h
 op_promises (WriteRow key expect step row) v b h = step_promises step v b h
 
@@ -128,7 +128,7 @@ step_promised (ClassicVote u d x) v b h = cc
 step_promised (Decide u x) v b h = cc
 step_promised (Trim to x) v b h = cc
 
-op_promised : (op : Op) (v : ℕ) (b : BallotAt) → passes_sent (λ p. (p.0 == v) && same_ballot p.1 b) (of_step promise_by op) ≡ true → IsStepOf op (Promises v b)
+pub op_promised : (op : Op) (v : ℕ) (b : BallotAt) → passes_sent (λ p. (p.0 == v) && same_ballot p.1 b) (of_step promise_by op) ≡ true → IsStepOf op (Promises v b)
 op_promised (ReadRow key) v b h = cc
 op_promised (WriteRow key expect step row) v b h = step_promised step v b h
 

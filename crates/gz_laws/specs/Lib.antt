@@ -3,6 +3,7 @@ pub mod Begun
 pub mod Carried
 pub mod Each
 pub mod Exchanged
+pub mod Going
 pub mod Heard
 pub mod Listed
 pub mod Overtaken

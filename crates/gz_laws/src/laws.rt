@@ -6,7 +6,9 @@ ghost use Rattle.gz_world.specs.Reached.{IsReached, AllTell};
 ghost use Rattle.gz_laws.specs.Runs.{IsRun};
 ghost use Rattle.gz_laws.specs.Listed.{AreListed};
 ghost use Rattle.gz_laws.specs.Carried.{AreCarried};
+ghost use Rattle.gz_laws.specs.Each.{EachTale};
 ghost use Rattle.gz_laws.specs.Exchanged.{AreExchanged};
+ghost use Rattle.gz_laws.specs.Going.{IsGoingOn};
 ghost use Rattle.gz_laws.specs.Overtaken.{AreOvertaken};
 ghost use Rattle.gz_laws.specs.Placed.{ArePlaced};
 ghost use Rattle.gz_laws.specs.Recorded.{AreRecorded};
@@ -48,6 +50,13 @@ pub fn object_runs()
 /// value at one version; what is shown to a call is chosen, and what is chosen is backed by the rows of a quorum.
 pub fn agreement()
     ensures { (key : List ℕ) (s : State) → IsReached s → AllTell s → AreAgreed key s }
+{}
+
+/// In a world that is reached and whose sites tell what they hold, no call gives in for want of promises, votes or a
+/// value: the sites that are out for a call are exactly those of which a request was given up, or answered by a fault or by
+/// a row that isn't heard.
+pub fn no_call_gives_in()
+    ensures { (s : State) → IsReached s → AllTell s → (session : ℕ) → EachTale IsGoingOn (s.tales session) }
 {}
 
 /// In a world that is reached and whose sites tell what they hold, every value that a row has is one that a call of
