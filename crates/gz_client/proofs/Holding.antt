@@ -1,5 +1,5 @@
 -- The client stands for its session's tales after an event.
-use Rattle.std.proofs.Common.{◌≡◌, ◌==◌, ℕ, ◌+◌, ◌<◌, ◌≤◌, ◌^◌, max, true, false, List, [], ◌∷◌, ◌++◌, length, Option, Some, None, IsSome, option_map, refl, sym, ap, ◌∙◌, subst, arith}
+use Rattle.std.proofs.Common.{◌≡◌, ◌==◌, ℕ, ◌+◌, ◌<◌, ◌≤◌, ◌^◌, max, true, false, List, [], ◌∷◌, ◌++◌, length, Option, Some, None, IsSome, option_map, refl, sym, ap, ◌∙◌, subst, inl, arith}
 use Rattle.std.proofs.lemmas.Bool.{eqb-true, eq-eqb, false≢true}
 use Rattle.std.proofs.lemmas.Option.{same_Some, none-some, slice_get_within}
 use Rattle.gz_core.specs.Configurations.{IsConfig}
@@ -18,10 +18,11 @@ use Rattle.gz_round.specs.Sites.{site_now}
 use Rattle.gz_round.specs.Standing.{Knows, Runs, mark_of, awaited_of}
 use Rattle.gz_round.specs.Numbering.{AreNumbered}
 use Rattle.gz_round.specs.Awaiting.{IsSiteOf, has_number, is_numbered}
-use Rattle.gz_round.specs.Rounds.{top_rounds}
+use Rattle.gz_round.specs.Rounds.{top_rounds, rounds_used}
 use Rattle.gz_round.specs.Sent.{top_round}
 use Rattle.gz_round.specs.Following.{Ready, Turned, HasTurned}
 use Rattle.gz_round.proofs.Numbers.{numbered_sent, numbered_none, numbered_closed}
+use Rattle.gz_round.proofs.Bounds.{turned_below}
 use Rattle.gz_client.specs.declared.client.Client.{Client}
 use Rattle.gz_client.specs.Tales.{Holds, HoldsRun, AreTold, AreOver, IsAwaited, CanBeTold, HasActed, IsLive, IsLiveAtIn, IsLiveAtWhile, going_on}
 
@@ -30,18 +31,20 @@ rounds_newest round past now e = omega (arith, e)
 
 -- after an event of the newest call
 pub turned_holds : (c : Config) (session : ℕ) (w : Caller) (ts : List Tale) (run : Run) (ms : List Moment) (answer : Option Answer) (calls next : ℕ) → IsConfig c → calls ≡ length ts + 1 → w.name ≡ record { session = session; seq = length ts + 1 } → AreTold c session ts → AreOver ts →
-    AreNumbered c ms next → Turned c w ts run ms answer → Holds (record { config = c; session = session; calls = calls; round = run.round; run = going_on run answer }) next (record { caller = w; moments = ms; answer = answer } ∷ ts)
-turned_holds c session w ts run ms None calls next sizes count named told over numbered runs = record {
+    AreNumbered c ms next → rounds_used ts ms < 2 ^ 31 + next → Turned c w ts run ms answer → Holds (record { config = c; session = session; calls = calls; round = run.round; run = going_on run answer }) next (record { caller = w; moments = ms; answer = answer } ∷ ts)
+turned_holds c session w ts run ms None calls next sizes count named told over numbered low runs = record {
   sizes = sizes;
   calls_are = count ∙ omega arith;
   round_is = rounds_newest run.round (top_rounds ts) (top_round ms) runs.stands.round_is;
+  round_low = let used = runs.stands.round_is in omega arith;
   told = (record { allowed = runs.stands.allowed; answered = (runs.going, runs.waits) }, named, told);
   run_is = (refl, runs, numbered, over);
 }
-turned_holds c session w ts run ms (Some answer) calls next sizes count named told over numbered ended = record {
+turned_holds c session w ts run ms (Some answer) calls next sizes count named told over numbered low ended = record {
   sizes = sizes;
   calls_are = count ∙ omega arith;
   round_is = rounds_newest run.round (top_rounds ts) (top_round ms) ended.2;
+  round_low = let used = ended.2 in omega arith;
   told = (record { allowed = ended.0; answered = ended.1 }, named, told);
   run_is = ((answer, refl), over);
 }
@@ -50,13 +53,17 @@ pub idle_over : (c : Config) (next : ℕ) (run : Option Run) (ts : List Tale) �
 idle_over c next run ts e h = subst (λ r. HoldsRun c next r ts) e h
 
 -- a call that begins
-pub begun_holds : (client : Client) (call : Call) (first : ℕ) (send : List Out) (next : ℕ) (ts : List Tale) (run : Run) → Holds client next ts → client.run ≡ None →
+pub begun_holds : (client : Client) (call : Call) (first : ℕ) (send : List Out) (next : ℕ) (ts : List Tale) (run : Run) → Holds client next ts → next ≤ first → client.run ≡ None →
     Runs client.config (record { name = record { session = client.session; seq = length ts + 1 }; call = call }) ts run (sent_from first send []) →
     Holds (record { config = client.config; session = client.session; calls = client.calls + 1; round = run.round; run = Some run }) (first + length send) (begun client.session call first (record { send = send; answer = None }) ts ∷ ts)
-begun_holds client call first send next ts run h idle runs =
+begun_holds client call first send next ts run h l idle runs =
     let over : AreOver ts = idle_over client.config next client.run ts idle h.run_is in
     let numbered : AreNumbered client.config (sent_from first send []) (first + length send) = numbered_sent client.config first send [] (numbered_none client.config first) in
-    turned_holds client.config client.session (record { name = record { session = client.session; seq = length ts + 1 }; call = call }) ts run (sent_from first send []) None (client.calls + 1) (first + length send) h.sizes (ap (λ n. n + 1) h.calls_are) refl h.told over numbered runs
+    let w : Caller = record { name = record { session = client.session; seq = length ts + 1 }; call = call } in
+    let round = h.round_is in
+    let used : rounds_used ts [] < 2 ^ 31 + first = omega (arith, h.round_low) in
+    let low : rounds_used ts (sent_from first send []) < 2 ^ 31 + (first + length send) = turned_below client.config w ts run [] first send [] None (inl refl) used runs in
+    turned_holds client.config client.session w ts run (sent_from first send []) None (client.calls + 1) (first + length send) h.sizes (ap (λ n. n + 1) h.calls_are) refl h.told over numbered low runs
 
 -- what is held of the running call
 pub record HasRun (client : Client) (next : ℕ) (t : Tale) (ts : List Tale) (run : Run) : Type 0 where
@@ -108,20 +115,23 @@ about client run n first at next t ts a e site h awaited =
     record { inside = s.0; awaits = s.1; ready = ready_of client.config t.caller ts run t.moments k.runs }
 
 -- one more moment of the running call, after which the client acted
-pub acted_extends : (client after : Client) (run told : Run) (first : ℕ) (turn : Turn) (moment : Moment) (next : ℕ) (t : Tale) (ts : List Tale) → client.run ≡ Some run → HasActed client after told first turn → Holds client next (t ∷ ts) →
+pub acted_extends : (client after : Client) (run told : Run) (first : ℕ) (turn : Turn) (moment : Moment) (next : ℕ) (t : Tale) (ts : List Tale) → client.run ≡ Some run → HasActed client after told first turn → Holds client next (t ∷ ts) → next ≤ first → rounds_used ts (moment ∷ t.moments) ≡ rounds_used ts t.moments →
     AreNumbered client.config (moment ∷ t.moments) first → Ready client.config t.caller ts told (moment ∷ t.moments) →
     (closing : List Moment) × IsClosing closing × Holds after (first + length turn.send) (turned first turn moment closing t ∷ ts)
-acted_extends client after run told first turn moment next t ts e acted h numbered ready =
+acted_extends client after run told first turn moment next t ts e acted h l same numbered ready =
     let k = run_held client next t ts run e h in
     let tells = h.told in
     let calls = h.calls_are in
     let ended : HasTurned client.config t.caller ts acted.0 (sent_from first turn.send (moment ∷ t.moments)) turn.answer = acted.2 t.caller ts (moment ∷ t.moments) ready in
+    let round = h.round_is in
+    let used : rounds_used ts (moment ∷ t.moments) < 2 ^ 31 + first = omega (arith, h.round_low) in
+    let low : rounds_used ts (ended.0 ++ sent_from first turn.send (moment ∷ t.moments)) < 2 ^ 31 + (first + length turn.send) = turned_below client.config t.caller ts acted.0 ended.0 first turn.send (moment ∷ t.moments) turn.answer ended.1 used ended.2 in
     let sent : AreNumbered client.config (sent_from first turn.send (moment ∷ t.moments)) (first + length turn.send) = numbered_sent client.config first turn.send (moment ∷ t.moments) numbered in
     let later : AreNumbered client.config (ended.0 ++ sent_from first turn.send (moment ∷ t.moments)) (first + length turn.send) = numbered_closed client.config (sent_from first turn.send (moment ∷ t.moments)) ended.0 (first + length turn.send) ended.1 sent in (
       ended.0,
       ended.1,
       subst (λ (new : Client). Holds new (first + length turn.send) (turned first turn moment ended.0 t ∷ ts)) (sym acted.1)
-          (turned_holds client.config client.session t.caller ts acted.0 (ended.0 ++ sent_from first turn.send (moment ∷ t.moments)) turn.answer client.calls (first + length turn.send) h.sizes (omega arith) tells.1 tells.2 k.over later ended.2),
+          (turned_holds client.config client.session t.caller ts acted.0 (ended.0 ++ sent_from first turn.send (moment ∷ t.moments)) turn.answer client.calls (first + length turn.send) h.sizes (omega arith) tells.1 tells.2 k.over later low ended.2),
     )
 
 -- a client that may be told of a request has a call that runs, which awaits it from a site
@@ -151,6 +161,13 @@ can_hear client run n first at e site k =
     let few = held.runs.going.few in
     let tries = k.4.sizes.tries in
     record { rows = omega arith; marks = omega arith; met = omega arith }
+
+-- the rounds of a call that was told something are those of its client
+pub told_round : (client : Client) (told : Run) (n first : ℕ) (moment : Moment) (k : CanBeTold client n first) → Ready client.config k.1.caller k.2 told (moment ∷ k.1.moments) → rounds_used k.2 (moment ∷ k.1.moments) ≡ rounds_used k.2 k.1.moments → told.round < 2 ^ 31 + first
+told_round client told n first moment k ready same =
+    let used = ready.stands.round_is in
+    let round = k.4.round_is in
+    omega (arith, k.4.round_low, k.6)
 
 -- a session may have used any round
 pub tale_of : Caller → ℕ → Tale

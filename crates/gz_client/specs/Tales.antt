@@ -3,9 +3,10 @@ use Rattle.std.specs.Prelude.{ℕ, Bool, true, ◌≡◌, ◌≤◌, ◌<◌, �
 use Rattle.gz_core.specs.Configurations.{IsConfig}
 use Rattle.gz_core.specs.declared.requests.Turn.{Turn}
 use Rattle.gz_core.specs.declared.calls.Answer.{Answer}
+use Rattle.gz_core.specs.declared.calls.Call.{Call}
 use Rattle.gz_config.specs.declared.Config.{Config}
 use Rattle.gz_round.specs.declared.run.Run.{Run}
-use Rattle.gz_round.specs.History.{Asked, Moment, Caller, Tale, IsClosing, turned, sent_from}
+use Rattle.gz_round.specs.History.{Asked, Moment, Caller, Tale, IsClosing, begun, turned, sent_from}
 use Rattle.gz_round.specs.Sites.{site_now}
 use Rattle.gz_round.specs.Rounds.{top_rounds}
 use Rattle.gz_round.specs.Sending.{AreAllowed}
@@ -49,11 +50,13 @@ HoldsRun c next None ts = AreOver ts
 HoldsRun c next (Some run) [] = ⊥
 HoldsRun c next (Some run) (t ∷ ts) = (t.answer ≡ None) × Runs c t.caller ts run t.moments × AreNumbered c t.moments next × AreOver ts
 
--- the client stands for these tales of its session
+-- the client stands for these tales of its session, whose requests have numbers below the next one; the rounds that it
+-- used rose by at most one with each of them
 pub record Holds (client : Client) (next : ℕ) (ts : List Tale) : Type 0 where
   pub sizes : IsConfig client.config
   pub calls_are : client.calls ≡ length ts
   pub round_is : client.round ≡ top_rounds ts
+  pub round_low : client.round < 2 ^ 31 + next
   pub told : AreTold client.config client.session ts
   pub run_is : HoldsRun client.config next client.run ts
 
@@ -104,6 +107,11 @@ pub record CanBegin (client : Client) : Type 0 where
 pub record IsSameClient (old new : Client) : Type 0 where
   pub config_is : new.config ≡ old.config
   pub session_is : new.session ≡ old.session
+
+-- the client stands for one more tale, of a call that begins
+abbrev pub Begins : Client → Client → ℕ → Call → Turn → Type 0
+Begins old new first call turn =
+    (next : ℕ) (ts : List Tale) → Holds old next ts → next ≤ first → Holds new (first + length turn.send) (begun old.session call first turn ts ∷ ts)
 
 -- the client stands for the same tales, with one more moment of the running call
 abbrev pub Extends : Client → Client → ℕ → ℕ → (Asked → Moment) → Turn → Type 0

@@ -1,10 +1,10 @@
 //! A session's client.
-ghost use Rattle.std.specs.Prelude.{◌≡◌, ℕ, ◌≤◌, ◌<◌, ◌+◌, ◌^◌, ◌↔◌, List, [], ◌∷◌, length, true, IsTrue, Some, IsSome, IfOk, OnErr};
+ghost use Rattle.std.specs.Prelude.{◌≡◌, ℕ, ◌<◌, ◌+◌, ◌^◌, ◌↔◌, List, [], true, IsTrue, Some, IsSome, IfOk, OnErr};
 ghost use Rattle.gz_core.specs.Configurations.{IsConfig};
-ghost use Rattle.gz_round.specs.History.{Tale, Handed, GaveUp, begun};
+ghost use Rattle.gz_round.specs.History.{Tale, Handed, GaveUp};
 ghost use Rattle.gz_round.specs.Starting.{IsWithin};
 ghost use Rattle.gz_round.specs.Following.{IsReady};
-ghost use Rattle.gz_client.specs.Tales.{Holds, CanBegin, CanBeTold, IsSameClient, HasActed, IsRunning, Extends, going_on, live_count, IsLiveAtIn};
+ghost use Rattle.gz_client.specs.Tales.{Holds, CanBegin, CanBeTold, IsSameClient, HasActed, IsRunning, Begins, Extends, going_on, live_count, IsLiveAtIn};
 
 mod live;
 
@@ -56,8 +56,7 @@ impl Client {
         requires within { IsWithin call }
         requires first { first < 2 ^ 31 }
 
-        ensures ok { IfOk result (λ turn. (next : ℕ) (ts : List Tale) → Holds self.old next ts
-            → Holds self.new (first + length turn.send) (begun self.old.session call first turn ts ∷ ts)) }
+        ensures ok { IfOk result (λ turn. Begins self.old self.new first call turn) }
         ensures same { IsSameClient self.old self.new }
         ensures err { OnErr result (self.new ≡ self.old) }
     {
@@ -108,8 +107,7 @@ impl Client {
         requires within { IsWithin call }
         requires first { first < 2 ^ 31 }
 
-        ensures ok { IfOk result (λ after. (next : ℕ) (ts : List Tale) → Holds self.now next ts
-            → Holds after.0 (first + length after.1.send) (begun self.now.session call first after.1 ts ∷ ts)) }
+        ensures ok { IfOk result (λ after. Begins self.now after.0 first call after.1) }
         ensures same { IfOk result (λ after. IsSameClient self.now after.0) }
     {
         let name = PutName {
@@ -162,6 +160,7 @@ impl Client {
     fn act(&self, alloc: Global, run: Run, first: u32) -> Result<(Client, Turn), AllocError>
         requires config { IsConfig self.now.config }
         requires first { first < 2 ^ 31 }
+        requires round { run.round < 2 ^ 31 + first }
         requires ready { IsReady self.now.config run }
 
         ensures ok { IfOk result (λ after. HasActed self.now after.0 run first after.1) }

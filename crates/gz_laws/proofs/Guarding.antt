@@ -32,6 +32,7 @@ use Rattle.gz_laws.specs.Heard.{heard_of, MomentsStand, SentStep, PastStep, Keep
 use Rattle.gz_laws.proofs.Hearing.{shown_heard, next_heard, heard_found, slots_open, le_means}
 use Rattle.gz_laws.proofs.Sending.{clear_heard, own_named}
 use Rattle.gz_laws.proofs.Promising.{classic_not_fast, sent_promises, unused_past, last_version, promised_sent, sent_casts, promises_heard, vote_heard}
+use Rattle.gz_round.proofs.Prepares.{next_unpromised}
 
 -- a column that shows a value has one
 shows_slot : (column : Column) → shows_value column ≡ true → HasValue (slot_of (Some column))
@@ -92,7 +93,7 @@ fresh_ballot c w past ms st v b keeps allowed may q u found is =
     elim (keeps.others q found (sym drawn ∙ may.session)) [
       | inl same ↦
           let sent : SentStep ms (Promises u b) = subst (SentStep ms) is (keeps.own q found same) in
-          (same, elim may.own [ inl none ↦ (let e : true ≡ false = sym (sent_promises ms u b sent) ∙ none in cc) | inr last ↦ last_version c w past ms u v b allowed last sent ])
+          (same, elim may.round [ inl next ↦ (let e : true ≡ false = sym (sent_promises ms u b sent) ∙ next_unpromised c past ms v b next in cc) | inr last ↦ last_version c w past ms u v b allowed last sent ])
       | inr before ↦ absurd (unused_past past u b may.unused (subst (PastStep past) is before))
     ]
 

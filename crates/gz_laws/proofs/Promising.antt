@@ -30,6 +30,7 @@ use Rattle.gz_ledger.specs.Guards.{IsPromiseHeard}
 use Rattle.gz_ledger.specs.Deeds.{Store}
 use Rattle.gz_laws.specs.Heard.{IsClean, entry_of, heard_of, SeenStands, MomentsStand, IsStepOf, SentStep, PastStep}
 use Rattle.gz_laws.proofs.Hearing.{slots_open}
+use Rattle.gz_round.proofs.Prepares.{next_unpromised}
 
 pub classic_not_fast : (b : BallotAt) → IsClassic b → same_ballot b fast ≡ false
 classic_not_fast b h = let r = h.0 in let t : (b.round == 0) ≡ false = grind (arith, nat_tests) in ap (λ k. k && (b.session == 0)) t
@@ -85,8 +86,8 @@ last_step c w past (FastVote n x) ms u v b guard last (inr k) same any = same la
 last_step c w past (Promise n d) ms u v b guard last (inl e) same any = let p = pair_parts (n, d) (v, b) last in let q : n ≡ u = cc in sym q ∙ p.0
 last_step c w past (Promise n d) ms u v b guard last (inr k) same any =
     let p = pair_parts (n, d) (v, b) last in
-    elim guard.own [
-      | inl none ↦ let e : true ≡ false = sym (sent_promises ms u b k) ∙ sym (ap (has_promised ms) p.1) ∙ none in cc
+    elim guard.round [
+      | inl next ↦ let e : true ≡ false = sym (sent_promises ms u b k) ∙ sym (ap (has_promised ms) p.1) ∙ next_unpromised c past ms n d next in cc
       | inr before ↦ any n (before ∙ ap (λ (q : BallotAt). Some (n, q)) p.1) k ∙ p.0
     ]
 last_step c w past (ClassicVote n d x) ms u v b guard last (inl e) same any = cc

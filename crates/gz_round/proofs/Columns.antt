@@ -1,5 +1,5 @@
 -- What a row shows, against its columns: the greatest version, names, and what a run can hold.
-use Rattle.std.proofs.Common.{◌≡◌, ℕ, zero, suc, ◌<◌, ◌≤◌, ◌^◌, max, Bool, true, false, cond, ◌&&◌, ◌==◌, nat_lt, List, [], ◌∷◌, length, Option, Some, None, refl, sym, ap, ◌∙◌, inl, inr, ◌⊎◌, arith}
+use Rattle.std.proofs.Common.{◌≡◌, ℕ, zero, suc, ◌<◌, ◌≤◌, ◌^◌, max, Bool, true, false, cond, ◌&&◌, ◌==◌, nat_lt, List, [], ◌∷◌, length, Option, Some, None, refl, sym, ap, ◌∙◌, subst, inl, inr, ◌⊎◌, arith, leb}
 use Rattle.std.specs.List.{slice_get, list_all}
 use Rattle.std.specs.Prelude.{IsSome}
 use Rattle.std.proofs.lemmas.Bool.{cases_Bool, cond-true, cond-false, and_parts, ltb-true, eqb-true, cases_lt}
@@ -7,11 +7,13 @@ use Rattle.std.proofs.lemmas.Option.{same_Some, none-some}
 use Rattle.gz_core.specs.Names.{Name}
 use Rattle.gz_core.specs.Values.{name_of}
 use Rattle.gz_core.specs.Rows.{RowAt, empty_row, column_in}
+use Rattle.gz_core.specs.Slots.{Slot, Gone, slots, slot_of}
 use Rattle.gz_core.specs.declared.values.Value.{Value}
 use Rattle.gz_core.specs.declared.rows.Column.{Column}
 use Rattle.gz_core.specs.declared.rows.Column.TheVariants.{Open, Decided}
 use Rattle.gz_pick.specs.Looks.{row_top, top_in, row_name, column_name, shows_value, highest_of}
 use Rattle.gz_round.specs.Sites.{can_stand, entry_stands, column_stands}
+use Rattle.gz_round.specs.Rounds.{slot_round}
 use Rattle.gz_round.specs.Causes.{row_value, column_value}
 
 -- a column that names a value shows one
@@ -67,6 +69,28 @@ stand_columns row h =
 -- a row that a run can hold shows no version beyond those that a run reaches
 pub stands_low : (row : RowAt) → can_stand row ≡ true → row_top row < 2 ^ 62
 stands_low row h = low_columns row.columns (stand_columns row h)
+
+round_column : (column : Column) → column_stands column ≡ true → slot_round (slot_of (Some column)) < 2 ^ 31
+round_column (Open promise vote) h = ltb-true promise.round (2 ^ 31) h
+round_column (Decided value) h = omega arith
+
+round_columns : (columns : List (ℕ × Column)) (v : ℕ) → list_all entry_stands columns ≡ true → slot_round (slot_of (column_in columns v)) < 2 ^ 31
+round_columns [] v h = omega arith
+round_columns (c ∷ cs) v h =
+    let both : (entry_stands c ≡ true) × (list_all entry_stands cs ≡ true) = and_parts (entry_stands c) (list_all entry_stands cs) h in
+    let parts : (nat_lt c.0 (2 ^ 62) ≡ true) × (column_stands c.1 ≡ true) = and_parts (nat_lt c.0 (2 ^ 62)) (column_stands c.1) both.0 in
+    elim (cases_Bool (c.0 == v)) [
+      | inl e ↦ subst (λ (o : Option Column). slot_round (slot_of o) < 2 ^ 31) (sym (cond-true (c.0 == v) (Some c.1) (column_in cs v) e)) (round_column c.1 parts.1)
+      | inr e ↦ subst (λ (o : Option Column). slot_round (slot_of o) < 2 ^ 31) (sym (cond-false (c.0 == v) (Some c.1) (column_in cs v) e)) (round_columns cs v both.1)
+    ]
+
+-- and promises no round beyond those
+pub stands_round : (row : RowAt) (v : ℕ) → can_stand row ≡ true → slot_round (slots row v) < 2 ^ 31
+stands_round row v h =
+    elim (cases_Bool (nat_lt 0 row.floor && leb v row.floor)) [
+      | inl e ↦ subst (λ (s : Slot). slot_round s < 2 ^ 31) (sym (cond-true (nat_lt 0 row.floor && leb v row.floor) Gone (slot_of (column_in row.columns v)) e)) (let low : 0 < 2 ^ 31 = omega arith in low)
+      | inr e ↦ subst (λ (s : Slot). slot_round s < 2 ^ 31) (sym (cond-false (nat_lt 0 row.floor && leb v row.floor) Gone (slot_of (column_in row.columns v)) e)) (round_columns row.columns v (stand_columns row h))
+    ]
 
 pub empty_stands : can_stand empty_row ≡ true
 empty_stands = refl

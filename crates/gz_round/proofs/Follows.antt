@@ -272,4 +272,4 @@ pub pass_at : (c : Config) (w : Caller) (past : List Tale) (ms : List Moment) (v
 pass_at c w past ms v Look at s = absurd at
 pass_at c w past ms v (Fast u) at s = subst (MayPass c w ms) at (pass_from c w ms u s.0 s.2)
 pass_at c w past ms v (Prepare u b found) at s = subst (MayPass c w ms) at s.0.works.pass
-pass_at c w past ms v (Accept u b x) at s = subst (MayPass c w ms) at s.1.pass
+pass_at c w past ms v (Accept u b x) at s = subst (MayPass c w ms) at s.1.works.pass

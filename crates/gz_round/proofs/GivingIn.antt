@@ -1,7 +1,8 @@
 -- A call whose phase leads no further gives in: every site goes out.
-use Rattle.std.proofs.Common.{◌≡◌, ℕ, zero, suc, ◌<◌, true, false, List, [], ◌∷◌, Some, refl, sym, ap, ◌∙◌, subst, inl, inr, arith}
+use Rattle.std.proofs.Common.{◌≡◌, ◌≢◌, ℕ, zero, suc, ◌<◌, true, false, List, [], ◌∷◌, Some, refl, sym, ap, ◌∙◌, subst, inl, inr, arith}
 use Rattle.std.specs.List.{list_any, count_by}
-use Rattle.std.proofs.lemmas.Bool.{cases_Bool, cond-true, cond-false}
+use Rattle.std.specs.Prelude.{nat_lt, Option}
+use Rattle.std.proofs.lemmas.Bool.{cases_Bool, cond-true, cond-false, or_parts}
 use Rattle.std.proofs.lemmas.Option.{same_Some, none-some}
 use Rattle.gz_core.specs.Names.{BallotAt}
 use Rattle.gz_core.specs.Counts.{count_sites}
@@ -9,6 +10,9 @@ use Rattle.gz_core.specs.Configurations.{IsConfig}
 use Rattle.gz_core.specs.declared.calls.Answer.{Answer}
 use Rattle.gz_core.specs.declared.calls.Answer.TheVariants.{NoQuorum, Unsure}
 use Rattle.gz_core.specs.declared.calls.UnsureWhy.TheVariants.{NoQuorum as UnsureNoQuorum}
+use Rattle.gz_core.specs.Rows.{RowAt}
+use Rattle.gz_core.specs.declared.values.Value.{Value}
+use Rattle.gz_accept.specs.declared.answers.Step.TheVariants.{Done, Already}
 use Rattle.gz_config.specs.declared.Config.{Config}
 use Rattle.gz_core.specs.declared.requests.RowStep.{RowStep}
 use Rattle.gz_core.specs.declared.requests.RowStep.TheVariants.{Promise, ClassicVote}
@@ -18,14 +22,16 @@ use Rattle.gz_round.specs.declared.run.Stage.{Stage}
 use Rattle.gz_round.specs.declared.run.Stage.TheVariants.{Look, Fast, Prepare, Accept}
 use Rattle.gz_round.specs.History.{Moment, GaveIn, Caller, Tale}
 use Rattle.gz_round.specs.Rounds.{promises_known, above_known}
-use Rattle.gz_round.specs.Sending.{MayGiveIn, NoPromise, NoVote, IsStuck, IsShort, NoEvidence, rows_known}
+use Rattle.gz_round.specs.Sent.{last_promise}
+use Rattle.gz_round.specs.Sending.{MayGiveIn, NoPromise, NoVote, Collected, IsIdle, IsStuck, IsShort, NoEvidence, rows_known, answer_of}
 use Rattle.gz_round.specs.Counting.{outs, IsGoing}
 use Rattle.gz_round.specs.Causes.{HasCause, IsCutOff}
 use Rattle.gz_round.specs.Standing.{Knows, Stands, StageStands}
 use Rattle.gz_round.specs.Following.{HasTurned}
-use Rattle.gz_round.specs.Acting.{RunsOut, given_in_of, ended_of, ended_in, stage_step, step_in, working_version, version_in, IsShortIn, IsAheadIn}
+use Rattle.gz_round.specs.Acting.{RunsOut, given_in_of, ended_of, ended_in, stage_step, step_in, working_version, version_in, IsShortIn, is_overtaken_in}
 use Rattle.gz_round.proofs.Lists.{count_told}
-use Rattle.gz_round.proofs.Turns.{none_above_listed}
+use Rattle.gz_round.proofs.Turns.{none_above_listed, last_of, last_may}
+use Rattle.gz_round.proofs.Untaken.{gone_or_kept, undecided_known, promise_untaken, classic_untaken}
 
 count_all : (n : ℕ) → count_sites n (λ s. true) ≡ n
 count_all zero = refl
@@ -52,30 +58,50 @@ given_in_turned c w past run ms config h going may =
 pub short_known : (c : Config) (run : Run) (ms : List Moment) (v : ℕ) (b : BallotAt) → Knows c run ms → count_by (promises_known v b) run.rows < c.qc → IsShort c ms v b
 short_known c run ms v b k l = let told = count_told (promises_known v b) c.n run.rows (rows_known ms) k.rows_len k.rows in omega arith
 
-stuck_from : (c : Config) (w : Caller) (past : List Tale) (run : Run) (ms : List Moment) (v : ℕ) (b : BallotAt) (step : RowStep) → RunsOut c w past run ms → stage_step run ≡ Some step → working_version run ≡ v → list_any (above_known v b) run.rows ≡ false → IsStuck c ms v b step
-stuck_from c w past run ms v b step r is at ahead = record {
-  idle = r.idle;
-  heard = r.heard;
-  undecided = subst (NoEvidence c ms) at r.none;
-  untaken = r.untaken step is;
-  none_above = none_above_listed c run ms v b r.stands.knows ahead;
+-- nothing is awaited
+idle_from : (c : Config) (w : Caller) (past : List Tale) (run : Run) (ms : List Moment) (v : ℕ) → RunsOut c w past run ms → working_version run ≡ v → IsIdle c ms v
+idle_from c w past run ms v r at = record { awaits = r.idle; heard = r.heard; undecided = subst (NoEvidence c ms) at r.none }
+
+-- a ballot leads no further
+stuck_from : (c : Config) (w : Caller) (past : List Tale) (run : Run) (ms : List Moment) (v : ℕ) (b : BallotAt) (step : RowStep) → RunsOut c w past run ms → stage_step run ≡ Some step → IsIdle c ms v → last_promise ms ≡ Some (v, b) →
+    ((s : ℕ) (row : RowAt) → s < c.n → rows_known ms s ≡ Some row → answer_of step row ≢ Done → answer_of step row ≡ Already) → IsStuck c ms v b step
+stuck_from c w past run ms v b step r is idle last taken = record {
+  going = r.going;
+  idle = idle;
+  last = last;
+  taken = λ (s : ℕ) (row : RowAt) (l : s < c.n) (e : rows_known ms s ≡ Some row). taken s row l e (r.untaken step is s row l e);
 }
+
+prepared_out : (c : Config) (w : Caller) (past : List Tale) (run : Run) (ms : List Moment) (v : ℕ) (b : BallotAt) (found : Option Value) → run.stage ≡ Prepare v b found → RunsOut c w past run ms → MayGiveIn c w past ms
+prepared_out c w past run ms v b found at r =
+    let s : StageStands c w past (Prepare v b found) ms = subst (λ st. StageStands c w past st ms) at r.stage in
+    let ahead : is_overtaken_in run (Prepare v b found) ≡ false = subst (λ st. is_overtaken_in run st ≡ false) at r.ahead in
+    let short : IsShortIn c run.rows (Prepare v b found) = subst (λ st. IsShortIn c run.rows st) at r.short in
+    let idle = idle_from c w past run ms v r (ap (λ st. version_in st (highest_of run.rows)) at) in
+    let last = last_of past run ms v b found r.stands.round_is s.0.used ahead in
+    let above = none_above_listed c run ms v b r.stands.knows (or_parts (nat_lt run.round b.round) (list_any (above_known v b) run.rows) ahead).1 in
+    elim (gone_or_kept c ms v) [
+      | inl gone ↦ Collected v b (record { going = r.going; idle = idle; promise = last_may c w past ms v b s.0.works last; gone = gone })
+      | inr kept ↦ NoPromise v b (stuck_from c w past run ms v b (Promise v b) r (ap (λ st. step_in st run.own) at) idle last (λ (site : ℕ) (row : RowAt) (l : site < c.n) (e : rows_known ms site ≡ Some row). promise_untaken row v b (kept site row l e) (undecided_known c ms v site row idle.undecided l e) (above site row l e))) s.0.uncast (short_known c run ms v b r.stands.knows short)
+    ]
+
+voted_out : (c : Config) (w : Caller) (past : List Tale) (run : Run) (ms : List Moment) (v : ℕ) (b : BallotAt) (x : Value) → run.stage ≡ Accept v b x → RunsOut c w past run ms → MayGiveIn c w past ms
+voted_out c w past run ms v b x at r =
+    let s : StageStands c w past (Accept v b x) ms = subst (λ st. StageStands c w past st ms) at r.stage in
+    let ahead : is_overtaken_in run (Accept v b x) ≡ false = subst (λ st. is_overtaken_in run st ≡ false) at r.ahead in
+    let idle = idle_from c w past run ms v r (ap (λ st. version_in st (highest_of run.rows)) at) in
+    let above = none_above_listed c run ms v b r.stands.knows ahead in
+    elim (gone_or_kept c ms v) [
+      | inl gone ↦ Collected v b (record { going = r.going; idle = idle; promise = last_may c w past ms v b s.1.works s.1.last; gone = gone })
+      | inr kept ↦ NoVote v b x (stuck_from c w past run ms v b (ClassicVote v b x) r (ap (λ st. step_in st run.own) at) idle s.1.last (λ (site : ℕ) (row : RowAt) (l : site < c.n) (e : rows_known ms site ≡ Some row). classic_untaken row v b (kept site row l e) (undecided_known c ms v site row idle.undecided l e) (above site row l e))) s.0
+    ]
 
 -- a phase that has ended without its goal ends the call, but for the first phases
 ended_at : (c : Config) (w : Caller) (past : List Tale) (run : Run) (ms : List Moment) (stage : Stage) (answer : Answer) → IsConfig c → run.stage ≡ stage → RunsOut c w past run ms → ended_in run stage ≡ Some answer → HasTurned c w past run ms (Some answer)
 ended_at c w past run ms Look answer config at r e = absurd (none-some answer e)
 ended_at c w past run ms (Fast v) answer config at r e = absurd (none-some answer e)
-ended_at c w past run ms (Prepare v b found) answer config at r e =
-    let s : StageStands c w past (Prepare v b found) ms = subst (λ st. StageStands c w past st ms) at r.stage in
-    let ahead : IsAheadIn run.rows (Prepare v b found) = subst (λ st. IsAheadIn run.rows st) at r.ahead in
-    let short : IsShortIn c run.rows (Prepare v b found) = subst (λ st. IsShortIn c run.rows st) at r.short in
-    let stuck = stuck_from c w past run ms v b (Promise v b) r (ap (λ st. step_in st run.own) at) (ap (λ st. version_in st (highest_of run.rows)) at) ahead in
-    subst (λ a. HasTurned c w past run ms (Some a)) (same_Some (given_in_of run) answer e) (given_in_turned c w past run ms config r.stands r.going (NoPromise v b s.0.works.promise stuck (short_known c run ms v b r.stands.knows short)))
-ended_at c w past run ms (Accept v b x) answer config at r e =
-    let s : StageStands c w past (Accept v b x) ms = subst (λ st. StageStands c w past st ms) at r.stage in
-    let ahead : IsAheadIn run.rows (Accept v b x) = subst (λ st. IsAheadIn run.rows st) at r.ahead in
-    let stuck = stuck_from c w past run ms v b (ClassicVote v b x) r (ap (λ st. step_in st run.own) at) (ap (λ st. version_in st (highest_of run.rows)) at) ahead in
-    subst (λ a. HasTurned c w past run ms (Some a)) (same_Some (given_in_of run) answer e) (given_in_turned c w past run ms config r.stands r.going (NoVote v b x s.0 stuck))
+ended_at c w past run ms (Prepare v b found) answer config at r e = subst (λ a. HasTurned c w past run ms (Some a)) (same_Some (given_in_of run) answer e) (given_in_turned c w past run ms config r.stands r.going (prepared_out c w past run ms v b found at r))
+ended_at c w past run ms (Accept v b x) answer config at r e = subst (λ a. HasTurned c w past run ms (Some a)) (same_Some (given_in_of run) answer e) (given_in_turned c w past run ms config r.stands r.going (voted_out c w past run ms v b x at r))
 
 pub ended_turned : (c : Config) (w : Caller) (past : List Tale) (run : Run) (ms : List Moment) (answer : Answer) → IsConfig c → RunsOut c w past run ms → ended_of run ≡ Some answer → HasTurned c w past run ms (Some answer)
 ended_turned c w past run ms answer config r e = ended_at c w past run ms run.stage answer config refl r e

@@ -1,5 +1,5 @@
 -- A guard that holds goes on to hold while the step is made at one site after another.
-use Rattle.std.proofs.Common.{◌≡◌, ◌≢◌, ℕ, ◌<◌, Bool, true, false, ◌&&◌, ◌||◌, ◌==◌, List, ◌∷◌, length, Option, Some, None, refl, sym, ap, ◌∙◌, subst, inl, inr, ◌⊎◌}
+use Rattle.std.proofs.Common.{◌≡◌, ◌≢◌, ℕ, zero, suc, ◌+◌, ◌<◌, max, Bool, true, false, ◌&&◌, ◌||◌, ◌==◌, List, ◌∷◌, length, Option, Some, None, refl, sym, ap, ◌∙◌, subst, inl, inr, ◌⊎◌}
 use Rattle.std.proofs.lemmas.Bool.{cases_Bool, cond-true, cond-false, or_cases, or_right, and_parts, eqb-true, false≢true, and_right, false_from_ne_true}
 use Rattle.std.proofs.lemmas.Option.{same_Some}
 use Rattle.std.specs.List.{All}
@@ -13,12 +13,14 @@ use Rattle.gz_core.specs.declared.requests.Op.{Op}
 use Rattle.gz_core.specs.declared.requests.Op.TheVariants.{ReadRow, WriteRow}
 use Rattle.gz_core.proofs.Ballots.{same_means, name_means}
 use Rattle.gz_round.specs.History.{Asked, Moment, Sent, Caller, Tale}
-use Rattle.gz_round.specs.Sent.{vote_by, promise_by, of_step, or_earlier, passes_sent, voted_at, has_promised, has_promised_at, last_promise}
+use Rattle.gz_round.specs.Sent.{vote_by, promise_by, of_step, or_earlier, passes_sent, voted_at, has_promised_at, last_promise, top_round, round_after}
 use Rattle.gz_round.specs.Shown.{IsClear}
-use Rattle.gz_round.specs.Rounds.{MayPromise, MayClassicVote, MayPropose, IsLeft, IsPromiseHeard, passed_since, Cast, cast_by, has_cast, is_promise, IsValueKnown}
+use Rattle.gz_round.specs.Rounds.{MayPromise, MayClassicVote, MayPropose, IsLeft, IsPromiseHeard, passed_since, Cast, cast_by, has_cast, is_promise, IsValueKnown, round_known, greatest, next_round, rounds_used, top_rounds}
 use Rattle.gz_pick.specs.declared.heard.Heard.{Heard}
+use Rattle.gz_round.specs.Sites.{rows_known}
 use Rattle.gz_round.specs.Sending.{MayFastVote, MayMake}
 use Rattle.gz_round.specs.Following.{MayMakeOf}
+use Rattle.gz_round.proofs.Known.{known_after_sent}
 use Rattle.gz_round.proofs.LookBacks.{back_more}
 
 -- what a request that is sent in a pass does: it reads, or makes the step
@@ -80,30 +82,47 @@ other_promise : (o : Option (ℕ × BallotAt)) (v : ℕ) (b d : BallotAt) → (o
 other_promise o v b d (inl e) n = ap (is_promise v d) e
 other_promise o v b d (inr e) n = ap (is_promise v d) e ∙ and_right (v == v) (same_ballot b d) (false_from_ne_true (same_ballot b d) (λ (h : same_ballot b d ≡ true). n (sym (same_means b d h))))
 
-last_promised : (o last : Option (ℕ × BallotAt)) (v : ℕ) (b : BallotAt) → (o ≡ None) ⊎ (o ≡ Some (v, b)) → last ≡ Some (v, b) → or_earlier o last ≡ Some (v, b)
+pub last_promised : (o last : Option (ℕ × BallotAt)) (v : ℕ) (b : BallotAt) → (o ≡ None) ⊎ (o ≡ Some (v, b)) → last ≡ Some (v, b) → or_earlier o last ≡ Some (v, b)
 last_promised o last v b (inl e) h = ap (λ z. or_earlier z last) e ∙ h
 last_promised o last v b (inr e) h = ap (λ z. or_earlier z last) e
 
-own_promise : (ms : List Moment) (a : Asked) (v : ℕ) (b : BallotAt) → (of_step promise_by a.op ≡ None) ⊎ (of_step promise_by a.op ≡ Some (v, b)) → (has_promised ms b ≡ false) ⊎ (last_promise ms ≡ Some (v, b)) →
-    (has_promised (Sent a ∷ ms) b ≡ false) ⊎ (last_promise (Sent a ∷ ms) ≡ Some (v, b))
-own_promise ms a v b (inl e) (inl h) = inl (ap (λ o. passes_sent (λ p. same_ballot p.1 b) o || has_promised ms b) e ∙ h)
-own_promise ms a v b (inr e) (inl h) = inr (ap (λ o. or_earlier o (last_promise ms)) e)
-own_promise ms a v b k (inr h) = inr (last_promised (of_step promise_by a.op) (last_promise ms) v b k h)
+-- the greatest of numbers that are the same is the same
+greatest_same : (n : ℕ) (f g : ℕ → ℕ) → ((s : ℕ) → f s ≡ g s) → greatest n f ≡ greatest n g
+greatest_same zero f g h = refl
+greatest_same (suc n) f g h = ap (λ k. max k (f n)) (greatest_same n f g h) ∙ ap (max (greatest n g)) (h n)
+
+-- a request that promises nothing leaves the round of the next ballot
+next_round_sent : (c : Config) (past : List Tale) (ms : List Moment) (a : Asked) (v : ℕ) → of_step promise_by a.op ≡ None → next_round c past ms v ≡ next_round c past (Sent a ∷ ms) v
+next_round_sent c past ms a v e =
+    let known : greatest c.n (λ s. round_known v (rows_known ms s)) ≡ greatest c.n (λ s. round_known v (rows_known (Sent a ∷ ms) s)) = greatest_same c.n (λ s. round_known v (rows_known ms s)) (λ s. round_known v (rows_known (Sent a ∷ ms) s)) (λ (s : ℕ). ap (round_known v) (known_after_sent a ms s)) in
+    let used : rounds_used past ms ≡ rounds_used past (Sent a ∷ ms) = sym (ap (λ o. max (top_rounds past) (round_after o (top_round ms))) e) in
+    ap (λ k. max k (greatest c.n (λ s. round_known v (rows_known ms s))) + 1) used ∙ ap (λ k. max (rounds_used past (Sent a ∷ ms)) k + 1) known
+
+round_promise : (c : Config) (past : List Tale) (ms : List Moment) (a : Asked) (v : ℕ) (b : BallotAt) → (of_step promise_by a.op ≡ None) ⊎ (of_step promise_by a.op ≡ Some (v, b)) → (b.round ≡ next_round c past ms v) ⊎ (last_promise ms ≡ Some (v, b)) →
+    (b.round ≡ next_round c past (Sent a ∷ ms) v) ⊎ (last_promise (Sent a ∷ ms) ≡ Some (v, b))
+round_promise c past ms a v b (inl e) (inl h) = inl (h ∙ next_round_sent c past ms a v e)
+round_promise c past ms a v b (inr e) (inl h) = inr (ap (λ o. or_earlier o (last_promise ms)) e)
+round_promise c past ms a v b k (inr h) = inr (last_promised (of_step promise_by a.op) (last_promise ms) v b k h)
+
+-- other ballots that were promised at the version stay passed
+pub passed_still : (ms : List Moment) (a : Asked) (v : ℕ) (b : BallotAt) → (of_step promise_by a.op ≡ None) ⊎ (of_step promise_by a.op ≡ Some (v, b)) → ((d : BallotAt) → d ≢ b → has_promised_at ms v d ≡ true → passed_since v d ms ≡ true) →
+    (d : BallotAt) → d ≢ b → has_promised_at (Sent a ∷ ms) v d ≡ true → passed_since v d (Sent a ∷ ms) ≡ true
+passed_still ms a v b sent h d n k =
+    let other : is_promise v d (of_step promise_by a.op) ≡ false = other_promise (of_step promise_by a.op) v b d sent n in
+    let old : has_promised_at ms v d ≡ true = promised_before (of_step promise_by a.op) v b d (has_promised_at ms v d) sent n k in
+    cond-false (is_promise v d (of_step promise_by a.op)) false (passed_since v d ms) other ∙ h d n old
 
 -- where a request promises this ballot at the version, or none
-pub promise_still : (c : Config) (w : Caller) (past : List Tale) (ms : List Moment) (a : Asked) (v : ℕ) (b : BallotAt) → (of_step promise_by a.op ≡ None) ⊎ (of_step promise_by a.op ≡ Some (v, b)) → MayPromise c w past ms v b → MayPromise c w past (Sent a ∷ ms) v b
+promise_still : (c : Config) (w : Caller) (past : List Tale) (ms : List Moment) (a : Asked) (v : ℕ) (b : BallotAt) → (of_step promise_by a.op ≡ None) ⊎ (of_step promise_by a.op ≡ Some (v, b)) → MayPromise c w past ms v b → MayPromise c w past (Sent a ∷ ms) v b
 promise_still c w past ms a v b sent h =
     record {
       above = h.above;
       classic = h.classic;
       session = h.session;
       unused = h.unused;
-      own = own_promise ms a v b sent h.own;
+      round = round_promise c past ms a v b sent h.round;
       grounded = h.grounded;
-      passed = λ (d : BallotAt) (n : d ≢ b) (k : has_promised_at (Sent a ∷ ms) v d ≡ true).
-          let other : is_promise v d (of_step promise_by a.op) ≡ false = other_promise (of_step promise_by a.op) v b d sent n in
-          let old : has_promised_at ms v d ≡ true = promised_before (of_step promise_by a.op) v b d (has_promised_at ms v d) sent n k in
-          cond-false (is_promise v d (of_step promise_by a.op)) false (passed_since v d ms) other ∙ h.passed d n old;
+      passed = passed_still ms a v b sent h.passed;
     }
 
 pub promise_kept : (c : Config) (w : Caller) (past : List Tale) (ms : List Moment) (a : Asked) (v : ℕ) (b : BallotAt) → IsOf a.op (Some (Promise v b)) → MayPromise c w past ms v b → MayPromise c w past (Sent a ∷ ms) v b
@@ -150,7 +169,7 @@ classic_kept c w ms a v b value is h = record {
   choice = left_kept c w ms a v b h.heard value is h.choice;
   known = known_kept w ms a v value h.known;
   one = λ (y : Name) (k : has_cast (Sent a ∷ ms) v b y ≡ true). one_cast (of_step cast_by a.op) v b value y (has_cast ms v b y) (cast_sent a.op v b value is) (h.one y) k;
-  back = λ reads free. back_more c (Sent a) ms v b (Some value) (h.back reads free);
+  back = λ reads free. back_more c (Sent a) ms v b (Some value) h.promised (h.back reads free);
 }
 
 -- a guard that holds goes on to hold

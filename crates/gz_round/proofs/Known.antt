@@ -22,7 +22,7 @@ use Rattle.gz_round.specs.Standing.{Knows, mark_of}
 use Rattle.gz_round.specs.Evidence.{NoneEvident}
 use Rattle.gz_round.specs.Following.{NoEvidence}
 use Rattle.gz_round.proofs.Lists.{count_same, count_told}
-use Rattle.gz_round.proofs.Moments.{now_here, now_other}
+use Rattle.gz_round.proofs.Moments.{now_here, now_other, each_site}
 use Rattle.gz_round.proofs.Heard.{counted_heard}
 use Rattle.gz_round.proofs.Columns.{stands_low, empty_stands, highest_below}
 
@@ -34,6 +34,23 @@ kept_row false now = refl
 -- a request that is sent leaves the last row, and what is out
 pub sent_row : (a : Asked) (now : SiteNow) → (after_sent a now).row ≡ now.row
 sent_row a now = elim (cases_Bool a.awaited) [ inl e ↦ ap (λ n. n.row) (cond-true a.awaited _ now e) | inr e ↦ ap (λ n. n.row) (cond-false a.awaited _ now e) ]
+
+known_sent : (a : Asked) (now : SiteNow) → known (after_sent a now) ≡ known now
+known_sent a now = elim (cases_Bool a.awaited) [ inl e ↦ ap known (cond-true a.awaited _ now e) | inr e ↦ ap known (cond-false a.awaited _ now e) ]
+
+pub out_sent : (a : Asked) (now : SiteNow) → (after_sent a now).out ≡ now.out
+out_sent a now = elim (cases_Bool a.awaited) [ inl e ↦ ap (λ n. n.out) (cond-true a.awaited _ now e) | inr e ↦ ap (λ n. n.out) (cond-false a.awaited _ now e) ]
+
+-- a request that is sent leaves what is known
+pub known_after_sent : (a : Asked) (ms : List Moment) (s : ℕ) → known (site_now ms s) ≡ known (site_now (Sent a ∷ ms) s)
+known_after_sent a ms s = each_site (λ n. known (site_now ms s) ≡ known n) (Sent a) ms s (λ h. sym (known_sent a (site_now ms s))) (λ h. refl)
+
+-- and what is out
+pub out_after_sent : (a : Asked) (ms : List Moment) (s : ℕ) → (site_now ms s).out ≡ (site_now (Sent a ∷ ms) s).out
+out_after_sent a ms s = each_site (λ n. (site_now ms s).out ≡ n.out) (Sent a) ms s (λ h. sym (out_sent a (site_now ms s))) (λ h. refl)
+
+pub row_after_sent : (a : Asked) (ms : List Moment) (s : ℕ) → (site_now ms s).row ≡ (site_now (Sent a ∷ ms) s).row
+row_after_sent a ms s = each_site (λ n. (site_now ms s).row ≡ n.row) (Sent a) ms s (λ h. sym (sent_row a (site_now ms s))) (λ h. refl)
 
 handed_row : (seen : Option Seen) (changed : Bool) (now : SiteNow) (last : Seen) → (after_reply seen changed now).row ≡ Some last → (seen ≡ Some last) ⊎ (now.row ≡ Some last)
 handed_row (Some seen) changed now last e = inl e

@@ -1,4 +1,5 @@
 pub mod Lists
+pub mod Untaken
 pub mod Moments
 pub mod Heard
 pub mod Columns
@@ -14,6 +15,7 @@ pub mod Passes
 pub mod Turns
 pub mod GivingIn
 pub mod Prepares
+pub mod Bounds
 pub mod Opens
 pub mod Arms
 pub mod Proposals

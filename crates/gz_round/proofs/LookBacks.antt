@@ -1,37 +1,37 @@
 -- What a call looked back at: the vote of the lowest site that has one.
-use Rattle.std.proofs.Common.{◌≡◌, ℕ, zero, suc, ◌+◌, ◌<◌, ◌≤◌, List, [], ◌∷◌, length, Option, Some, None, refl, sym, ap, ◌∙◌, subst, inl, inr, ◌⊎◌, arith}
+use Rattle.std.proofs.Common.{◌≡◌, ℕ, zero, suc, ◌+◌, ◌<◌, ◌≤◌, Bool, true, false, ◌&&◌, ◌==◌, List, [], ◌∷◌, length, Option, Some, None, refl, sym, ap, ◌∙◌, subst, inl, inr, ◌⊎◌, arith, leb}
 use Rattle.std.specs.List.{slice_get}
-use Rattle.std.proofs.lemmas.Bool.{cases_Bool, cases_lt, cond-true, cond-false}
+use Rattle.std.proofs.lemmas.Bool.{cases_Bool, cases_lt, cond-true, cond-false, or_left, or_right, or_parts, and_from, eq-eqb}
 use Rattle.std.proofs.lemmas.Option.{same_Some, none-some, slice_get_within}
-use Rattle.gz_core.specs.Names.{BallotAt}
+use Rattle.gz_core.specs.Names.{BallotAt, same_ballot}
 use Rattle.gz_core.specs.Values.{name_of}
 use Rattle.gz_core.specs.Rows.{RowAt, column_in}
 use Rattle.gz_core.specs.declared.values.Value.{Value}
 use Rattle.gz_core.specs.declared.rows.Column.{Column}
 use Rattle.gz_core.specs.declared.rows.Column.TheVariants.{Open, Decided}
 use Rattle.gz_config.specs.declared.Config.{Config}
-use Rattle.gz_pick.specs.Looks.{row_vote, column_vote}
+use Rattle.gz_core.proofs.Ballots.{same_refl}
+use Rattle.gz_pick.specs.Looks.{row_top, row_vote, column_vote}
 use Rattle.gz_round.specs.declared.hearing.Seen.{Seen}
 use Rattle.gz_round.specs.declared.run.Mark.{Mark}
 use Rattle.gz_round.specs.declared.run.Run.{Run}
-use Rattle.gz_round.specs.History.{Moment, IsEarlier}
+use Rattle.gz_core.specs.declared.requests.Out.{Out}
+use Rattle.gz_round.specs.History.{Asked, Moment, Sent, IsEarlier, asked_of, sent_from}
 use Rattle.gz_round.specs.Sites.{SiteNow, site_now, known, row_seen, WasHeard}
-use Rattle.gz_round.specs.Shown.{row_value, column_value}
-use Rattle.gz_round.specs.LookBack.{column_cast, row_cast, or_next, lowest, lowest_vote, IsLookedBack}
+use Rattle.gz_round.specs.Sent.{promise_by, of_sent, passes_sent, or_earlier, has_promised_at, last_promise}
+use Rattle.gz_round.specs.Shown.{heard_at, row_value, column_value}
+use Rattle.gz_round.specs.LookBack.{column_cast, row_cast, or_next, lowest, lowest_vote, before_promise, IsLookedBack}
+use Rattle.gz_round.specs.Sending.{IsBegun}
 use Rattle.gz_round.specs.Choosing.{AreLastVotes}
 use Rattle.gz_round.specs.Standing.{Knows, left_of, mark_of}
 use Rattle.gz_round.proofs.Lists.{place_of}
-use Rattle.gz_round.proofs.Known.{last_heard}
+use Rattle.gz_round.proofs.Known.{last_heard, row_after_sent}
+use Rattle.gz_round.proofs.Heard.{heard_at_more}
 
 -- a moment is not later than itself
 pub earlier_refl : (ms : List Moment) → IsEarlier ms ms
 earlier_refl [] = refl
 earlier_refl (m ∷ ms) = inl refl
-
-pub earlier_through : (a b d : List Moment) → IsEarlier a b → IsEarlier b d → IsEarlier a d
-earlier_through a b [] h k = subst (IsEarlier a) k h
-earlier_through a b (m ∷ ms) h (inl e) = subst (IsEarlier a) e h
-earlier_through a b (m ∷ ms) h (inr k) = inr (earlier_through a b ms h k)
 
 -- what was heard earlier was heard
 heard_later : (start ms : List Moment) (s : ℕ) (row : RowAt) → IsEarlier start ms → WasHeard start s row → WasHeard ms s row
@@ -39,12 +39,95 @@ heard_later start [] s row e w = subst (λ z. WasHeard z s row) e w
 heard_later start (m ∷ ms) s row (inl e) w = subst (λ z. WasHeard z s row) e w
 heard_later start (m ∷ ms) s row (inr k) w = inr (heard_later start ms s row k w)
 
--- what a call looked back at it has looked back at from then on
-pub back_more : (c : Config) (m : Moment) (ms : List Moment) (v : ℕ) (b : BallotAt) (found : Option Value) → IsLookedBack c ms v b found → IsLookedBack c (m ∷ ms) v b found
-back_more c m ms v b found h = (h.0, inr h.1, h.2, h.3)
+-- a ballot that was promised stays so
+pub promised_more : (m : Moment) (ms : List Moment) (v : ℕ) (b : BallotAt) → has_promised_at ms v b ≡ true → has_promised_at (m ∷ ms) v b ≡ true
+promised_more m ms v b e = or_right (passes_sent (λ p. (p.0 == v) && same_ballot p.1 b) (of_sent promise_by m)) (has_promised_at ms v b) e
 
-pub back_later : (c : Config) (ms ns : List Moment) (v : ℕ) (b : BallotAt) (found : Option Value) → IsEarlier ms ns → IsLookedBack c ms v b found → IsLookedBack c ns v b found
-back_later c ms ns v b found e h = (h.0, earlier_through h.0 ms ns h.1 e, h.2, h.3)
+last_promised_now : (m : Moment) (ms : List Moment) (v : ℕ) (b : BallotAt) (o : Option (ℕ × BallotAt)) → of_sent promise_by m ≡ o → (last_promise ms ≡ Some (v, b) → has_promised_at ms v b ≡ true) → or_earlier o (last_promise ms) ≡ Some (v, b) → has_promised_at (m ∷ ms) v b ≡ true
+last_promised_now m ms v b None is before e = promised_more m ms v b (before e)
+last_promised_now m ms v b (Some p) is before e =
+    let same : p ≡ (v, b) = same_Some p (v, b) e in
+    or_left (passes_sent (λ p. (p.0 == v) && same_ballot p.1 b) (of_sent promise_by m)) (has_promised_at ms v b)
+    (subst (λ (o : Option (ℕ × BallotAt)). passes_sent (λ p. (p.0 == v) && same_ballot p.1 b) o ≡ true) (sym (is ∙ ap (λ z. Some z) same)) (and_from (v == v) (same_ballot b b) (eq-eqb v v refl) (same_refl b)))
+
+-- the ballot that was promised last was promised
+pub last_promised_at : (ms : List Moment) (v : ℕ) (b : BallotAt) → last_promise ms ≡ Some (v, b) → has_promised_at ms v b ≡ true
+last_promised_at [] v b e = absurd (none-some (v, b) e)
+last_promised_at (m ∷ ms) v b e = last_promised_now m ms v b (of_sent promise_by m) refl (last_promised_at ms v b) e
+
+-- before a promise that wasn't sent comes all that has happened
+pub before_none : (v : ℕ) (b : BallotAt) (ms : List Moment) → has_promised_at ms v b ≡ false → before_promise v b ms ≡ ms
+before_none v b [] e = refl
+before_none v b (m ∷ ms) e = cond-false (has_promised_at (m ∷ ms) v b) (before_promise v b ms) (m ∷ ms) e
+
+-- before one that was sent, the same whatever happens later
+pub before_more : (v : ℕ) (b : BallotAt) (m : Moment) (ms : List Moment) → has_promised_at ms v b ≡ true → before_promise v b (m ∷ ms) ≡ before_promise v b ms
+before_more v b m ms e = cond-true (has_promised_at (m ∷ ms) v b) (before_promise v b ms) (m ∷ ms) (promised_more m ms v b e)
+
+-- it came before now
+before_earlier : (v : ℕ) (b : BallotAt) (ms : List Moment) → IsEarlier (before_promise v b ms) ms
+before_earlier v b [] = refl
+before_earlier v b (m ∷ ms) =
+    elim (cases_Bool (has_promised_at (m ∷ ms) v b)) [
+      | inl e ↦ inr (subst (λ z. IsEarlier z ms) (sym (cond-true (has_promised_at (m ∷ ms) v b) (before_promise v b ms) (m ∷ ms) e)) (before_earlier v b ms))
+      | inr e ↦ inl (cond-false (has_promised_at (m ∷ ms) v b) (before_promise v b ms) (m ∷ ms) e)
+    ]
+
+-- what a call looked back at, once it promised the ballot, it has looked back at from then on
+pub back_more : (c : Config) (m : Moment) (ms : List Moment) (v : ℕ) (b : BallotAt) (found : Option Value) → has_promised_at ms v b ≡ true → IsLookedBack c ms v b found → IsLookedBack c (m ∷ ms) v b found
+back_more c m ms v b found e h = h ∙ ap (lowest_vote c.n v) (sym (before_more v b m ms e))
+
+pub back_later : (c : Config) (ms ns : List Moment) (v : ℕ) (b : BallotAt) (found : Option Value) → IsEarlier ms ns → has_promised_at ms v b ≡ true → IsLookedBack c ms v b found → (has_promised_at ns v b ≡ true) × IsLookedBack c ns v b found
+back_later c ms [] v b found e k h = (subst (λ z. has_promised_at z v b ≡ true) e k, subst (λ z. IsLookedBack c z v b found) e h)
+back_later c ms (m ∷ ns) v b found (inl e) k h = (subst (λ z. has_promised_at z v b ≡ true) e k, subst (λ z. IsLookedBack c z v b found) e h)
+back_later c ms (m ∷ ns) v b found (inr e) k h =
+    let w = back_later c ms ns v b found e k h in
+    (promised_more m ns v b w.0, back_more c m ns v b found w.0 w.1)
+
+-- sites that have the same have the same lowest one
+lowest_same : {A : Type 0} (n : ℕ) (f g : ℕ → Option A) → ((s : ℕ) → f s ≡ g s) → lowest n f ≡ lowest n g
+lowest_same zero f g h = refl
+lowest_same (suc n) f g h = ap (λ o. or_next o (f n)) (lowest_same n f g h) ∙ ap (or_next (lowest n g)) (h n)
+
+-- rows that stay leave the vote that is looked back at
+pub lowest_vote_same : (n v : ℕ) (ms ns : List Moment) → ((s : ℕ) → (site_now ns s).row ≡ (site_now ms s).row) → lowest_vote n v ns ≡ lowest_vote n v ms
+lowest_vote_same n v ms ns same = lowest_same n (λ s. row_cast v (row_seen (site_now ns s).row)) (λ s. row_cast v (row_seen (site_now ms s).row)) (λ (s : ℕ). ap (λ o. row_cast v (row_seen o)) (same s))
+
+-- the vote that is looked back at stays the same while requests are sent
+back_sent : (c : Config) (a : Asked) (ms : List Moment) (v : ℕ) (b : BallotAt) → lowest_vote c.n v (before_promise v b (Sent a ∷ ms)) ≡ lowest_vote c.n v (before_promise v b ms)
+back_sent c a ms v b =
+    elim (cases_Bool (has_promised_at (Sent a ∷ ms) v b)) [
+      | inl e ↦ ap (lowest_vote c.n v) (cond-true (has_promised_at (Sent a ∷ ms) v b) (before_promise v b ms) (Sent a ∷ ms) e)
+      | inr e ↦ (
+          let none : has_promised_at ms v b ≡ false = (or_parts (passes_sent (λ p. (p.0 == v) && same_ballot p.1 b) (of_sent promise_by (Sent a))) (has_promised_at ms v b) e).1 in
+          ap (lowest_vote c.n v) (before_none v b (Sent a ∷ ms) e)
+          ∙ (lowest_vote_same c.n v ms (Sent a ∷ ms) (λ (s : ℕ). sym (row_after_sent a ms s)) ∙ ap (lowest_vote c.n v) (sym (before_none v b ms none))))
+    ]
+
+pub back_sent_from : (c : Config) (first : ℕ) (sent : List Out) (ms : List Moment) (v : ℕ) (b : BallotAt) → lowest_vote c.n v (before_promise v b (sent_from first sent ms)) ≡ lowest_vote c.n v (before_promise v b ms)
+back_sent_from c first [] ms v b = refl
+back_sent_from c first (o ∷ os) ms v b = back_sent_from c (first + 1) os (Sent (asked_of first o) ∷ ms) v b ∙ back_sent c (asked_of first o) ms v b
+
+-- rows that were heard earlier were heard
+heard_earlier : (c : Config) (p : RowAt → Bool) (start ms : List Moment) → IsEarlier start ms → heard_at c p start ≤ heard_at c p ms
+heard_earlier c p start [] e = let same = ap (heard_at c p) e in omega arith
+heard_earlier c p start (m ∷ ms) (inl e) = let same = ap (heard_at c p) e in omega arith
+heard_earlier c p start (m ∷ ms) (inr k) = omega (arith, heard_earlier c p start ms k, heard_at_more c p m ms)
+
+-- a version that had begun before a ballot was promised goes on to have
+pub begun_more : (c : Config) (m : Moment) (ms : List Moment) (v : ℕ) (b : BallotAt) → IsBegun c ms v b → IsBegun c (m ∷ ms) v b
+begun_more c m ms v b h =
+    elim (cases_Bool (has_promised_at (m ∷ ms) v b)) [
+      | inl e ↦ subst (λ z. 1 ≤ heard_at c (λ r. leb v (row_top r)) z) (sym (cond-true (has_promised_at (m ∷ ms) v b) (before_promise v b ms) (m ∷ ms) e)) h
+      | inr e ↦ subst (λ z. 1 ≤ heard_at c (λ r. leb v (row_top r)) z) (sym (before_none v b (m ∷ ms) e))
+          (omega (arith, h, heard_earlier c (λ r. leb v (row_top r)) (before_promise v b ms) ms (before_earlier v b ms), heard_at_more c (λ r. leb v (row_top r)) m ms))
+    ]
+
+pub begun_heard : (c : Config) (ms : List Moment) (v : ℕ) (b : BallotAt) → IsBegun c ms v b → 1 ≤ heard_at c (λ r. leb v (row_top r)) ms
+begun_heard c ms v b h = omega (arith, h, heard_earlier c (λ r. leb v (row_top r)) (before_promise v b ms) ms (before_earlier v b ms))
+
+pub begun_new : (c : Config) (ms : List Moment) (v : ℕ) (b : BallotAt) → has_promised_at ms v b ≡ false → 1 ≤ heard_at c (λ r. leb v (row_top r)) ms → IsBegun c ms v b
+begun_new c ms v b e h = subst (λ z. 1 ≤ heard_at c (λ r. leb v (row_top r)) z) (sym (before_none v b ms e)) h
 
 next_cases : {A : Type 0} (a b : Option A) (x : A) → or_next a b ≡ Some x → (a ≡ Some x) ⊎ (b ≡ Some x)
 next_cases None b x e = inr e
@@ -58,11 +141,6 @@ lowest_found {A = A} (suc n) f x e =
       | inl low ↦ (let w : (s : ℕ) × (s < n) × (f s ≡ Some x) = lowest_found n f x low in (w.0, omega (arith, w.1), w.2))
       | inr here ↦ (n, omega arith, here)
     ]
-
--- sites that have the same have the same lowest one
-lowest_same : {A : Type 0} (n : ℕ) (f g : ℕ → Option A) → ((s : ℕ) → f s ≡ g s) → lowest n f ≡ lowest n g
-lowest_same zero f g h = refl
-lowest_same (suc n) f g h = ap (λ o. or_next o (f n)) (lowest_same n f g h) ∙ ap (or_next (lowest n g)) (h n)
 
 -- one more site
 pub lowest_skip : {A : Type 0} (n : ℕ) (f : ℕ → Option A) → lowest n f ≡ None → f n ≡ None → lowest (n + 1) f ≡ None
@@ -122,11 +200,8 @@ cast_names (Some (Decided value)) x e = absurd (none-some x e)
 -- the value that a call looked back at was heard as a vote
 pub back_heard : (c : Config) (ms : List Moment) (v : ℕ) (b : BallotAt) (x : Value) → IsLookedBack c ms v b (Some x) → (s : ℕ) × (row : RowAt) × (d : BallotAt) × WasHeard ms s row × (row_vote row v ≡ Some (d, name_of x)) × (row_value row v ≡ Some x)
 back_heard c ms v b x h =
-    let low = lowest_found c.n (λ s. row_cast v (row_seen (site_now h.0 s).row)) x (sym h.3) in
-    let last = cast_seen v (site_now h.0 low.0).row x low.2 in
+    let start : List Moment = before_promise v b ms in
+    let low = lowest_found c.n (λ s. row_cast v (row_seen (site_now start s).row)) x (sym h) in
+    let last = cast_seen v (site_now start low.0).row x low.2 in
     let names = cast_names (column_in last.0.row.columns v) x last.2 in
-    (low.0, last.0.row, names.0, heard_later h.0 ms low.0 last.0.row h.1 (last_heard h.0 low.0 last.0 last.1), names.1, names.2)
-
--- requests that are sent leave it
-pub lowest_vote_same : (n v : ℕ) (ms ns : List Moment) → ((s : ℕ) → (site_now ns s).row ≡ (site_now ms s).row) → lowest_vote n v ns ≡ lowest_vote n v ms
-lowest_vote_same n v ms ns same = lowest_same n (λ s. row_cast v (row_seen (site_now ns s).row)) (λ s. row_cast v (row_seen (site_now ms s).row)) (λ (s : ℕ). ap (λ o. row_cast v (row_seen o)) (same s))
+    (low.0, last.0.row, names.0, heard_later start ms low.0 last.0.row (before_earlier v b ms) (last_heard start low.0 last.0 last.1), names.1, names.2)

@@ -12,7 +12,7 @@ use Rattle.gz_round.specs.Counting.{outs, IsGoing}
 use Rattle.gz_round.specs.Asking.{IsLeftBy}
 use Rattle.gz_round.specs.Standing.{StageStands, IsWaiting, Runs}
 use Rattle.gz_round.specs.Following.{Asks, AreServed, Ready}
-use Rattle.gz_round.proofs.Sends.{out_after_sent}
+use Rattle.gz_round.proofs.Known.{out_after_sent}
 use Rattle.gz_round.proofs.Turns.{over_sent, row_sent, earlier_sent, going_sent, again_from, stage_kept}
 use Rattle.gz_round.proofs.GivingIn.{count_none}
 
@@ -34,7 +34,7 @@ opens c w past run new first sent config r look asks served left =
     let s : StageStands c w past Look [] = subst (λ st. StageStands c w past st []) look r.stage in
     record {
       stands = asks.stands;
-      stage = subst (λ st. StageStands c w past st (sent_from first sent [])) (sym (left.stage ∙ look)) (stage_kept c w past run new [] (sent_from first sent []) Look r.stands asks.stands left (earlier_sent first sent []) s tt tt);
+      stage = subst (λ st. StageStands c w past st (sent_from first sent [])) (sym (left.stage ∙ look)) (stage_kept c w past run new [] (sent_from first sent []) Look r.stands asks.stands left (earlier_sent first sent []) refl s tt tt);
       again = again_from c w (sent_from first sent []) None served;
       going = going_sent c first sent [] begins;
       waits = waits_first c w first sent (site_now (sent_from first sent []) 0).awaits (omega (arith, config.some)) refl served;

@@ -1,5 +1,5 @@
 -- A pass over the sites, one after another.
-use Rattle.std.proofs.Common.{◌≡◌, ℕ, ◌+◌, ◌<◌, ◌≤◌, true, cond, ◌||◌, List, length, Option, Some, None, refl, sym, ap, ◌∙◌, subst, inl, inr, arith, set}
+use Rattle.std.proofs.Common.{◌≡◌, ℕ, ◌+◌, ◌<◌, ◌≤◌, max, true, cond, ◌||◌, List, length, Option, Some, None, refl, sym, ap, ◌∙◌, subst, inl, inr, arith, set}
 use Rattle.std.proofs.Math.ListN.{length-set}
 use Rattle.std.proofs.lemmas.Bool.{cases_Bool, cond-true, cond-false}
 use Rattle.std.proofs.lemmas.Option.{none-some}
@@ -10,15 +10,16 @@ use Rattle.gz_core.specs.declared.requests.Out.{Out}
 use Rattle.gz_round.specs.declared.run.Mark.{Mark}
 use Rattle.gz_round.specs.declared.run.Run.{Run}
 use Rattle.gz_round.specs.History.{Moment, Caller, Tale, sent_from}
-use Rattle.gz_round.specs.Sent.{of_step, vote_by, phase_by, passes_sent}
-use Rattle.gz_round.specs.Asking.{asks_of, sent_run, marked_as, phase_after, AskedBy, IsAskedAt, IsLeftBy}
+use Rattle.gz_core.specs.Names.{BallotAt}
+use Rattle.gz_round.specs.Sent.{of_step, vote_by, phase_by, promise_by, round_after, passes_sent}
+use Rattle.gz_round.specs.Asking.{asks_of, sent_run, marked_as, phase_after, AskedBy, IsAskedAt, IsLeftBy, round_of}
 use Rattle.gz_round.specs.Following.{Asks, AreServed, CanAsk}
 use Rattle.gz_round.proofs.Lists.{place_of}
 use Rattle.gz_round.proofs.Sends.{Kind, reads, writes, asked_kind}
 use Rattle.gz_round.proofs.Serves.{Passed, passed_more}
 
 pub left_refl : (run : Run) (step : Option RowStep) → IsLeftBy run run step
-left_refl run step = record { rows = refl; marks_len = refl; stage = refl; own = refl; name = refl; voted = λ e. refl; wrote = λ e. refl }
+left_refl run step = record { rows = refl; marks_len = refl; stage = refl; own = refl; name = refl; voted = λ e. refl; wrote = λ e. refl; rises = omega arith; round = omega arith }
 
 pub left_trans : (a b d : Run) (step : Option RowStep) → IsLeftBy a b step → IsLeftBy b d step → IsLeftBy a d step
 left_trans a b d step h k = record {
@@ -29,6 +30,8 @@ left_trans a b d step h k = record {
   name = k.name ∙ h.name;
   voted = λ e. k.voted e ∙ h.voted e;
   wrote = λ e. k.wrote e ∙ h.wrote e;
+  rises = omega (arith, h.rises, k.rises);
+  round = omega (arith, h.round, k.round);
 }
 
 marks_left : (run : Run) (at number : ℕ) (mark : Mark) (out : Out) → length (cond out.awaited (set run.marks at (marked_as mark number out)) run.marks) ≡ length run.marks
@@ -45,10 +48,25 @@ read_wrote : (run : Run) (at number : ℕ) (mark : Mark) (step : Option RowStep)
 read_wrote run at number mark step row out (reads e why) none = ap (λ (o : Out). phase_after (of_step phase_by o.op) run.wrote) e
 read_wrote run at number mark step row out (writes made before new s r same made_is e) none = absurd (none-some made (sym none ∙ s))
 
+round_step : (o : Option (ℕ × BallotAt)) (round : ℕ) → round_after o round ≤ max (round_after o 0) round
+round_step None round = omega arith
+round_step (Some p) round = omega arith
+
+round_rises : (o : Option (ℕ × BallotAt)) (round : ℕ) → round ≤ round_after o round
+round_rises None round = omega arith
+round_rises (Some p) round = omega arith
+
+sent_round : (run : Run) (at number : ℕ) (mark : Mark) (step : Option RowStep) (row : Option RowAt) (out : Out) → Kind run at mark step row out → (sent_run run at number mark out).round ≤ max (round_of step) run.round
+sent_round run at number mark step row out (reads e why) = let same = ap (λ (o : Out). round_after (of_step promise_by o.op) run.round) e in omega arith
+sent_round run at number mark step row out (writes made before new s r same made_is e) =
+    let round = ap (λ (o : Out). round_after (of_step promise_by o.op) run.round) e in
+    let step_is = ap round_of s in
+    omega (arith, round, step_is, round_step (promise_by made) run.round)
+
 left_sent : (run : Run) (at number : ℕ) (mark : Mark) (step : Option RowStep) (row : Option RowAt) (out : Out) → asks_of run at mark step row ≡ Some out → IsLeftBy run (sent_run run at number mark out) step
 left_sent run at number mark step row out h =
     let k = asked_kind run at mark step row out h in
-    record { rows = refl; marks_len = marks_left run at number mark out; stage = refl; own = refl; name = refl; voted = read_voted run at number mark step row out k.2; wrote = read_wrote run at number mark step row out k.2 }
+    record { rows = refl; marks_len = marks_left run at number mark out; stage = refl; own = refl; name = refl; voted = read_voted run at number mark step row out k.2; wrote = read_wrote run at number mark step row out k.2; rises = round_rises (of_step promise_by out.op) run.round; round = sent_round run at number mark step row out k.2 }
 
 left_by : (run new : Run) (at first : ℕ) (outs sent : List Out) (mark : Mark) (step : Option RowStep) (row : Option RowAt) (o : Option Out) → asks_of run at mark step row ≡ o → AskedBy run at first outs mark o new sent → IsLeftBy run new step
 left_by run new at first outs sent mark step row None e h = subst (λ (r : Run). IsLeftBy run r step) (sym h.0) (left_refl run step)

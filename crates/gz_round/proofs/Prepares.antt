@@ -1,15 +1,16 @@
 -- A call prepares a ballot above every one that it knows, and that its session used.
-use Rattle.std.proofs.Common.{◌≡◌, ◌≢◌, ℕ, zero, suc, ◌+◌, ◌<◌, ◌≤◌, ◌^◌, max, Bool, true, false, cond, ◌&&◌, ◌||◌, ◌==◌, not, List, [], ◌∷◌, Option, Some, None, refl, sym, ap, ◌∙◌, subst, inl, inr, ◌⊎◌, arith, leb}
+use Rattle.std.proofs.Common.{◌≡◌, ◌≢◌, ℕ, zero, suc, ◌+◌, ◌<◌, ◌≤◌, ◌^◌, Bool, true, false, ◌&&◌, ◌==◌, List, [], ◌∷◌, Option, Some, None, is_some, refl, sym, ap, ◌∙◌, subst, inl, inr, ◌⊎◌, arith, leb}
 use Rattle.std.specs.List.{slice_get, list_any}
 use Rattle.std.specs.Prelude.{nat_lt}
-use Rattle.std.proofs.lemmas.Bool.{cases_Bool, cases_lt, cond-true, cond-false, false≢true, both_ways, or_cases, or_right, or_parts, and_parts, ltb-true, eqb-true, false_from_ne_true, le-leb}
+use Rattle.std.proofs.lemmas.Bool.{cases_Bool, cases_lt, cond-true, cond-false, false≢true, both_ways, or_cases, or_right, and_parts, ltb-true, eqb-true, false_from_ne_true, le-leb}
 use Rattle.std.proofs.lemmas.Bool.Decides.{nat_tests}
 use Rattle.std.proofs.lemmas.Option.{same_Some, none-some, slice_get_within}
 use Rattle.gz_core.specs.Names.{Name, BallotAt, same_ballot, same_name}
 use Rattle.gz_core.specs.Values.{name_of}
 use Rattle.gz_core.specs.Rows.{RowAt}
 use Rattle.gz_core.specs.Slots.{Slot, Gone, DecidedAs, OpenAt, slots}
-use Rattle.gz_core.specs.Counts.{count_sites}
+use Rattle.gz_accept.specs.declared.answers.Step.TheVariants.{Done}
+use Rattle.gz_accept.specs.Steps.{promise_answer}
 use Rattle.gz_core.specs.Configurations.{IsConfig}
 use Rattle.gz_core.specs.Calls.{own_value}
 use Rattle.gz_core.specs.declared.values.Value.{Value}
@@ -21,31 +22,31 @@ use Rattle.gz_core.specs.declared.requests.Op.{Op}
 use Rattle.gz_core.specs.declared.requests.Op.TheVariants.{ReadRow, WriteRow}
 use Rattle.gz_core.proofs.Ballots.{same_means, same_from}
 use Rattle.gz_core.proofs.Counting.{count_found}
-use Rattle.gz_pick.specs.Evidences.{is_in}
 use Rattle.gz_pick.specs.Looks.{row_top, highest_of}
 use Rattle.gz_round.specs.declared.run.Run.{Run}
 use Rattle.gz_round.specs.declared.run.Stage.{Stage}
 use Rattle.gz_round.specs.declared.run.Stage.TheVariants.{Look, Fast, Prepare, Accept}
-use Rattle.gz_round.specs.History.{Asked, Moment, Sent, Handed, GaveUp, Rested, GaveIn, Caller, Tale, sent_from}
+use Rattle.gz_round.specs.History.{Moment, Sent, Handed, GaveUp, Rested, GaveIn, Caller, Tale, sent_from}
 use Rattle.gz_round.specs.Sites.{SiteNow, site_now, some_heard}
 use Rattle.gz_round.specs.Sent.{promise_by, of_step, of_sent, passes_sent, some_sent, has_promised, has_promised_at, top_round, round_after}
-use Rattle.gz_round.specs.Shown.{heard_at, IsGrounded}
+use Rattle.gz_round.specs.Shown.{heard_at}
 use Rattle.gz_round.specs.LookBack.{lowest_vote, IsLookedBack}
-use Rattle.gz_round.specs.Rounds.{MayPromise, IsUnused, Cast, cast_by, has_cast, passed_since, promises_known, above_known, round_known, slot_round, slot_promises, slot_promises_above, top_rounds, rounds_used}
-use Rattle.gz_round.specs.Sending.{NoPromise, NoRound, IsStuck, IsShort, NoEvidence, NoneAbove, AreRoundsUsedUp, AreAllowed, MayAsk, MayMake, rows_known}
+use Rattle.gz_round.specs.Rounds.{IsUnused, Cast, cast_by, has_cast, passed_since, above_known, round_known, slot_round, slot_promises_above, greatest, next_round, top_rounds}
+use Rattle.gz_round.specs.Sending.{Collected, IsIdle, NoEvidence, NoneAbove, AreAllowed, MayAsk, MayMake, rows_known}
 use Rattle.gz_round.specs.Counting.{known_count, IsGoing}
 use Rattle.gz_round.specs.Asking.{IsLeftBy}
-use Rattle.gz_round.specs.Standing.{Knows, Stands, StageStands, ArePassed, IsUnpromised, MayPass}
+use Rattle.gz_round.specs.Standing.{Knows, Stands, StageStands, ArePassed, IsUnpromised, IsWorking, MayPass}
 use Rattle.gz_round.specs.Following.{Asks, AreServed, IsUnmet, HasTurned}
 use Rattle.gz_round.specs.Acting.{Prepares, RunsOut, Carries, IsBallotAbove, round_in, given_in_of, prepared_of, is_waiting, ended_of, ended_in, is_overtaken, is_overtaken_in, working_version, version_in}
 use Rattle.gz_round.proofs.Lists.{any_found}
 use Rattle.gz_round.proofs.Heard.{heard_passes}
-use Rattle.gz_round.proofs.Known.{listed_known, known_heard, known_current}
-use Rattle.gz_round.proofs.Columns.{top_highest, highest_reached}
+use Rattle.gz_round.proofs.Known.{listed_known, known_heard, known_current, heard_stands}
+use Rattle.gz_round.proofs.Columns.{top_highest, highest_reached, stands_round}
 use Rattle.gz_round.proofs.Follows.{unvoted_clear, looks_unpromised, unpromised_from, pass_from}
 use Rattle.gz_round.proofs.Arms.{stands_stage}
-use Rattle.gz_round.proofs.LookBacks.{lowest_vote_same}
-use Rattle.gz_round.proofs.Turns.{over_sent, row_sent, earlier_sent, again_from, waits_from, idle_of, heard_from, quorum_known, none_passed, untaken_from}
+use Rattle.gz_round.proofs.LookBacks.{before_none, back_sent_from, begun_new, begun_heard}
+use Rattle.gz_round.proofs.Untaken.{HasGone, count_one, gone_or_kept, undecided_known, fresh_taken}
+use Rattle.gz_round.proofs.Turns.{again_from, waits_from, idle_of, heard_from, quorum_known, none_passed, untaken_from}
 use Rattle.gz_round.proofs.GivingIn.{given_in_turned}
 
 -- a ballot that was promised has a round that was used
@@ -73,6 +74,13 @@ promised_round_at ms v b e = some_round (λ p. (p.0 == v) && same_ballot p.1 b) 
 
 unpromised_above : (ms : List Moment) (b : BallotAt) → top_round ms < b.round → has_promised ms b ≡ false
 unpromised_above ms b l = false_from_ne_true (has_promised ms b) (λ (e : has_promised ms b ≡ true). let low = promised_round ms b e in omega arith)
+
+-- the next ballot was not promised yet
+pub next_unpromised : (c : Config) (past : List Tale) (ms : List Moment) (v : ℕ) (b : BallotAt) → b.round ≡ next_round c past ms v → has_promised ms b ≡ false
+next_unpromised c past ms v b e = unpromised_above ms b (omega arith)
+
+unpromised_at_above : (ms : List Moment) (v : ℕ) (b : BallotAt) → top_round ms < b.round → has_promised_at ms v b ≡ false
+unpromised_at_above ms v b l = false_from_ne_true (has_promised_at ms v b) (λ (e : has_promised_at ms v b ≡ true). let low = promised_round_at ms v b e in omega arith)
 
 unused_above : (past : List Tale) (b : BallotAt) → top_rounds past < b.round → IsUnused past b
 unused_above [] b l = tt
@@ -127,18 +135,56 @@ round_reached v (row ∷ rows) =
       | inr l ↦ inr (zero, row, refl, omega arith)
     ]
 
+greatest_above : (n : ℕ) (f : ℕ → ℕ) (s : ℕ) → s < n → f s ≤ greatest n f
+greatest_above zero f s l = absurd (omega arith)
+greatest_above (suc n) f s l =
+    elim (cases_lt s n) [
+      | inl low ↦ omega (arith, greatest_above n f s low)
+      | inr high ↦ (let same : s ≡ n = omega arith in let here = ap f same in omega arith)
+    ]
+
+greatest_reached : (n : ℕ) (f : ℕ → ℕ) → (greatest n f ≡ 0) ⊎ ((s : ℕ) × (s < n) × (f s ≡ greatest n f))
+greatest_reached zero f = inl refl
+greatest_reached (suc n) f =
+    elim (cases_lt (f n) (greatest n f)) [
+      | inl l ↦ elim (greatest_reached n f) [ inl e ↦ absurd (omega arith) | inr w ↦ inr (w.0, omega (arith, w.1), omega (arith, w.2)) ]
+      | inr l ↦ inr (n, omega arith, omega arith)
+    ]
+
+-- the greatest round of the list is that of the rows that are known
+round_greatest : (c : Config) (run : Run) (ms : List Moment) (v : ℕ) → Knows c run ms → round_in v run.rows ≡ greatest c.n (λ s. round_known v (rows_known ms s))
+round_greatest c run ms v k =
+    let most : round_in v run.rows ≤ greatest c.n (λ s. round_known v (rows_known ms s)) = elim (round_reached v run.rows) [
+      | inl zero_is ↦ omega arith
+      | inr w ↦ (
+          let inside : w.0 < c.n = let len = k.rows_len in omega (arith, slice_get_within run.rows w.0 w.1 w.2) in
+          let same = ap (round_known v) (same_Some (rows_known ms w.0) w.1 (sym (k.rows w.0 inside) ∙ w.2)) in
+          omega (arith, w.3, same, greatest_above c.n (λ s. round_known v (rows_known ms s)) w.0 inside))
+    ] in
+    let least : greatest c.n (λ s. round_known v (rows_known ms s)) ≤ round_in v run.rows = elim (greatest_reached c.n (λ s. round_known v (rows_known ms s))) [
+      | inl zero_is ↦ omega arith
+      | inr w ↦ omega (arith, w.2, round_listed v run.rows w.0 (rows_known ms w.0) (k.rows w.0 w.1))
+    ] in
+    omega arith
+
+round_below : (c : Config) (run : Run) (ms : List Moment) (v s : ℕ) (o : Option RowAt) → Knows c run ms → s < c.n → rows_known ms s ≡ o → round_known v o < 2 ^ 31
+round_below c run ms v s None k l e = omega arith
+round_below c run ms v s (Some row) k l e = stands_round row v (heard_stands ms s row (known_heard ms s row e))
+
+-- a known row promises no round beyond those that a run reaches
+pub rounds_below : (c : Config) (run : Run) (ms : List Moment) (v : ℕ) → Knows c run ms → round_in v run.rows < 2 ^ 31
+rounds_below c run ms v k =
+    elim (round_reached v run.rows) [
+      | inl zero_is ↦ omega arith
+      | inr w ↦ (
+          let inside : w.0 < c.n = let len = k.rows_len in omega (arith, slice_get_within run.rows w.0 w.1 w.2) in
+          omega (arith, w.3, round_below c run ms v w.0 w.1 k inside (same_Some (rows_known ms w.0) w.1 (sym (k.rows w.0 inside) ∙ w.2))))
+    ]
+
 low_above : (slot : Slot) (b : BallotAt) → slot_round slot < b.round → slot_promises_above slot b ≡ false
 low_above Gone b l = refl
 low_above (DecidedAs x) b l = refl
 low_above (OpenAt promise vote) b l = grind (arith, nat_tests)
-
-low_promises : (slot : Slot) (b : BallotAt) → slot_round slot < b.round → slot_promises slot b ≡ false
-low_promises Gone b l = refl
-low_promises (DecidedAs x) b l = refl
-low_promises (OpenAt promise vote) b l =
-    false_from_ne_true (slot_promises (OpenAt promise vote) b) (λ (e : (same_ballot promise b && not (is_in b vote)) ≡ true).
-    let same = ap (λ (d : BallotAt). d.round) (same_means promise b (and_parts (same_ballot promise b) (not (is_in b vote)) e).0) in
-    omega arith)
 
 low_listed : (c : Config) (run : Run) (ms : List Moment) (v : ℕ) (b : BallotAt) (s : ℕ) (row : RowAt) → Knows c run ms → round_in v run.rows < b.round → s < c.n → rows_known ms s ≡ Some row → slot_round (slots row v) < b.round
 low_listed c run ms v b s row k l i e = omega (arith, round_listed v run.rows s (Some row) (k.rows s i ∙ ap (λ o. Some o) e))
@@ -147,49 +193,53 @@ low_listed c run ms v b s row k l i e = omega (arith, round_listed v run.rows s 
 pub none_above_new : (c : Config) (run : Run) (ms : List Moment) (v : ℕ) (b : BallotAt) → Knows c run ms → round_in v run.rows < b.round → NoneAbove c ms v b
 none_above_new c run ms v b k l s row i e = low_above (slots row v) b (low_listed c run ms v b s row k l i e)
 
-known_low : (c : Config) (run : Run) (ms : List Moment) (v : ℕ) (b : BallotAt) (s : ℕ) (o : Option RowAt) → Knows c run ms → round_in v run.rows < b.round → s < c.n → rows_known ms s ≡ o → promises_known v b o ≡ false
-known_low c run ms v b s None k l i e = refl
-known_low c run ms v b s (Some row) k l i e = low_promises (slots row v) b (low_listed c run ms v b s row k l i e)
-
--- and none promises the new one
-short_new : (c : Config) (run : Run) (ms : List Moment) (v : ℕ) (b : BallotAt) → IsConfig c → Knows c run ms → round_in v run.rows < b.round → IsShort c ms v b
-short_new c run ms v b config k l =
-    elim (cases_lt 0 (count_sites c.n (λ s. promises_known v b (rows_known ms s)))) [
-      | inl some ↦ (let w = count_found c.n (λ s. promises_known v b (rows_known ms s)) some in absurd (both_ways (promises_known v b (rows_known ms w.0)) (known_low c run ms v b w.0 (rows_known ms w.0) k l w.1 refl) w.2))
-      | inr none ↦ (let q = config.quorums in omega (arith, config.some, q.majority))
-    ]
-
-unpromised_before : (first : ℕ) (sent : List Out) (ms : List Moment) (b : BallotAt) → has_promised (sent_from first sent ms) b ≡ false → has_promised ms b ≡ false
-unpromised_before first sent ms b = over_sent (λ ns. has_promised ns b ≡ false → has_promised ms b ≡ false) (λ (a : Asked) (ns : List Moment) (k : has_promised ns b ≡ false → has_promised ms b ≡ false) (e : (passes_sent (λ p. same_ballot p.1 b) (of_step promise_by a.op) || has_promised ns b) ≡ false).
-    k (or_parts (passes_sent (λ p. same_ballot p.1 b) (of_step promise_by a.op)) (has_promised ns b) e).1) first sent ms (λ e. e)
-
 -- what a call looks back at as it prepares a ballot, whatever it sends at that event
 pub looked_back : (c : Config) (w : Caller) (past : List Tale) (run : Run) (ms : List Moment) (first : ℕ) (sent more : List Out) (v : ℕ) (b : BallotAt) (found : Option Value) → Prepares c w past run (sent_from first sent ms) v → IsBallotAbove run v b → found ≡ lowest_vote c.n v (sent_from first sent ms) → IsLookedBack c (sent_from first more ms) v b found
 looked_back c w past run ms first sent more v b found p n e =
     let round = n.round in
     let used = p.stands.round_is in
-    let unpromised : has_promised (sent_from first sent ms) b ≡ false = unpromised_above (sent_from first sent ms) b (omega arith) in
-    (ms, earlier_sent first more ms, unpromised_before first sent ms b unpromised, e ∙ lowest_vote_same c.n v ms (sent_from first sent ms) (row_sent first sent ms))
+    let unpromised : has_promised_at (sent_from first sent ms) v b ≡ false = unpromised_at_above (sent_from first sent ms) v b (omega arith) in
+    e ∙ (ap (lowest_vote c.n v) (sym (before_none v b (sent_from first sent ms) unpromised)) ∙ (back_sent_from c first sent ms v b ∙ sym (back_sent_from c first more ms v b)))
 
 -- what is kept while the new ballot is promised
 pub prepared_asks : (c : Config) (w : Caller) (past : List Tale) (run : Run) (ms : List Moment) (v : ℕ) (b : BallotAt) (found : Option Value) → Prepares c w past run ms v → IsBallotAbove run v b → Asks c w past (record run { stage = Prepare v b found }) ms (Some (Promise v b))
 prepared_asks c w past run ms v b found p n =
     let round = n.round in
     let used = p.stands.round_is in
-    let promise : MayPromise c w past ms v b = record {
-      above = p.pass.above;
+    let known = round_greatest c run ms v p.stands.knows in
+    let session : b.session ≡ w.name.session = n.session ∙ ap (λ (x : Name). x.session) p.stands.name_is in
+    let unused : IsUnused past b = unused_above past b (omega arith) in
+    let passed : (d : BallotAt) → d ≢ b → has_promised_at ms v d ≡ true → passed_since v d ms ≡ true = λ (d : BallotAt) (k : d ≢ b) (e : has_promised_at ms v d ≡ true). p.passed d e in
+    let works : IsWorking c w past ms v b = record {
+      pass = p.pass;
       classic = n.classic;
-      session = n.session ∙ ap (λ (x : Name). x.session) p.stands.name_is;
-      unused = unused_above past b (omega arith);
-      own = inl (unpromised_above ms b (omega arith));
+      session = session;
+      unused = unused;
       grounded = p.grounded;
-      passed = λ (d : BallotAt) (k : d ≢ b) (e : has_promised_at ms v d ≡ true). p.passed d e;
+      passed = passed;
+      begun = λ reads. begun_new c ms v b (unpromised_at_above ms v b (omega arith)) (p.begun reads);
     } in
     record {
       stands = stands_stage c w past run ms (Prepare v b found) p.stands;
-      may = promise;
-      held = (record { works = record { promise = promise; pass = p.pass }; uncast = λ (y : Name). uncast_above c w past ms v b y p.stands.allowed (omega arith); used = inr (omega arith) }, none_above_new c run ms v b p.stands.knows (omega arith));
+      may = record { above = p.pass.above; classic = n.classic; session = session; unused = unused; round = inl (omega arith); grounded = p.grounded; passed = passed };
+      held = (record { works = works; uncast = λ (y : Name). uncast_above c w past ms v b y p.stands.allowed (omega arith); used = inr (omega arith) }, none_above_new c run ms v b p.stands.knows (omega arith));
     }
+
+known_some : (o : Option RowAt) → is_some o ≡ true → (row : RowAt) × (o ≡ Some row)
+known_some None e = absurd (false≢true e)
+known_some (Some row) e = (row, refl)
+
+-- where no known row takes a ballot above all that they promise, one has its version collected
+prepared_gone : (c : Config) (w : Caller) (new : Run) (ns : List Moment) (v : ℕ) (b : BallotAt) → IsConfig c → Knows c new ns → IsGoing c ns → IsIdle c ns v → round_in v new.rows < b.round → ((s : ℕ) (row : RowAt) → s < c.n → rows_known ns s ≡ Some row → promise_answer row v b ≢ Done) → HasGone c ns v
+prepared_gone c w new ns v b config k going idle low untaken =
+    let enough : c.qc ≤ known_count c ns = quorum_known c ns idle.heard going.enough in
+    let one : 0 < known_count c ns = let q = config.quorums in omega (arith, config.some, q.majority) in
+    let site = count_found c.n (λ s. is_some (rows_known ns s)) one in
+    let row = known_some (rows_known ns site.0) site.2 in
+    elim (gone_or_kept c ns v) [
+      | inl gone ↦ gone
+      | inr kept ↦ absurd (untaken site.0 row.0 site.1 row.1 (fresh_taken row.0 v b (kept site.0 row.0 site.1 row.1) (undecided_known c ns v site.0 row.0 idle.undecided site.1 row.1) (low_listed c new ns v b site.0 row.0 k low site.1 row.1)))
+    ]
 
 -- once the new ballot was promised at each site that takes it, the call waits, or gives in
 pub prepared_turned : (c : Config) (w : Caller) (past : List Tale) (run new : Run) (ms : List Moment) (v : ℕ) (b : BallotAt) (found : Option Value) (ns : List Moment) → IsConfig c → Prepares c w past run ms v → IsBallotAbove run v b → IsGoing c ns → NoEvidence c ns v → (own_value w.name w.call ≡ None → IsLookedBack c ns v b found) →
@@ -200,43 +250,14 @@ prepared_turned c w past run new ms v b found ns config p n going none back asks
     let k : Stands c w past new ns = asks.stands in
     elim (cases_Bool (is_waiting new)) [
       | inl e ↦ subst (HasTurned c w past new ns) (sym (cond-true (is_waiting new) None (Some (given_in_of new)) e))
-          ([], inl refl, record { stands = k; stage = subst (λ st. StageStands c w past st ns) (sym left.stage) (asks.held.0, none_passed c ns v b asks.held.1, back); again = again_from c w ns (Some (Promise v b)) served; going = going; waits = waits_from c new ns k.knows e })
+          ([], inl refl, record { stands = k; stage = subst (λ st. StageStands c w past st ns) (sym left.stage) (asks.held.0, none_passed c ns v b asks.held.1, λ reads last. back reads); again = again_from c w ns (Some (Promise v b)) served; going = going; waits = waits_from c new ns k.knows e })
       | inr e ↦ (
-          let idle : (s : ℕ) → s < c.n → (site_now ns s).awaits ≡ None = λ (s : ℕ) (l : s < c.n). idle_of c new ns s (site_now ns s).awaits k.knows e l refl in
-          let stuck : IsStuck c ns v b (Promise v b) = record { idle = idle; heard = heard_from c w ns (Some (Promise v b)) served idle; undecided = none; untaken = untaken_from c w ns (Promise v b) refl served idle; none_above = none_above_new c new ns v b k.knows low } in
+          let awaits : (s : ℕ) → s < c.n → (site_now ns s).awaits ≡ None = λ (s : ℕ) (l : s < c.n). idle_of c new ns s (site_now ns s).awaits k.knows e l refl in
+          let idle : IsIdle c ns v = record { awaits = awaits; heard = heard_from c w ns (Some (Promise v b)) served awaits; undecided = none } in
+          let gone = prepared_gone c w new ns v b config k.knows going idle low (untaken_from c w ns (Promise v b) refl served awaits) in
           subst (HasTurned c w past new ns) (sym (cond-false (is_waiting new) None (Some (given_in_of new)) e))
-          (given_in_turned c w past new ns config k going (NoPromise v b asks.may stuck (short_new c new ns v b config k.knows low))))
+          (given_in_turned c w past new ns config k going (Collected v b (record { going = going; idle = idle; promise = asks.may; gone = gone }))))
     ]
-
-used_up : (c : Config) (past : List Tale) (run : Run) (ms : List Moment) (v : ℕ) → Knows c run ms → run.round ≡ rounds_used past ms → 2 ^ 31 ≤ max run.round (round_in v run.rows) + 1 → AreRoundsUsedUp c past ms v
-used_up c past run ms v k e l =
-    elim (cases_lt run.round (round_in v run.rows)) [
-      | inr high ↦ inl (omega arith)
-      | inl low ↦ elim (round_reached v run.rows) [
-        | inl zero_is ↦ absurd (omega arith)
-        | inr w ↦ (
-            let inside : w.0 < c.n = let len = k.rows_len in omega (arith, slice_get_within run.rows w.0 w.1 w.2) in
-            let same : rows_known ms w.0 ≡ w.1 = same_Some (rows_known ms w.0) w.1 (sym (k.rows w.0 inside) ∙ w.2) in
-            let round = ap (round_known v) same in
-            inr (w.0, inside, omega (arith, w.3, round)))
-      ]
-    ]
-
--- no round is left
-pub spent_turned : (c : Config) (w : Caller) (past : List Tale) (run : Run) (ms : List Moment) (v : ℕ) → IsConfig c → Prepares c w past run ms v → 2 ^ 31 ≤ max run.round (round_in v run.rows) + 1 → HasTurned c w past run ms (Some (given_in_of run))
-spent_turned c w past run ms v config p l = given_in_turned c w past run ms config p.stands p.going (NoRound v p.none (used_up c past run ms v p.stands.knows p.stands.round_is l))
-
-count_step : (b : Bool) (k : ℕ) → k ≤ cond b (suc k) k
-count_step true k = omega arith
-count_step false k = omega arith
-
-one_more : (n s : ℕ) (p : ℕ → Bool) → p s ≡ true → (s ≡ n) ⊎ (1 ≤ count_sites n p) → 1 ≤ count_sites (suc n) p
-one_more n s p e (inl same) = let here : p n ≡ true = subst (λ (k : ℕ). p k ≡ true) same e in let count : count_sites (suc n) p ≡ suc (count_sites n p) = cond-true (p n) (suc (count_sites n p)) (count_sites n p) here in omega arith
-one_more n s p e (inr some) = let grows = count_step (p n) (count_sites n p) in omega arith
-
-count_one : (n : ℕ) (p : ℕ → Bool) (s : ℕ) → s < n → p s ≡ true → 1 ≤ count_sites n p
-count_one zero p s l e = absurd (omega arith)
-count_one (suc n) p s l e = one_more n s p e (elim (cases_lt s n) [ inl low ↦ inr (count_one n p s low e) | inr high ↦ inl (omega arith) ])
 
 heard_one : (c : Config) (p : RowAt → Bool) (ms : List Moment) (s : ℕ) (row : RowAt) → s < c.n → rows_known ms s ≡ Some row → p row ≡ true → 1 ≤ heard_at c p ms
 heard_one c p ms s row l e h = count_one c.n (some_heard p ms) s l (heard_passes p ms s row (known_heard ms s row e) h)
@@ -257,18 +278,18 @@ ended_prepares c w past run ms Look at r e =
       clear = unvoted_clear c w.name ms (highest_of run.rows) s.0;
       later = unpromised_from ms 0 (highest_of run.rows + 1) (omega arith) unpromised;
     } in
-    let grounded : IsGrounded c ms (highest_of run.rows) = elim (highest_reached run.rows) [
+    let begun : 1 ≤ heard_at c (λ r. leb (highest_of run.rows) (row_top r)) ms = elim (highest_reached run.rows) [
       | inl zero_is ↦ absurd (omega arith)
       | inr k ↦ (
           let inside : k.0 < c.n = let len = r.stands.knows.rows_len in omega (arith, slice_get_within run.rows k.0 (Some k.1) k.2) in
           let top = k.3 in
-          inr (heard_one c (λ row. leb (highest_of run.rows) (row_top row)) ms k.0 k.1 inside (listed_known c run ms r.stands.knows k.0 k.1 inside k.2) (le-leb (highest_of run.rows) (row_top k.1) (omega arith))))
+          heard_one c (λ row. leb (highest_of run.rows) (row_top row)) ms k.0 k.1 inside (listed_known c run ms r.stands.knows k.0 k.1 inside k.2) (le-leb (highest_of run.rows) (row_top k.1) (omega arith)))
     ] in
-    record { stands = r.stands; going = r.going; pass = pass; grounded = grounded; passed = unpromised_passed ms 0 (highest_of run.rows) (omega arith) unpromised; none = none }
+    record { stands = r.stands; going = r.going; pass = pass; grounded = inr begun; passed = unpromised_passed ms 0 (highest_of run.rows) (omega arith) unpromised; begun = λ reads. begun; none = none }
 ended_prepares c w past run ms (Fast v) at r e =
     let s : StageStands c w past (Fast v) ms = subst (λ st. StageStands c w past st ms) at r.stage in
     let none : NoEvidence c ms v = subst (λ st. NoEvidence c ms (version_in st (highest_of run.rows))) at r.none in
-    record { stands = r.stands; going = r.going; pass = pass_from c w ms v s.0 s.2; grounded = inl s.0.next; passed = unpromised_passed ms v v (omega arith) s.2; none = none }
+    record { stands = r.stands; going = r.going; pass = pass_from c w ms v s.0 s.2; grounded = inl s.0.next; passed = unpromised_passed ms v v (omega arith) s.2; begun = λ reads. absurd (none-some s.1.0 (sym reads ∙ s.1.1)); none = none }
 ended_prepares c w past run ms (Prepare v b found) at r e = absurd (none-some _ (sym e))
 ended_prepares c w past run ms (Accept v b x) at r e = absurd (none-some _ (sym e))
 
@@ -280,7 +301,7 @@ passed_row : (c : Config) (ms : List Moment) (v : ℕ) (b : BallotAt) (s : ℕ) 
 passed_row c ms v b s None l e passed h = absurd (false≢true h)
 passed_row c ms v b s (Some row) l e passed h = passed s row l e h
 
-passed_by : (c : Config) (w : Caller) (past : List Tale) (run : Run) (ms : List Moment) (v : ℕ) (b d : BallotAt) → Stands c w past run ms → MayPromise c w past ms v b → ArePassed c ms v b → (run.round < b.round) ⊎ (list_any (above_known v b) run.rows ≡ true) → has_promised_at ms v d ≡ true → passed_since v d ms ≡ true
+passed_by : (c : Config) (w : Caller) (past : List Tale) (run : Run) (ms : List Moment) (v : ℕ) (b d : BallotAt) → Stands c w past run ms → IsWorking c w past ms v b → ArePassed c ms v b → (run.round < b.round) ⊎ (list_any (above_known v b) run.rows ≡ true) → has_promised_at ms v d ≡ true → passed_since v d ms ≡ true
 passed_by c w past run ms v b d h may passed why e =
     elim (cases_Bool (same_ballot d b)) [
       | inr apart ↦ may.passed d (λ (k : d ≡ b). both_ways (same_ballot d b) apart (same_from d b k)) e
@@ -306,12 +327,12 @@ lost_prepares c w past run ms (Prepare v b found) at p e =
     let s : StageStands c w past (Prepare v b found) ms = subst (λ st. StageStands c w past st ms) at p.acts.ready.stage in
     let none : NoEvidence c ms v = subst (λ st. IsUnmet c run st ms) at p.acts.unmet in
     let why : (run.round < b.round) ⊎ (list_any (above_known v b) run.rows ≡ true) = elim (or_cases (nat_lt run.round b.round) (list_any (above_known v b) run.rows) e) [ inl l ↦ inl (ltb-true run.round b.round l) | inr k ↦ inr k ] in
-    record { stands = h; going = p.acts.going; pass = s.0.works.pass; grounded = s.0.works.promise.grounded; passed = λ (d : BallotAt) (k : has_promised_at ms v d ≡ true). passed_by c w past run ms v b d h s.0.works.promise s.1 why k; none = none }
+    record { stands = h; going = p.acts.going; pass = s.0.works.pass; grounded = s.0.works.grounded; passed = λ (d : BallotAt) (k : has_promised_at ms v d ≡ true). passed_by c w past run ms v b d h s.0.works s.1 why k; begun = λ reads. begun_heard c ms v b (s.0.works.begun reads); none = none }
 lost_prepares c w past run ms (Accept v b x) at p e =
     let h = p.acts.ready.stands in
     let s : StageStands c w past (Accept v b x) ms = subst (λ st. StageStands c w past st ms) at p.acts.ready.stage in
     let none : NoEvidence c ms v = subst (λ st. IsUnmet c run st ms) at p.acts.unmet in
-    record { stands = h; going = p.acts.going; pass = s.1.pass; grounded = s.1.promise.grounded; passed = λ (d : BallotAt) (k : has_promised_at ms v d ≡ true). passed_by c w past run ms v b d h s.1.promise s.2 (inr e) k; none = none }
+    record { stands = h; going = p.acts.going; pass = s.1.works.pass; grounded = s.1.works.grounded; passed = λ (d : BallotAt) (k : has_promised_at ms v d ≡ true). passed_by c w past run ms v b d h s.1.works s.2 (inr e) k; begun = λ reads. begun_heard c ms v b (s.1.works.begun reads); none = none }
 
 -- a call prepares again where its ballot leads no further
 pub overtaken_prepares : (c : Config) (w : Caller) (past : List Tale) (run : Run) (ms : List Moment) → Carries c w past run ms → is_overtaken run ≡ true → Prepares c w past run ms (working_version run)

@@ -26,7 +26,7 @@ use Rattle.gz_pick.specs.declared.heard.Pick.TheVariants.{Forced, Free}
 use Rattle.gz_round.specs.declared.run.Run.{Run}
 use Rattle.gz_round.specs.declared.run.Stage.TheVariants.{Prepare, Accept}
 use Rattle.gz_round.specs.History.{Moment, Caller, Tale}
-use Rattle.gz_round.specs.Sent.{has_promised_at}
+use Rattle.gz_round.specs.Sent.{last_promise}
 use Rattle.gz_core.specs.Calls.{own_value}
 use Rattle.gz_round.specs.LookBack.{or_next, IsLookedBack}
 use Rattle.gz_round.specs.Rounds.{MayClassicVote, MayPropose, IsPromiseHeard, IsLeft, promises_known, slot_promises, has_cast, rounds_used, IsValueKnown}
@@ -37,7 +37,7 @@ use Rattle.gz_round.specs.Following.{IsUnmet}
 use Rattle.gz_round.specs.Choosing.{slot_vote, heard_vote, IsHeardIn, AreHeardIn, IsProposed}
 use Rattle.gz_round.specs.Acting.{Acts, Carries, IsFewIn, ChoiceMeans, choice_of}
 use Rattle.gz_round.proofs.Known.{listed_known, known_heard}
-use Rattle.gz_round.proofs.LookBacks.{back_heard}
+use Rattle.gz_round.proofs.LookBacks.{back_heard, last_promised_at}
 use Rattle.gz_round.proofs.Arms.{stands_stage}
 
 vote_yes : (b : BallotAt) (slot : Slot) (vote : Option (BallotAt × Name)) → slot_vote b slot ≡ Some vote → slot_promises slot b ≡ true
@@ -253,9 +253,9 @@ proposed_none : (c : Config) (w : Caller) (past : List Tale) (run : Run) (ms : L
 proposed_none c w past run ms v b found heard h (inl k) = let both = next_both run.own found (sym k.1) in (sym h.own_is ∙ both.0, both.1, k.0)
 proposed_none c w past run ms v b found heard h (inr k) = absurd (none-some k.6 k.8)
 
-was_promised : (past : List Tale) (ms : List Moment) (v : ℕ) (b : BallotAt) (round : ℕ) → round ≡ rounds_used past ms → b.round ≤ round → (has_promised_at ms v b ≡ true) ⊎ (rounds_used past ms < b.round) → has_promised_at ms v b ≡ true
-was_promised past ms v b round e l (inl h) = h
-was_promised past ms v b round e l (inr h) = absurd (omega arith)
+was_last : (past : List Tale) (ms : List Moment) (v : ℕ) (b : BallotAt) (round : ℕ) → round ≡ rounds_used past ms → b.round ≤ round → (last_promise ms ≡ Some (v, b)) ⊎ (rounds_used past ms < b.round) → last_promise ms ≡ Some (v, b)
+was_last past ms v b round e l (inl h) = h
+was_last past ms v b round e l (inr h) = absurd (omega arith)
 
 -- a quorum promises the ballot, and the call may vote in it
 chosen_carries : (c : Config) (w : Caller) (past : List Tale) (run : Run) (ms : List Moment) (v : ℕ) (b : BallotAt) (found : Option Value) (heard : List Heard) (x : Value) → run.stage ≡ Prepare v b found → Acts c w past run ms → b.round ≤ run.round → AreHeardIn c run.rows v b heard c.n → c.qc ≤ length heard → IsProposed c run v found heard (Some x) →
@@ -263,10 +263,11 @@ chosen_carries : (c : Config) (w : Caller) (past : List Tale) (run : Run) (ms : 
 chosen_carries c w past run ms v b found heard x at a reached are enough proposed =
     let s : StageStands c w past (Prepare v b found) ms = subst (λ st. StageStands c w past st ms) at a.ready.stage in
     let unmet : NoEvidence c ms v = subst (λ st. IsUnmet c run st ms) at a.unmet in
-    let may = proposed_may c w past run ms v b found heard x a.ready.stands s.0.works.pass s.2 are.rows_are proposed in
+    let last = was_last past ms v b run.round a.ready.stands.round_is reached s.0.used in
+    let may = proposed_may c w past run ms v b found heard x a.ready.stands s.0.works.pass (λ reads. s.2 reads last) are.rows_are proposed in
     let vote : MayClassicVote c w ms v b x = record {
       above = s.0.works.pass.above;
-      promised = was_promised past ms v b run.round a.ready.stands.round_is reached s.0.used;
+      promised = last_promised_at ms v b last;
       heard = heard;
       sites = are.sites;
       enough = enough;
@@ -277,29 +278,33 @@ chosen_carries c w past run ms v b found heard x at a reached are enough propose
       back = may.2;
     } in
     record {
-      acts = record { ready = record { stands = stands_stage c w past run ms (Accept v b x) a.ready.stands; stage = (vote, s.0.works, s.1) }; going = a.going; unmet = unmet };
+      acts = record { ready = record { stands = stands_stage c w past run ms (Accept v b x) a.ready.stands; stage = (vote, record { works = s.0.works; last = last }, s.1) }; going = a.going; unmet = unmet };
       few = tt;
     }
 
 -- a quorum promises the ballot, and the call has no value to vote for
-nothing_gives_in : (c : Config) (w : Caller) (past : List Tale) (run : Run) (ms : List Moment) (v : ℕ) (b : BallotAt) (found : Option Value) (heard : List Heard) → run.stage ≡ Prepare v b found → Acts c w past run ms → AreHeardIn c run.rows v b heard c.n → c.qc ≤ length heard → IsProposed c run v found heard None → MayGiveIn c w past ms
-nothing_gives_in c w past run ms v b found heard at a are enough proposed =
+nothing_gives_in : (c : Config) (w : Caller) (past : List Tale) (run : Run) (ms : List Moment) (v : ℕ) (b : BallotAt) (found : Option Value) (heard : List Heard) → run.stage ≡ Prepare v b found → Acts c w past run ms → b.round ≤ run.round → AreHeardIn c run.rows v b heard c.n → c.qc ≤ length heard → IsProposed c run v found heard None → MayGiveIn c w past ms
+nothing_gives_in c w past run ms v b found heard at a reached are enough proposed =
     let s : StageStands c w past (Prepare v b found) ms = subst (λ st. StageStands c w past st ms) at a.ready.stage in
     let none = proposed_none c w past run ms v b found heard a.ready.stands proposed in
+    let last = was_last past ms v b run.round a.ready.stands.round_is reached s.0.used in
     NoValue v b (record {
+      going = a.going;
       reads = none.0;
-      promise = s.0.works.promise;
+      last = last;
+      uncast = s.0.uncast;
       heard = heard;
       sites = are.sites;
       enough = enough;
       rows = promises_heard c run ms v b heard a.ready.stands.knows are.rows_are;
       free = none.2;
-      back = subst (IsLookedBack c ms v b) none.1 (s.2 none.0);
+      begun = s.0.works.begun none.0;
+      back = subst (IsLookedBack c ms v b) none.1 (s.2 none.0 last);
       undecided = subst (λ st. IsUnmet c run st ms) at a.unmet;
     })
 
 pub chosen_means : (c : Config) (w : Caller) (past : List Tale) (run : Run) (ms : List Moment) (v : ℕ) (b : BallotAt) (found : Option Value) (heard : List Heard) (o : Option Value) → run.stage ≡ Prepare v b found → Acts c w past run ms → b.round ≤ run.round → AreHeardIn c run.rows v b heard c.n → c.qc ≤ length heard → IsProposed c run v found heard o → ChoiceMeans c w past run ms (choice_of v b o)
-chosen_means c w past run ms v b found heard None at a reached are enough proposed = nothing_gives_in c w past run ms v b found heard at a are enough proposed
+chosen_means c w past run ms v b found heard None at a reached are enough proposed = nothing_gives_in c w past run ms v b found heard at a reached are enough proposed
 chosen_means c w past run ms v b found heard (Some x) at a reached are enough proposed = chosen_carries c w past run ms v b found heard x at a reached are enough proposed
 
 -- all rows were looked at

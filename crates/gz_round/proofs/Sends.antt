@@ -19,15 +19,15 @@ use Rattle.gz_round.specs.declared.run.Mark.{Mark}
 use Rattle.gz_round.specs.declared.run.Run.{Run}
 use Rattle.gz_round.specs.History.{Asked, Moment, Sent, Caller, Tale, asked_of, is_row_request}
 use Rattle.gz_round.specs.Sites.{SiteNow, site_now, after_sent, is_to, known, row_seen}
-use Rattle.gz_round.specs.Sent.{vote_by, phase_by, of_step, or_earlier, last_sent, passes_sent, phase_of, phase_or_look, promise_by, round_after, top_round}
+use Rattle.gz_round.specs.Sent.{is_notice, vote_by, phase_by, of_step, or_earlier, last_sent, passes_sent, phase_of, phase_or_look, promise_by, round_after, top_round}
 use Rattle.gz_round.specs.Rounds.{top_rounds}
-use Rattle.gz_round.specs.Sending.{MaySend, MayAsk, MayMake, IsMade, answer_of, made_by}
-use Rattle.gz_round.specs.Asking.{asks_of, row_out, step_out, write_out, read_out, made_of, if_done, is_notice, sent_run, marked_as, phase_after}
+use Rattle.gz_round.specs.Sending.{MaySend, MayAsk, MayMake, IsMade, answer_of, made_by, is_awaited}
+use Rattle.gz_round.specs.Asking.{asks_of, row_out, step_out, write_out, read_out, made_of, if_done, sent_run, marked_as, phase_after}
 use Rattle.gz_round.specs.Standing.{Knows, Stands, IsSound, mark_of, etag_seen, awaited_of}
 use Rattle.gz_round.specs.Following.{MayMakeOf}
 use Rattle.gz_round.proofs.Lists.{told_after_set, told_same}
 use Rattle.gz_round.proofs.Moments.{is_to_same, is_to_other, now_here, now_other, each_site}
-use Rattle.gz_round.proofs.Known.{known_last, sent_row}
+use Rattle.gz_round.proofs.Known.{known_last, known_after_sent}
 use Rattle.gz_round.proofs.Guards.{IsOf}
 
 -- a step that is done makes its row
@@ -113,6 +113,10 @@ kind_asks c w past run ms at step out key may kept (writes made before new s r s
     let guard : MayMake c w past ms made = subst (λ (o : Option RowStep). MayMakeOf c w past ms o) s may in
     subst (λ (o : Out). MayAsk c w past ms (site_now ms at) o.op) (sym e) (key, record { before = before; last = under; same = same; made = made_is; guard = guard })
 
+kind_awaited : (run : Run) (at : ℕ) (mark : Mark) (step : Option RowStep) (row : Option RowAt) (out : Out) → Kind run at mark step row out → out.awaited ≡ is_awaited out.op
+kind_awaited run at mark step row out (reads e why) = subst (λ (o : Out). o.awaited ≡ is_awaited o.op) (sym e) refl
+kind_awaited run at mark step row out (writes made before new s r same made_is e) = subst (λ (o : Out). o.awaited ≡ is_awaited o.op) (sym e) refl
+
 -- it is one that may be sent
 pub kind_may : (c : Config) (w : Caller) (past : List Tale) (run : Run) (ms : List Moment) (at number : ℕ) (step : Option RowStep) (out : Out) → at < c.n → run.key ≡ key_of w.call → MayMakeOf c w past ms step →
     asks_of run at (mark_of (site_now ms at)) step (known (site_now ms at)) ≡ Some out → MaySend c w past ms (asked_of number out)
@@ -125,27 +129,11 @@ kind_may c w past run ms at number step out l key may h =
       kept = ap (λ n. n.out) now ∙ k.0;
       idle = ap (λ n. n.awaits) now ∙ none_awaits (site_now ms at).awaits k.1;
       asks = subst (λ (n : SiteNow). MayAsk c w past ms n out.op) (sym now) (kind_asks c w past run ms at step out key may k.0 k.2);
+      awaited = kind_awaited run at (mark_of (site_now ms at)) step (known (site_now ms at)) out k.2;
     }
-
-known_sent : (a : Asked) (now : SiteNow) → known (after_sent a now) ≡ known now
-known_sent a now = elim (cases_Bool a.awaited) [ inl e ↦ ap known (cond-true a.awaited _ now e) | inr e ↦ ap known (cond-false a.awaited _ now e) ]
-
-pub out_sent : (a : Asked) (now : SiteNow) → (after_sent a now).out ≡ now.out
-out_sent a now = elim (cases_Bool a.awaited) [ inl e ↦ ap (λ n. n.out) (cond-true a.awaited _ now e) | inr e ↦ ap (λ n. n.out) (cond-false a.awaited _ now e) ]
 
 pub changed_sent : (a : Asked) (now : SiteNow) → (after_sent a now).changed ≡ now.changed
 changed_sent a now = elim (cases_Bool a.awaited) [ inl e ↦ ap (λ n. n.changed) (cond-true a.awaited _ now e) | inr e ↦ ap (λ n. n.changed) (cond-false a.awaited _ now e) ]
-
--- a request that is sent leaves what is known
-pub known_after_sent : (a : Asked) (ms : List Moment) (s : ℕ) → known (site_now ms s) ≡ known (site_now (Sent a ∷ ms) s)
-known_after_sent a ms s = each_site (λ n. known (site_now ms s) ≡ known n) (Sent a) ms s (λ h. sym (known_sent a (site_now ms s))) (λ h. refl)
-
--- and what is out
-pub out_after_sent : (a : Asked) (ms : List Moment) (s : ℕ) → (site_now ms s).out ≡ (site_now (Sent a ∷ ms) s).out
-out_after_sent a ms s = each_site (λ n. (site_now ms s).out ≡ n.out) (Sent a) ms s (λ h. sym (out_sent a (site_now ms s))) (λ h. refl)
-
-pub row_after_sent : (a : Asked) (ms : List Moment) (s : ℕ) → (site_now ms s).row ≡ (site_now (Sent a ∷ ms) s).row
-row_after_sent a ms s = each_site (λ n. (site_now ms s).row ≡ n.row) (Sent a) ms s (λ h. sym (sent_row a (site_now ms s))) (λ h. refl)
 
 phase_sent : (o : Option Phase) (ms : List Moment) → phase_after o (phase_of ms) ≡ phase_or_look (or_earlier o (last_sent phase_by ms))
 phase_sent None ms = refl

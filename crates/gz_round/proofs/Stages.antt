@@ -1,6 +1,6 @@
 -- A phase that stands goes on to stand while its step is made, and when a reply or a give-up is noted.
 use Rattle.std.proofs.Common.{◌≡◌, ◌≢◌, ℕ, ◌+◌, ◌<◌, ◌≤◌, max, Bool, true, false, cond, ◌&&◌, ◌||◌, ◌==◌, List, ◌∷◌, Option, Some, None, refl, sym, ap, ◌∙◌, subst, inl, inr, ◌⊎◌, arith, leb}
-use Rattle.std.proofs.lemmas.Bool.{cases_eq, cond-false, or_left, or_right, and_from, false≢true, eq-eqb, ne_eqb}
+use Rattle.std.proofs.lemmas.Bool.{cases_eq, cond-false, or_left, or_right, false≢true, ne_eqb}
 use Rattle.std.proofs.lemmas.Option.{none-some, same_Some}
 use Rattle.gz_core.specs.Names.{Name, BallotAt, same_ballot}
 use Rattle.gz_core.specs.Rows.{RowAt}
@@ -10,7 +10,6 @@ use Rattle.gz_core.specs.declared.requests.RowStep.{RowStep}
 use Rattle.gz_core.specs.declared.requests.RowStep.TheVariants.{FastVote, Promise, ClassicVote, Decide, Trim}
 use Rattle.gz_core.specs.declared.requests.Op.{Op}
 use Rattle.gz_core.specs.declared.requests.Op.TheVariants.{ReadRow, WriteRow}
-use Rattle.gz_core.proofs.Ballots.{same_refl}
 use Rattle.gz_pick.specs.Looks.{row_top}
 use Rattle.gz_pick.specs.declared.heard.Heard.{Heard}
 use Rattle.gz_round.specs.declared.hearing.Seen.{Seen}
@@ -18,17 +17,18 @@ use Rattle.gz_round.specs.declared.run.Stage.{Stage}
 use Rattle.gz_round.specs.declared.run.Stage.TheVariants.{Look, Fast, Prepare, Accept}
 use Rattle.gz_round.specs.History.{Asked, Moment, Sent, Caller, Tale}
 use Rattle.gz_round.specs.Sites.{SiteNow, site_now, after, after_reply, concerns, known, heard_in, passes}
-use Rattle.gz_round.specs.Sent.{voted, voted_at, vote_by, promise_by, of_step, of_sent, or_earlier, passes_sent, some_sent, has_promised, has_promised_at, last_promise, top_round, round_after, phase_of}
+use Rattle.gz_round.specs.Sent.{voted, voted_at, vote_by, promise_by, of_step, of_sent, or_earlier, passes_sent, some_sent, has_promised_at, last_promise, top_round, round_after, phase_of}
 use Rattle.gz_round.specs.Shown.{IsClear, IsGrounded}
-use Rattle.gz_round.specs.Rounds.{MayPromise, MayClassicVote, MayPropose, IsLeft, passed_since, is_promise, promises_above, cast_by, has_cast, top_rounds, rounds_used, IsValueKnown}
+use Rattle.gz_round.specs.LookBack.{IsLookedBack}
+use Rattle.gz_round.specs.Rounds.{MayClassicVote, MayPropose, IsLeft, passed_since, is_promise, promises_above, cast_by, has_cast, top_rounds, rounds_used, IsValueKnown}
 use Rattle.gz_round.specs.Sending.{NoneAbove}
-use Rattle.gz_round.specs.Standing.{StageStands, IsUnpromised, ArePassed, MayPass, IsWorking, IsPreparing}
+use Rattle.gz_round.specs.Standing.{StageStands, IsUnpromised, ArePassed, MayPass, IsWorking, IsPreparing, IsVoting}
 use Rattle.gz_round.specs.Following.{HeldBy, HeldOf}
 use Rattle.gz_round.proofs.Heard.{current_more, next_more, shown_more, heard_at_more}
 use Rattle.gz_round.proofs.Moments.{now_here, now_other}
-use Rattle.gz_round.proofs.LookBacks.{back_more}
-use Rattle.gz_round.proofs.Guards.{IsOf, clear_vote, only_classic, promise_sent, promise_still, promises_more}
-use Rattle.gz_round.proofs.Sends.{known_after_sent}
+use Rattle.gz_round.proofs.LookBacks.{back_more, begun_more, last_promised_at}
+use Rattle.gz_round.proofs.Guards.{IsOf, clear_vote, only_classic, promise_sent, passed_still, promises_more}
+use Rattle.gz_round.proofs.Known.{known_after_sent}
 
 -- what a moment ends: the request that is awaited from one site, with the row that it showed, or overtaken, or nothing
 pub record Ends (m : Moment) (at : ℕ) (seen : Option Seen) (changed : Bool) : Type 0 where
@@ -68,29 +68,25 @@ passed_now m ms v d e h =
     cond-false (is_promise v d (of_sent promise_by m)) false (passes (λ row. promises_above row v d) (heard_in m) || passed_since v d ms) (ap (is_promise v d) e)
     ∙ or_left (passes (λ row. promises_above row v d) (heard_in m)) (passed_since v d ms) h
 
-own_more : (m : Moment) (ms : List Moment) (v : ℕ) (b : BallotAt) → of_sent promise_by m ≡ None → (has_promised ms b ≡ false) ⊎ (last_promise ms ≡ Some (v, b)) → (has_promised (m ∷ ms) b ≡ false) ⊎ (last_promise (m ∷ ms) ≡ Some (v, b))
-own_more m ms v b e (inl h) = inl (unsent promise_by (λ p. same_ballot p.1 b) m ms e ∙ h)
-own_more m ms v b e (inr h) = inr (ap (λ o. or_earlier o (last_promise ms)) e ∙ h)
-
-promise_more : (c : Config) (w : Caller) (past : List Tale) (m : Moment) (ms : List Moment) (v : ℕ) (b : BallotAt) → of_sent promise_by m ≡ None → MayPromise c w past ms v b → MayPromise c w past (m ∷ ms) v b
-promise_more c w past m ms v b e h = record {
-  above = h.above;
-  classic = h.classic;
-  session = h.session;
-  unused = h.unused;
-  own = own_more m ms v b e h.own;
-  grounded = grounded_more c m ms v h.grounded;
-  passed = λ (d : BallotAt) (n : d ≢ b) (k : has_promised_at (m ∷ ms) v d ≡ true). passed_more m ms v d e (h.passed d n (sym (unsent promise_by (λ p. (p.0 == v) && same_ballot p.1 d) m ms e) ∙ k));
-}
+last_more : (m : Moment) (ms : List Moment) (v : ℕ) (b : BallotAt) → of_sent promise_by m ≡ None → last_promise ms ≡ Some (v, b) → last_promise (m ∷ ms) ≡ Some (v, b)
+last_more m ms v b e h = ap (λ o. or_earlier o (last_promise ms)) e ∙ h
 
 pass_more : (c : Config) (w : Caller) (m : Moment) (ms : List Moment) (v : ℕ) → IsQuiet w m ms → MayPass c w ms v → MayPass c w (m ∷ ms) v
 pass_more c w m ms v q h = record { above = h.above; current = current_more c m ms v h.current; clear = clear_more c w.name m ms v q.voted_at h.clear; later = unpromised_more m ms (v + 1) q.promise h.later }
 
 works_more : (c : Config) (w : Caller) (past : List Tale) (m : Moment) (ms : List Moment) (v : ℕ) (b : BallotAt) → IsQuiet w m ms → IsWorking c w past ms v b → IsWorking c w past (m ∷ ms) v b
-works_more c w past m ms v b q h = record { promise = promise_more c w past m ms v b q.promise h.promise; pass = pass_more c w m ms v q h.pass }
+works_more c w past m ms v b q h = record {
+  pass = pass_more c w m ms v q h.pass;
+  classic = h.classic;
+  session = h.session;
+  unused = h.unused;
+  grounded = grounded_more c m ms v h.grounded;
+  passed = λ (d : BallotAt) (n : d ≢ b) (k : has_promised_at (m ∷ ms) v d ≡ true). passed_more m ms v d q.promise (h.passed d n (sym (unsent promise_by (λ p. (p.0 == v) && same_ballot p.1 d) m ms q.promise) ∙ k));
+  begun = λ reads. begun_more c m ms v b (h.begun reads);
+}
 
-used_more : (past : List Tale) (m : Moment) (ms : List Moment) (v : ℕ) (b : BallotAt) → of_sent promise_by m ≡ None → (has_promised_at ms v b ≡ true) ⊎ (rounds_used past ms < b.round) → (has_promised_at (m ∷ ms) v b ≡ true) ⊎ (rounds_used past (m ∷ ms) < b.round)
-used_more past m ms v b e (inl h) = inl (unsent promise_by (λ p. (p.0 == v) && same_ballot p.1 b) m ms e ∙ h)
+used_more : (past : List Tale) (m : Moment) (ms : List Moment) (v : ℕ) (b : BallotAt) → of_sent promise_by m ≡ None → (last_promise ms ≡ Some (v, b)) ⊎ (rounds_used past ms < b.round) → (last_promise (m ∷ ms) ≡ Some (v, b)) ⊎ (rounds_used past (m ∷ ms) < b.round)
+used_more past m ms v b e (inl h) = inl (last_more m ms v b e h)
 used_more past m ms v b e (inr h) = inr (subst (λ (n : ℕ). n < b.round) (sym (ap (λ o. max (top_rounds past) (round_after o (top_round ms))) e)) h)
 
 preparing_more : (c : Config) (w : Caller) (past : List Tale) (m : Moment) (ms : List Moment) (v : ℕ) (b : BallotAt) → IsQuiet w m ms → IsPreparing c w past ms v b → IsPreparing c w past (m ∷ ms) v b
@@ -99,6 +95,15 @@ preparing_more c w past m ms v b q h = record {
   uncast = λ (y : Name). unsent cast_by _ m ms q.cast ∙ h.uncast y;
   used = used_more past m ms v b q.promise h.used;
 }
+
+voting_more : (c : Config) (w : Caller) (past : List Tale) (m : Moment) (ms : List Moment) (v : ℕ) (b : BallotAt) → IsQuiet w m ms → IsVoting c w past ms v b → IsVoting c w past (m ∷ ms) v b
+voting_more c w past m ms v b q h = record { works = works_more c w past m ms v b q h.works; last = last_more m ms v b q.promise h.last }
+
+-- what was looked back at before the last promise is so still
+looked_more : (c : Config) (m : Moment) (ms : List Moment) (v : ℕ) (b : BallotAt) (found : Option Value) → of_sent promise_by m ≡ None → (last_promise ms ≡ Some (v, b) → IsLookedBack c ms v b found) → last_promise (m ∷ ms) ≡ Some (v, b) → IsLookedBack c (m ∷ ms) v b found
+looked_more c m ms v b found e h last =
+    let before : last_promise ms ≡ Some (v, b) = sym (ap (λ o. or_earlier o (last_promise ms)) e) ∙ last in
+    back_more c m ms v b found (last_promised_at ms v b before) (h before)
 
 propose_more : (c : Config) (w : Caller) (m : Moment) (ms : List Moment) (v : ℕ) (x : Value) → IsQuiet w m ms → MayPropose c w ms v x → MayPropose c w (m ∷ ms) v x
 propose_more c w m ms v x q (inl h) = inl (h.0, current_more c m ms v h.1, clear_more c w.name m ms v q.voted_at h.2)
@@ -123,7 +128,7 @@ classic_more c w m ms v b x q h = record {
   choice = left_more c w m ms v h.heard x q h.choice;
   known = known_more w m ms v x h.known;
   one = λ (y : Name) (k : has_cast (m ∷ ms) v b y ≡ true). h.one y (sym (unsent cast_by _ m ms q.cast) ∙ k);
-  back = λ reads free. back_more c m ms v b (Some x) (h.back reads free);
+  back = λ reads free. back_more c m ms v b (Some x) h.promised (h.back reads free);
 }
 
 known_seen : (seen : Seen) (row : RowAt) (out : Bool) → cond out None (Some seen.row) ≡ Some row → seen.row ≡ row
@@ -162,8 +167,8 @@ pub stage_more : (c : Config) (w : Caller) (past : List Tale) (m : Moment) (ms :
 stage_more c w past m ms at seen changed Look e heard q s = (q.voted ∙ s.0, q.phase ∙ s.1)
 stage_more c w past m ms at seen changed (Fast v) e heard q s =
     (record { above = s.0.above; current = current_more c m ms v s.0.current; next = next_more c m ms v s.0.next; clear = clear_more c w.name m ms v q.voted_at s.0.clear }, s.1, unpromised_more m ms v q.promise s.2)
-stage_more c w past m ms at seen changed (Prepare v b found) e heard q s = (preparing_more c w past m ms v b q s.0, passed_known c m ms at seen changed v b e heard q.promise s.1, λ reads. back_more c m ms v b found (s.2 reads))
-stage_more c w past m ms at seen changed (Accept v b x) e heard q s = (classic_more c w m ms v b x q s.0, works_more c w past m ms v b q s.1, passed_known c m ms at seen changed v b e heard q.promise s.2)
+stage_more c w past m ms at seen changed (Prepare v b found) e heard q s = (preparing_more c w past m ms v b q s.0, passed_known c m ms at seen changed v b e heard q.promise s.1, λ reads. looked_more c m ms v b found q.promise (s.2 reads))
+stage_more c w past m ms at seen changed (Accept v b x) e heard q s = (classic_more c w m ms v b x q s.0, voting_more c w past m ms v b q s.1, passed_known c m ms at seen changed v b e heard q.promise s.2)
 
 none_of : {T : Type 0} (f : RowStep → Option T) (op : Op) (step : RowStep) → f step ≡ None → IsOf op (Some step) → of_step f op ≡ None
 none_of f (ReadRow key) step e is = refl
@@ -183,9 +188,20 @@ pass_kept c w ms a v b only sent h = record { above = h.above; current = h.curre
 none_voted : (x : Name) (op : Op) (v u : ℕ) → of_step (vote_by x) op ≡ None → passes_sent (λ k. k == u) (of_step (vote_by x) op) ≡ true → v ≡ u
 none_voted x op v u e h = absurd (false≢true (sym (ap (passes_sent (λ k. k == u)) e) ∙ h))
 
-used_kept : (past : List Tale) (ms : List Moment) (a : Asked) (v : ℕ) (b : BallotAt) → (of_step promise_by a.op ≡ None) ⊎ (of_step promise_by a.op ≡ Some (v, b)) → (has_promised_at ms v b ≡ true) ⊎ (rounds_used past ms < b.round) → (has_promised_at (Sent a ∷ ms) v b ≡ true) ⊎ (rounds_used past (Sent a ∷ ms) < b.round)
+works_kept : (c : Config) (w : Caller) (past : List Tale) (ms : List Moment) (a : Asked) (v : ℕ) (b : BallotAt) → ((u : ℕ) → passes_sent (λ k. k == u) (of_step (vote_by w.name) a.op) ≡ true → v ≡ u) → (of_step promise_by a.op ≡ None) ⊎ (of_step promise_by a.op ≡ Some (v, b)) → IsWorking c w past ms v b → IsWorking c w past (Sent a ∷ ms) v b
+works_kept c w past ms a v b only sent h = record {
+  pass = pass_kept c w ms a v b only sent h.pass;
+  classic = h.classic;
+  session = h.session;
+  unused = h.unused;
+  grounded = h.grounded;
+  passed = passed_still ms a v b sent h.passed;
+  begun = λ reads. begun_more c (Sent a) ms v b (h.begun reads);
+}
+
+used_kept : (past : List Tale) (ms : List Moment) (a : Asked) (v : ℕ) (b : BallotAt) → (of_step promise_by a.op ≡ None) ⊎ (of_step promise_by a.op ≡ Some (v, b)) → (last_promise ms ≡ Some (v, b)) ⊎ (rounds_used past ms < b.round) → (last_promise (Sent a ∷ ms) ≡ Some (v, b)) ⊎ (rounds_used past (Sent a ∷ ms) < b.round)
 used_kept past ms a v b (inl e) h = used_more past (Sent a) ms v b e h
-used_kept past ms a v b (inr e) h = inl (ap (λ o. passes_sent (λ p. (p.0 == v) && same_ballot p.1 b) o || has_promised_at ms v b) e ∙ or_left ((v == v) && same_ballot b b) (has_promised_at ms v b) (and_from (v == v) (same_ballot b b) (eq-eqb v v refl) (same_refl b)))
+used_kept past ms a v b (inr e) h = inl (ap (λ o. or_earlier o (last_promise ms)) e)
 
 none_kept : (c : Config) (ms : List Moment) (a : Asked) (v : ℕ) (b : BallotAt) → NoneAbove c ms v b → NoneAbove c (Sent a ∷ ms) v b
 none_kept c ms a v b h s row l k = h s row l (known_after_sent a ms s ∙ k)
@@ -196,15 +212,18 @@ held_kept c w past ms a (FastVote v x) is h = λ (u : ℕ) (d : BallotAt) (l : v
 held_kept c w past ms a (Promise v b) is h =
     let sent = promise_sent a.op v b is in (
       record {
-        works = record { promise = promise_still c w past ms a v b sent h.0.works.promise; pass = pass_kept c w ms a v b (λ (u : ℕ) (k : passes_sent (λ z. z == u) (of_step (vote_by w.name) a.op) ≡ true). none_voted w.name a.op v u (none_of (vote_by w.name) a.op (Promise v b) refl is) k) sent h.0.works.pass };
+        works = works_kept c w past ms a v b (λ (u : ℕ) (k : passes_sent (λ z. z == u) (of_step (vote_by w.name) a.op) ≡ true). none_voted w.name a.op v u (none_of (vote_by w.name) a.op (Promise v b) refl is) k) sent h.0.works;
         uncast = λ (y : Name). unsent cast_by _ (Sent a) ms (none_of cast_by a.op (Promise v b) refl is) ∙ h.0.uncast y;
         used = used_kept past ms a v b sent h.0.used;
       },
       none_kept c ms a v b h.1,
     )
 held_kept c w past ms a (ClassicVote v b x) is h =
-    let sent : (of_step promise_by a.op ≡ None) ⊎ (of_step promise_by a.op ≡ Some (v, b)) = inl (none_of promise_by a.op (ClassicVote v b x) refl is) in (
-      record { promise = promise_still c w past ms a v b sent h.0.promise; pass = pass_kept c w ms a v b (λ (u : ℕ) (k : passes_sent (λ z. z == u) (of_step (vote_by w.name) a.op) ≡ true). only_classic w.name a.op v b x u is k) sent h.0.pass },
+    let none : of_step promise_by a.op ≡ None = none_of promise_by a.op (ClassicVote v b x) refl is in (
+      record {
+        works = works_kept c w past ms a v b (λ (u : ℕ) (k : passes_sent (λ z. z == u) (of_step (vote_by w.name) a.op) ≡ true). only_classic w.name a.op v b x u is k) (inl none) h.0.works;
+        last = last_more (Sent a) ms v b none h.0.last;
+      },
       none_kept c ms a v b h.1,
     )
 held_kept c w past ms a (Decide v x) is h = tt

@@ -1,8 +1,8 @@
 -- What an event comes to: the call runs on, or its answer has its cause.
-use Rattle.std.proofs.Common.{◌≡◌, ◌≢◌, ℕ, zero, suc, ◌+◌, ◌<◌, ◌≤◌, Bool, true, false, cond, List, [], ◌∷◌, Option, Some, None, is_some, option_map, refl, sym, ap, ◌∙◌, subst, inl, inr, ◌⊎◌, arith}
+use Rattle.std.proofs.Common.{◌≡◌, ◌≢◌, ℕ, zero, suc, ◌+◌, ◌<◌, ◌≤◌, Bool, true, false, cond, ◌||◌, List, [], ◌∷◌, Option, Some, None, is_some, option_map, refl, sym, ap, ◌∙◌, subst, inl, inr, ◌⊎◌, arith}
 use Rattle.std.specs.Prelude.{nat_lt}
 use Rattle.std.specs.List.{list_any}
-use Rattle.std.proofs.lemmas.Bool.{cases_Bool, true≢false, false≢true, both_ways, or_parts, ltb-false}
+use Rattle.std.proofs.lemmas.Bool.{cases_Bool, true≢false, false≢true, both_ways, or_cases, or_parts, ltb-true, ltb-false, false_from_ne_true}
 use Rattle.std.proofs.lemmas.Option.{same_Some, none-some, slice_get_within}
 use Rattle.gz_core.specs.Names.{Name, BallotAt}
 use Rattle.gz_core.specs.Values.{name_of}
@@ -34,20 +34,19 @@ use Rattle.gz_round.specs.declared.run.Stage.TheVariants.{Look, Fast, Prepare, A
 use Rattle.gz_round.specs.History.{Asked, Moment, Sent, Caller, Tale, IsEarlier, asked_of, sent_from}
 use Rattle.gz_round.specs.Steps.{IsStepOf}
 use Rattle.gz_round.specs.Sites.{site_now, known}
-use Rattle.gz_round.specs.Sent.{met}
+use Rattle.gz_round.specs.Sent.{met, last_promise}
 use Rattle.gz_round.specs.Shown.{heard_at, IsShown, IsCurrent}
-use Rattle.gz_round.specs.Rounds.{promises_above, above_known}
+use Rattle.gz_round.specs.Rounds.{MayPromise, rounds_used, promises_above, above_known}
 use Rattle.gz_round.specs.Sending.{MayMake, NoneAbove, answer_of}
 use Rattle.gz_round.specs.Counting.{outs, known_count, IsGoing, IsNoticed, HasNotice}
 use Rattle.gz_round.specs.Causes.{HasCause, IsCutOff, IsOvertaken, UnsureCause, IsValueHeard, IsLearnt, rows_known, is_blank}
-use Rattle.gz_round.specs.Asking.{IsLeftBy, is_notice}
-use Rattle.gz_round.specs.Standing.{Knows, Stands, StageStands, ArePassed, AreAskedAgain, IsWaiting, mark_of, awaited_of}
+use Rattle.gz_round.specs.Asking.{IsLeftBy, is_notice, round_of}
+use Rattle.gz_round.specs.Standing.{Knows, Stands, StageStands, ArePassed, AreAskedAgain, IsWaiting, IsWorking, mark_of, awaited_of}
 use Rattle.gz_round.specs.Following.{Asks, MayMakeOf, AreServed, IsSettledBy, NoEvidence, IsUnmet, HeldOf, Turned, HasTurned}
-use Rattle.gz_round.specs.Acting.{IsPlain, Steps, RunsOut, Finishes, IsFewIn, IsShortIn, IsAheadIn, is_overtaken_in, is_waiting, vote_for, notice_for, stage_step, step_in, working_version, version_in}
+use Rattle.gz_round.specs.Acting.{IsPlain, Steps, RunsOut, Finishes, IsFewIn, IsShortIn, is_overtaken, is_overtaken_in, is_waiting, vote_for, notice_for, stage_step, step_in, working_version, version_in}
 use Rattle.gz_round.proofs.Lists.{count_same, any_found, any_told}
-use Rattle.gz_round.proofs.Known.{evident_same, last_known, known_last}
-use Rattle.gz_round.proofs.LookBacks.{earlier_refl, back_later}
-use Rattle.gz_round.proofs.Sends.{known_after_sent, out_after_sent, row_after_sent}
+use Rattle.gz_round.proofs.Known.{evident_same, last_known, known_last, known_after_sent, out_after_sent, row_after_sent}
+use Rattle.gz_round.proofs.LookBacks.{earlier_refl, back_later, last_promised_at}
 
 -- what one request more leaves holds after all requests of an event
 pub over_sent : (P : List Moment → Type 0) → ((a : Asked) (ms : List Moment) → P ms → P (Sent a ∷ ms)) → (first : ℕ) (outs : List Out) (ms : List Moment) → P ms → P (sent_from first outs ms)
@@ -206,35 +205,46 @@ none_above_listed c run ms v b k none s row l e =
 pub none_passed : (c : Config) (ms : List Moment) (v : ℕ) (b : BallotAt) → NoneAbove c ms v b → ArePassed c ms v b
 none_passed c ms v b none s row l e above = absurd (both_ways (promises_above row v b) (none s row l e) above)
 
+-- a ballot that isn't overtaken was promised last
+pub last_of : (past : List Tale) (run : Run) (ms : List Moment) (v : ℕ) (b : BallotAt) (found : Option Value) → run.round ≡ rounds_used past ms → (last_promise ms ≡ Some (v, b)) ⊎ (rounds_used past ms < b.round) → is_overtaken_in run (Prepare v b found) ≡ false → last_promise ms ≡ Some (v, b)
+last_of past run ms v b found e (inl last) ahead = last
+last_of past run ms v b found e (inr low) ahead = let far = ltb-false run.round b.round (or_parts (nat_lt run.round b.round) (list_any (above_known v b) run.rows) ahead).0 in absurd (omega arith)
+
+-- and may be promised again
+pub last_may : (c : Config) (w : Caller) (past : List Tale) (ms : List Moment) (v : ℕ) (b : BallotAt) → IsWorking c w past ms v b → last_promise ms ≡ Some (v, b) → MayPromise c w past ms v b
+last_may c w past ms v b h last = record { above = h.pass.above; classic = h.classic; session = h.session; unused = h.unused; round = inr last; grounded = h.grounded; passed = h.passed }
+
 -- the step of a phase may be made
-pub stage_may : (c : Config) (w : Caller) (past : List Tale) (run : Run) (ms : List Moment) (stage : Stage) → Stands c w past run ms → StageStands c w past stage ms → MayMakeOf c w past ms (step_in stage run.own)
-stage_may c w past run ms Look h s = tt
-stage_may c w past run ms (Fast v) h s = subst (λ o. MayMakeOf c w past ms (vote_for v o)) (sym (h.own_is ∙ s.1.1)) (s.1.1, s.0)
-stage_may c w past run ms (Prepare v b found) h s = s.0.works.promise
-stage_may c w past run ms (Accept v b x) h s = s.0
+stage_may : (c : Config) (w : Caller) (past : List Tale) (run : Run) (ms : List Moment) (stage : Stage) → Stands c w past run ms → StageStands c w past stage ms → is_overtaken_in run stage ≡ false → MayMakeOf c w past ms (step_in stage run.own)
+stage_may c w past run ms Look h s ahead = tt
+stage_may c w past run ms (Fast v) h s ahead = subst (λ o. MayMakeOf c w past ms (vote_for v o)) (sym (h.own_is ∙ s.1.1)) (s.1.1, s.0)
+stage_may c w past run ms (Prepare v b found) h s ahead = last_may c w past ms v b s.0.works (last_of past run ms v b found h.round_is s.0.used ahead)
+stage_may c w past run ms (Accept v b x) h s ahead = s.0
 
 -- it is a step
 stage_is_step : (c : Config) (w : Caller) (past : List Tale) (own : Option Value) (ms : List Moment) (stage : Stage) → StageStands c w past stage ms → IsStepOf (step_in stage own)
 stage_is_step c w past own ms Look s = tt
 stage_is_step c w past own ms (Fast v) s = vote_is_step v own s.0.above
-stage_is_step c w past own ms (Prepare v b found) s = (s.0.works.promise.above, s.0.works.promise.classic)
-stage_is_step c w past own ms (Accept v b x) s = (s.0.above, s.1.promise.classic)
+stage_is_step c w past own ms (Prepare v b found) s = (s.0.works.pass.above, s.0.works.classic)
+stage_is_step c w past own ms (Accept v b x) s = (s.0.above, s.1.works.classic)
 
 -- the phase holds what is kept while the step is made
-pub stage_held : (c : Config) (w : Caller) (past : List Tale) (run : Run) (ms : List Moment) (stage : Stage) → Stands c w past run ms → StageStands c w past stage ms → IsAheadIn run.rows stage → HeldOf c w past ms (step_in stage run.own)
+stage_held : (c : Config) (w : Caller) (past : List Tale) (run : Run) (ms : List Moment) (stage : Stage) → Stands c w past run ms → StageStands c w past stage ms → is_overtaken_in run stage ≡ false → HeldOf c w past ms (step_in stage run.own)
 stage_held c w past run ms Look h s ahead = tt
 stage_held c w past run ms (Fast v) h s ahead = subst (λ o. HeldOf c w past ms (vote_for v o)) (sym (h.own_is ∙ s.1.1)) s.2
-stage_held c w past run ms (Prepare v b found) h s ahead = (s.0, none_above_listed c run ms v b h.knows ahead)
+stage_held c w past run ms (Prepare v b found) h s ahead = (s.0, none_above_listed c run ms v b h.knows (or_parts (nat_lt run.round b.round) (list_any (above_known v b) run.rows) ahead).1)
 stage_held c w past run ms (Accept v b x) h s ahead = (s.1, none_above_listed c run ms v b h.knows ahead)
 
 -- and once it was made at the sites the phase goes on to stand
-pub stage_kept : (c : Config) (w : Caller) (past : List Tale) (run new : Run) (ms ns : List Moment) (stage : Stage) → Stands c w past run ms → Stands c w past new ns → IsLeftBy run new (step_in stage run.own) → IsEarlier ms ns → StageStands c w past stage ms → MayMakeOf c w past ns (step_in stage run.own) → HeldOf c w past ns (step_in stage run.own) → StageStands c w past stage ns
-stage_kept c w past run new ms ns Look h k left then s may held = (sym k.voted_is ∙ (left.voted refl ∙ (h.voted_is ∙ s.0)), sym k.wrote_is ∙ (left.wrote refl ∙ (h.wrote_is ∙ s.1)))
-stage_kept c w past run new ms ns (Fast v) h k left then s may held =
+pub stage_kept : (c : Config) (w : Caller) (past : List Tale) (run new : Run) (ms ns : List Moment) (stage : Stage) → Stands c w past run ms → Stands c w past new ns → IsLeftBy run new (step_in stage run.own) → IsEarlier ms ns → is_overtaken_in run stage ≡ false → StageStands c w past stage ms → MayMakeOf c w past ns (step_in stage run.own) → HeldOf c w past ns (step_in stage run.own) → StageStands c w past stage ns
+stage_kept c w past run new ms ns Look h k left then ahead s may held = (sym k.voted_is ∙ (left.voted refl ∙ (h.voted_is ∙ s.0)), sym k.wrote_is ∙ (left.wrote refl ∙ (h.wrote_is ∙ s.1)))
+stage_kept c w past run new ms ns (Fast v) h k left then ahead s may held =
     let made : MayMake c w past ns (FastVote v s.1.0) = subst (λ o. MayMakeOf c w past ns (vote_for v o)) (h.own_is ∙ s.1.1) may in
     (made.1, s.1, subst (λ o. HeldOf c w past ns (vote_for v o)) (h.own_is ∙ s.1.1) held)
-stage_kept c w past run new ms ns (Prepare v b found) h k left then s may held = (held.0, none_passed c ns v b held.1, λ reads. back_later c ms ns v b found then (s.2 reads))
-stage_kept c w past run new ms ns (Accept v b x) h k left then s may held = (may, held.0, none_passed c ns v b held.1)
+stage_kept c w past run new ms ns (Prepare v b found) h k left then ahead s may held =
+    let last : last_promise ms ≡ Some (v, b) = last_of past run ms v b found h.round_is s.0.used ahead in
+    (held.0, none_passed c ns v b held.1, λ reads again. (back_later c ms ns v b found then (last_promised_at ms v b last) (s.2 reads last)).1)
+stage_kept c w past run new ms ns (Accept v b x) h k left then ahead s may held = (may, held.0, none_passed c ns v b held.1)
 
 -- what was there before the requests of an event
 pub earlier_sent : (first : ℕ) (sent : List Out) (ms : List Moment) → IsEarlier ms (sent_from first sent ms)
@@ -293,7 +303,7 @@ unmet_out c w past run ms Look first sent enough s (inl few) = let same = known_
 unmet_out c w past run ms Look first sent enough s (inr none) = (none.0, evidence_sent c (highest_of run.rows) first sent ms none.1)
 unmet_out c w past run ms (Fast v) first sent enough s none = (s.0.above, evidence_sent c v first sent ms none)
 unmet_out c w past run ms (Prepare v b found) first sent enough s none = (s.0.works.pass.above, evidence_sent c v first sent ms none)
-unmet_out c w past run ms (Accept v b x) first sent enough s none = (s.1.pass.above, evidence_sent c v first sent ms none)
+unmet_out c w past run ms (Accept v b x) first sent enough s none = (s.1.works.pass.above, evidence_sent c v first sent ms none)
 
 -- the step of a phase is no notice
 stage_plain : (stage : Stage) (own : Option Value) (step : RowStep) → step_in stage own ≡ Some step → is_notice step ≡ false
@@ -318,11 +328,18 @@ short_from c run (Prepare v b found) (inl l) ahead = let far = ltb-false run.rou
 short_from c run (Prepare v b found) (inr l) ahead = l
 short_from c run (Accept v b x) few ahead = tt
 
-pub ahead_from : (run : Run) (stage : Stage) → is_overtaken_in run stage ≡ false → IsAheadIn run.rows stage
-ahead_from run Look e = tt
-ahead_from run (Fast v) e = tt
-ahead_from run (Prepare v b found) e = (or_parts (nat_lt run.round b.round) (list_any (above_known v b) run.rows) e).1
-ahead_from run (Accept v b x) e = e
+-- a ballot that isn't overtaken isn't once more of its promises were sent
+still_ahead : (run new : Run) (stage : Stage) → new.rows ≡ run.rows → run.round ≤ new.round → is_overtaken_in run stage ≡ false → is_overtaken_in new stage ≡ false
+still_ahead run new Look rows rises e = refl
+still_ahead run new (Fast v) rows rises e = refl
+still_ahead run new (Prepare v b found) rows rises e =
+    let parts = or_parts (nat_lt run.round b.round) (list_any (above_known v b) run.rows) e in
+    let far = ltb-false run.round b.round parts.0 in
+    false_from_ne_true (is_overtaken_in new (Prepare v b found)) (λ (k : (nat_lt new.round b.round || list_any (above_known v b) new.rows) ≡ true). elim (or_cases (nat_lt new.round b.round) (list_any (above_known v b) new.rows) k) [
+      | inl low ↦ (let near = ltb-true new.round b.round low in omega arith)
+      | inr above ↦ both_ways (list_any (above_known v b) run.rows) parts.1 (sym (ap (list_any (above_known v b)) rows) ∙ above)
+    ])
+still_ahead run new (Accept v b x) rows rises e = ap (list_any (above_known v b)) rows ∙ e
 
 -- after the step was made at each site that takes it
 pub record Stepped (c : Config) (w : Caller) (past : List Tale) (new : Run) (ms : List Moment) (step : Option RowStep) : Type 0 where
@@ -338,7 +355,7 @@ pub steps_ask : (c : Config) (w : Caller) (past : List Tale) (run : Run) (ms : L
 steps_ask c w past run ms step p is =
     let a = p.carries.acts in
     let h : Stands c w past run ms = a.ready.stands in
-    record { stands = h; may = subst (MayMakeOf c w past ms) (sym is) (stage_may c w past run ms run.stage h a.ready.stage); held = subst (HeldOf c w past ms) (sym is) (stage_held c w past run ms run.stage h a.ready.stage (ahead_from run run.stage p.ahead)) }
+    record { stands = h; may = subst (MayMakeOf c w past ms) (sym is) (stage_may c w past run ms run.stage h a.ready.stage p.ahead); held = subst (HeldOf c w past ms) (sym is) (stage_held c w past run ms run.stage h a.ready.stage p.ahead) }
 
 pub stepped_from : (c : Config) (w : Caller) (past : List Tale) (run new : Run) (ms : List Moment) (first : ℕ) (sent : List Out) (step : Option RowStep) → Steps c w past run ms → step ≡ stage_step run →
     (Asks c w past run ms step → Asks c w past new (sent_from first sent ms) step × AreServed c w (sent_from first sent ms) step) → IsLeftBy run new step → Stepped c w past new (sent_from first sent ms) step
@@ -347,7 +364,7 @@ stepped_from c w past run new ms first sent step p is asked left =
     let h : Stands c w past run ms = a.ready.stands in
     let done = asked (steps_ask c w past run ms step p is) in
     let k : Stands c w past new (sent_from first sent ms) = done.0.stands in
-    let stage : StageStands c w past run.stage (sent_from first sent ms) = stage_kept c w past run new ms (sent_from first sent ms) run.stage h k (subst (IsLeftBy run new) is left) (earlier_sent first sent ms) a.ready.stage (subst (MayMakeOf c w past (sent_from first sent ms)) is done.0.may) (subst (HeldOf c w past (sent_from first sent ms)) is done.0.held) in
+    let stage : StageStands c w past run.stage (sent_from first sent ms) = stage_kept c w past run new ms (sent_from first sent ms) run.stage h k (subst (IsLeftBy run new) is left) (earlier_sent first sent ms) p.ahead a.ready.stage (subst (MayMakeOf c w past (sent_from first sent ms)) is done.0.may) (subst (HeldOf c w past (sent_from first sent ms)) is done.0.held) in
     record { stands = k; stage = subst (λ st. StageStands c w past st (sent_from first sent ms)) (sym left.stage) stage; going = going_sent c first sent ms a.going; served = done.1 }
 
 -- a request is awaited, and the call runs on
@@ -370,10 +387,24 @@ stepped_out c w past run new ms first sent step p is left q e =
       stage = q.stage;
       going = q.going;
       short = subst (λ st. IsShortIn c new.rows st) (sym left.stage) (subst (λ rows. IsShortIn c rows run.stage) (sym left.rows) (short_from c run run.stage p.carries.few p.ahead));
-      ahead = subst (λ st. IsAheadIn new.rows st) (sym left.stage) (subst (λ rows. IsAheadIn rows run.stage) (sym left.rows) (ahead_from run run.stage p.ahead));
+      ahead = subst (λ st. is_overtaken_in new st ≡ false) (sym left.stage) (still_ahead run new run.stage left.rows left.rises p.ahead);
       above = subst (λ (n : ℕ). 1 ≤ n) version out.0;
       none = subst (NoEvidence c (sent_from first sent ms)) version out.1;
       idle = idle;
       heard = heard;
       untaken = λ (made : RowStep) (k : stage_step new ≡ Some made). untaken_from c w (sent_from first sent ms) made (stage_plain new.stage new.own made k) (subst (AreServed c w (sent_from first sent ms)) (steps ∙ k) q.served) idle;
     }
+
+-- the step of a phase whose ballot isn't overtaken promises no later round
+stage_round : (run : Run) (stage : Stage) (own : Option Value) → is_overtaken_in run stage ≡ false → round_of (step_in stage own) ≤ run.round
+stage_round run Look own ahead = omega arith
+stage_round run (Fast v) None ahead = omega arith
+stage_round run (Fast v) (Some x) ahead = omega arith
+stage_round run (Prepare v b found) own ahead = let far = ltb-false run.round b.round (or_parts (nat_lt run.round b.round) (list_any (above_known v b) run.rows) ahead).0 in omega arith
+stage_round run (Accept v b x) own ahead = omega arith
+
+pub stepped_round : (run new : Run) (step : Option RowStep) → step ≡ stage_step run → is_overtaken run ≡ false → IsLeftBy run new step → new.round ≤ run.round
+stepped_round run new step is ahead left =
+    let low = stage_round run run.stage run.own ahead in
+    let same = ap round_of is in
+    omega (arith, left.round)

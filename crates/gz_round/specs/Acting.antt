@@ -1,5 +1,5 @@
 -- What a call does at an event, once what came was noted.
-use Rattle.std.specs.Prelude.{ℕ, ◌≡◌, ◌≢◌, ◌≤◌, ◌<◌, ◌+◌, ◌^◌, ◌⊎◌, ◌||◌, nat_lt, max, Bool, true, false, List, [], ◌∷◌, if◌then◌else◌, Option, Some, None, is_some, IsSome, slice_get}
+use Rattle.std.specs.Prelude.{ℕ, ◌≡◌, ◌≢◌, ◌≤◌, ◌<◌, ◌+◌, ◌⊎◌, ◌||◌, nat_lt, nat_le, max, Bool, true, false, List, [], ◌∷◌, if◌then◌else◌, Option, Some, None, is_some, IsSome, slice_get}
 use Rattle.gz_core.specs.Names.{BallotAt, IsClassic}
 use Rattle.gz_core.specs.Calls.{own_value}
 use Rattle.gz_core.specs.Rows.{RowAt}
@@ -12,7 +12,7 @@ use Rattle.gz_core.specs.declared.calls.UnsureWhy.TheVariants.{NoQuorum as Unsur
 use Rattle.gz_config.specs.declared.Config.{Config}
 use Rattle.gz_core.specs.declared.requests.RowStep.{RowStep}
 use Rattle.gz_core.specs.declared.requests.RowStep.TheVariants.{FastVote, Promise, ClassicVote, Decide}
-use Rattle.gz_pick.specs.Looks.{highest_of}
+use Rattle.gz_pick.specs.Looks.{row_top, highest_of}
 use Rattle.gz_round.specs.declared.run.Run.{Run}
 use Rattle.gz_round.specs.declared.run.Stage.{Stage}
 use Rattle.gz_round.specs.declared.run.Stage.TheVariants.{Look, Fast, Prepare, Accept}
@@ -23,7 +23,7 @@ use Rattle.gz_accept.specs.declared.answers.Step.TheVariants.{Done}
 use Rattle.gz_round.specs.History.{Moment, Caller, Tale, sent_from}
 use Rattle.gz_round.specs.Sites.{site_now}
 use Rattle.gz_round.specs.Sent.{has_promised_at}
-use Rattle.gz_round.specs.Shown.{IsShown, IsGrounded}
+use Rattle.gz_round.specs.Shown.{heard_at, IsShown, IsGrounded}
 use Rattle.gz_round.specs.Rounds.{passed_since, promises_known, above_known, round_known}
 use Rattle.gz_round.specs.Sending.{NoEvidence, MayGiveIn, rows_known, answer_of}
 use Rattle.gz_round.specs.Counting.{IsGoing}
@@ -121,13 +121,6 @@ IsShortIn c rows (Fast v) = Unit {0}
 IsShortIn c rows (Prepare v b found) = count_by (promises_known v b) rows < c.qc
 IsShortIn c rows (Accept v b x) = Unit {0}
 
--- no known row promises a ballot above the one of the phase
-abbrev pub IsAheadIn : List (Option RowAt) → Stage → Type 0
-IsAheadIn rows Look = Unit {0}
-IsAheadIn rows (Fast v) = Unit {0}
-IsAheadIn rows (Prepare v b found) = list_any (above_known v b) rows ≡ false
-IsAheadIn rows (Accept v b x) = list_any (above_known v b) rows ≡ false
-
 -- the step of the phase is made
 pub record Steps (c : Config) (w : Caller) (past : List Tale) (run : Run) (ms : List Moment) : Type 0 where
   pub carries : Carries c w past run ms
@@ -142,7 +135,7 @@ pub record RunsOut (c : Config) (w : Caller) (past : List Tale) (run : Run) (ms 
   pub stage : StageStands c w past run.stage ms
   pub going : IsGoing c ms
   pub short : IsShortIn c run.rows run.stage
-  pub ahead : IsAheadIn run.rows run.stage
+  pub ahead : is_overtaken run ≡ false
   pub above : 1 ≤ working_version run
   pub none : NoEvidence c ms (working_version run)
   pub idle : (s : ℕ) → s < c.n → (site_now ms s).awaits ≡ None
@@ -159,6 +152,7 @@ pub record Prepares (c : Config) (w : Caller) (past : List Tale) (run : Run) (ms
   pub pass : MayPass c w ms v
   pub grounded : IsGrounded c ms v
   pub passed : (d : BallotAt) → has_promised_at ms v d ≡ true → passed_since v d ms ≡ true
+  pub begun : own_value w.name w.call ≡ None → 1 ≤ heard_at c (λ r. nat_le v (row_top r)) ms
   pub none : NoEvidence c ms v
 
 abbrev pub CanPrepare : Config → Run → ℕ → List Out → ℕ → Type 0
@@ -169,15 +163,11 @@ abbrev pub round_in : ℕ → List (Option RowAt) → ℕ
 round_in v [] = 0
 round_in v (row ∷ rows) = max (round_known v row) (round_in v rows)
 
--- the ballot to prepare: one round above those that the session used or known rows promise; none where no round is left
+-- the ballot to prepare: one round above those that the session used or known rows promise
 pub record IsBallotAbove (run : Run) (v : ℕ) (b : BallotAt) : Type 0 where
   pub round : b.round ≡ max run.round (round_in v run.rows) + 1
   pub session : b.session ≡ run.name.session
   pub classic : IsClassic b
-
-abbrev pub IsNextBallot : Run → ℕ → Option BallotAt → Type 0
-IsNextBallot run v None = 2 ^ 31 ≤ max run.round (round_in v run.rows) + 1
-IsNextBallot run v (Some b) = IsBallotAbove run v b
 
 -- the call's value is chosen at the version
 pub record Finishes (c : Config) (w : Caller) (past : List Tale) (run : Run) (ms : List Moment) (v : ℕ) : Type 0 where

@@ -1,9 +1,8 @@
 -- What is asked of a site, as the running call keeps it, and what the call keeps once it is asked.
-use Rattle.std.specs.Prelude.{ℕ, ◌≡◌, ◌+◌, Bool, true, false, ◌||◌, not, if◌then◌else◌, List, [], ◌∷◌, ◌++◌, length, slice_get, slice_set, Option, Some, None, is_some}
+use Rattle.std.specs.Prelude.{ℕ, ◌≡◌, ◌≤◌, ◌+◌, max, true, ◌||◌, not, if◌then◌else◌, List, [], ◌∷◌, ◌++◌, length, slice_get, slice_set, Option, Some, None, is_some}
 use Rattle.gz_core.specs.Rows.{RowAt}
 use Rattle.gz_core.specs.declared.calls.Phase.{Phase}
 use Rattle.gz_core.specs.declared.requests.RowStep.{RowStep}
-use Rattle.gz_core.specs.declared.requests.RowStep.TheVariants.{FastVote, Promise, ClassicVote, Decide, Trim}
 use Rattle.gz_core.specs.declared.requests.Op.{Op}
 use Rattle.gz_core.specs.declared.requests.Op.TheVariants.{ReadRow, WriteRow}
 use Rattle.gz_core.specs.declared.requests.Out.{Out}
@@ -12,16 +11,9 @@ use Rattle.gz_accept.specs.declared.answers.Step.TheVariants.{Done, Already, Bel
 use Rattle.gz_round.specs.declared.run.Mark.{Mark}
 use Rattle.gz_round.specs.declared.run.Run.{Run}
 use Rattle.gz_round.specs.Sites.{written_by}
+pub use Rattle.gz_round.specs.Sent.{is_notice}
 use Rattle.gz_round.specs.Sent.{vote_by, phase_by, promise_by, round_after, of_step, passes_sent}
 use Rattle.gz_round.specs.Sending.{answer_of, made_by}
-
--- a step that nobody awaits: the others are told what is chosen
-abbrev pub is_notice : RowStep → Bool
-is_notice (FastVote v x) = false
-is_notice (Promise v b) = false
-is_notice (ClassicVote v b x) = false
-is_notice (Decide v x) = true
-is_notice (Trim to x) = false
 
 -- a row where the step is done
 abbrev pub if_done : Step → RowAt → Option RowAt
@@ -86,6 +78,11 @@ AskedBy old at first outs mark (Some out) new sent = (new ≡ sent_run old at (f
 abbrev pub IsAskedAt : Run → ℕ → Option RowStep → ℕ → List Out → Run → List Out → Type 0
 IsAskedAt old at step first outs new sent = (mark : Mark) (row : Option RowAt) → slice_get old.marks at ≡ Some mark → slice_get old.rows at ≡ Some row → AskedBy old at first outs mark (asks_of old at mark step row) new sent
 
+-- the round of a step's promise, 0 where it promises nothing
+abbrev pub round_of : Option RowStep → ℕ
+round_of None = 0
+round_of (Some step) = round_after (promise_by step) 0
+
 -- what asking leaves as it was
 pub record IsLeftBy (old new : Run) (step : Option RowStep) : Type 0 where
   pub rows : new.rows ≡ old.rows
@@ -95,3 +92,5 @@ pub record IsLeftBy (old new : Run) (step : Option RowStep) : Type 0 where
   pub name : new.name ≡ old.name
   pub voted : step ≡ None → new.voted ≡ old.voted
   pub wrote : step ≡ None → new.wrote ≡ old.wrote
+  pub rises : old.round ≤ new.round
+  pub round : new.round ≤ max (round_of step) old.round

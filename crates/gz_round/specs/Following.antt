@@ -29,7 +29,7 @@ use Rattle.gz_round.specs.Counting.{known_count, HasNotice}
 use Rattle.gz_round.specs.Causes.{HasCause, IsAbsent, is_blank}
 use Rattle.gz_round.specs.Asking.{is_notice}
 pub use Rattle.gz_round.specs.Standing.{MayPass}
-use Rattle.gz_round.specs.Standing.{Stands, StageStands, Runs, IsUnpromised, IsWorking, IsPreparing}
+use Rattle.gz_round.specs.Standing.{Stands, StageStands, Runs, IsUnpromised, IsPreparing, IsVoting}
 
 -- a site whose row is known shows a row without a vote, a decision or a floor
 abbrev pub is_blank_known : Option RowAt → Bool
@@ -98,7 +98,7 @@ MayMakeOf c w past ms (Some step) = MayMake c w past ms step
 abbrev pub HeldBy : Config → Caller → List Tale → List Moment → RowStep → Type 0
 HeldBy c w past ms (FastVote v x) = IsUnpromised ms v
 HeldBy c w past ms (Promise v b) = IsPreparing c w past ms v b × NoneAbove c ms v b
-HeldBy c w past ms (ClassicVote v b x) = IsWorking c w past ms v b × NoneAbove c ms v b
+HeldBy c w past ms (ClassicVote v b x) = IsVoting c w past ms v b × NoneAbove c ms v b
 HeldBy c w past ms (Decide v x) = Unit {0}
 HeldBy c w past ms (Trim to x) = Unit {0}
 

@@ -1,14 +1,14 @@
 -- What a call that writes nothing votes for where the promises leave the value to it: it looks back at the votes that it heard.
-use Rattle.std.specs.Prelude.{ℕ, zero, suc, ◌≡◌, false, List, Option, Some, None}
+use Rattle.std.specs.Prelude.{ℕ, zero, suc, ◌≡◌, if◌then◌else◌, List, [], ◌∷◌, Option, Some, None}
 use Rattle.gz_core.specs.Names.{BallotAt}
 use Rattle.gz_core.specs.Rows.{RowAt, column_in}
 use Rattle.gz_core.specs.declared.rows.Column.{Column}
 use Rattle.gz_core.specs.declared.rows.Column.TheVariants.{Open, Decided}
 use Rattle.gz_core.specs.declared.values.Value.{Value}
 use Rattle.gz_config.specs.declared.Config.{Config}
-use Rattle.gz_round.specs.History.{Moment, IsEarlier}
+use Rattle.gz_round.specs.History.{Moment}
 use Rattle.gz_round.specs.Sites.{site_now, row_seen}
-use Rattle.gz_round.specs.Sent.{has_promised}
+use Rattle.gz_round.specs.Sent.{has_promised_at}
 use Rattle.gz_round.specs.Shown.{vote_value}
 
 -- the value that a column has a vote for
@@ -36,6 +36,11 @@ lowest (suc n) f = or_next (lowest n f) (f n)
 abbrev pub lowest_vote : ℕ → ℕ → List Moment → Option Value
 lowest_vote n v ms = lowest n (λ s. row_cast v (row_seen (site_now ms s).row))
 
--- before a call promised a ballot, it looked back at that vote
+-- what had happened to a call just before it first promised a ballot at a version: all that has, where it never did
+abbrev pub before_promise : ℕ → BallotAt → List Moment → List Moment
+before_promise v b [] = []
+before_promise v b (m ∷ ms) = if has_promised_at (m ∷ ms) v b then before_promise v b ms else m ∷ ms
+
+-- a call looks back at that vote among the rows as they were then
 abbrev pub IsLookedBack : Config → List Moment → ℕ → BallotAt → Option Value → Type 0
-IsLookedBack c ms v b found = (start : List Moment) × IsEarlier start ms × (has_promised start b ≡ false) × (found ≡ lowest_vote c.n v start)
+IsLookedBack c ms v b found = found ≡ lowest_vote c.n v (before_promise v b ms)

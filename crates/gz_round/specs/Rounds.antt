@@ -1,5 +1,5 @@
 -- When a call may send a promise of a classic ballot, and a vote in it. (Lamport 2006, "Fast Paxos", section 2.2.)
-use Rattle.std.specs.Prelude.{ℕ, max, Bool, true, false, not, ◌≡◌, ◌≢◌, ◌≤◌, ◌⊎◌, ◌&&◌, ◌||◌, ◌==◌, if◌then◌else◌, List, [], ◌∷◌, length, slice_get, Option, Some, None}
+use Rattle.std.specs.Prelude.{ℕ, zero, suc, ◌+◌, max, Bool, true, false, not, ◌≡◌, ◌≢◌, ◌≤◌, ◌⊎◌, ◌&&◌, ◌||◌, ◌==◌, if◌then◌else◌, List, [], ◌∷◌, length, slice_get, Option, Some, None}
 use Rattle.std.specs.List.{All}
 use Rattle.gz_core.specs.Names.{Name, BallotAt, IsClassic, is_below, same_ballot, same_name}
 use Rattle.gz_core.specs.Values.{name_of}
@@ -16,7 +16,7 @@ use Rattle.gz_pick.specs.Choices.{pick_of, AreSites}
 use Rattle.gz_pick.specs.declared.heard.Heard.{Heard}
 use Rattle.gz_pick.specs.declared.heard.Pick.TheVariants.{Forced, Free}
 use Rattle.gz_round.specs.History.{Moment, Caller, Tale}
-use Rattle.gz_round.specs.Sites.{passes, heard_in, WasHeard}
+use Rattle.gz_round.specs.Sites.{passes, heard_in, WasHeard, rows_known}
 use Rattle.gz_round.specs.Sent.{of_sent, some_sent, promise_by, has_promised, has_promised_at, last_promise, top_round}
 use Rattle.gz_round.specs.Shown.{IsCurrent, IsGrounded, IsClear, IsValueHeard}
 use Rattle.gz_round.specs.LookBack.{IsLookedBack}
@@ -56,6 +56,15 @@ abbrev pub round_known : ℕ → Option RowAt → ℕ
 round_known v None = 0
 round_known v (Some row) = slot_round (slots row v)
 
+-- the greatest number that one of the sites below n has
+abbrev pub greatest : ℕ → (ℕ → ℕ) → ℕ
+greatest zero f = 0
+greatest (suc n) f = max (greatest n f) (f n)
+
+-- the round of the next ballot at a version: one above all that the session used, and all that known rows promise there
+abbrev pub next_round : Config → List Tale → List Moment → ℕ → ℕ
+next_round c past ms v = max (rounds_used past ms) (greatest c.n (λ s. round_known v (rows_known ms s))) + 1
+
 -- whether a row promises a ballot above this one at the version
 abbrev pub slot_promises_above : Slot → BallotAt → Bool
 slot_promises_above Gone b = false
@@ -79,14 +88,14 @@ abbrev pub passed_since : ℕ → BallotAt → List Moment → Bool
 passed_since v b [] = false
 passed_since v b (m ∷ ms) = if is_promise v b (of_sent promise_by m) then false else (passes (λ row. promises_above row v b) (heard_in m) || passed_since v b ms)
 
--- a promise of a ballot that its session used for nothing else, at a version that has a ground; any other ballot
--- that the call promised there was passed since
+-- a promise of the next ballot of its session, or of the one that the call promised last, at a version that has a
+-- ground; any other ballot that the call promised there was passed since
 pub record MayPromise (c : Config) (w : Caller) (past : List Tale) (ms : List Moment) (v : ℕ) (b : BallotAt) : Type 0 where
   pub above : 1 ≤ v
   pub classic : IsClassic b
   pub session : b.session ≡ w.name.session
   pub unused : IsUnused past b
-  pub own : (has_promised ms b ≡ false) ⊎ (last_promise ms ≡ Some (v, b))
+  pub round : (b.round ≡ next_round c past ms v) ⊎ (last_promise ms ≡ Some (v, b))
   pub grounded : IsGrounded c ms v
   pub passed : (d : BallotAt) → d ≢ b → has_promised_at ms v d ≡ true → passed_since v d ms ≡ true
 
@@ -133,7 +142,7 @@ IsValueKnown w ms v x = (own_value w.name w.call ≡ Some x) ⊎ IsValueHeard ms
 
 -- a vote in a classic ballot that the call promised: rows of a classic quorum promise it, their votes leave the
 -- value to the call, which knows it, and all its votes of the ballot are for one value; where they leave it to a call
--- that writes nothing, it is the one that the call looked back at before it promised the ballot
+-- that writes nothing, it is the one that the call looked back at just before it first promised the ballot
 pub record MayClassicVote (c : Config) (w : Caller) (ms : List Moment) (v : ℕ) (b : BallotAt) (x : Value) : Type 0 where
   pub above : 1 ≤ v
   pub promised : has_promised_at ms v b ≡ true

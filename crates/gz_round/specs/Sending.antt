@@ -1,5 +1,5 @@
 -- Which requests a call may send, by what it has sent and heard so far.
-use Rattle.std.specs.Prelude.{ℕ, true, false, ◌≡◌, ◌≢◌, ◌≤◌, ◌<◌, ◌+◌, ◌^◌, ◌⊎◌, List, [], ◌∷◌, length, Option, Some, None}
+use Rattle.std.specs.Prelude.{ℕ, Bool, true, false, not, nat_le, ◌≡◌, ◌≤◌, ◌<◌, ◌⊎◌, List, [], ◌∷◌, length, Option, Some, None}
 use Rattle.std.specs.List.{All}
 use Rattle.gz_core.specs.Names.{Name, BallotAt}
 use Rattle.gz_core.specs.Values.{name_of}
@@ -12,18 +12,22 @@ use Rattle.gz_core.specs.declared.requests.RowStep.TheVariants.{FastVote, Promis
 use Rattle.gz_core.specs.declared.requests.Op.{Op}
 use Rattle.gz_core.specs.declared.requests.Op.TheVariants.{ReadRow, WriteRow}
 use Rattle.gz_accept.specs.declared.answers.Step.{Step}
-use Rattle.gz_accept.specs.declared.answers.Step.TheVariants.{Done}
+use Rattle.gz_accept.specs.declared.answers.Step.TheVariants.{Done, Already}
 use Rattle.gz_accept.specs.Steps.{fast_answer, fast_voted, promise_answer, promised, classic_answer, classic_voted, decide_answer, decided, trim_answer, trimmed_to}
 use Rattle.gz_core.specs.Counts.{count_sites}
+use Rattle.gz_pick.specs.Looks.{row_top}
 use Rattle.gz_pick.specs.Evidences.{IsEvident}
 use Rattle.gz_pick.specs.Choices.{pick_of, AreSites}
 use Rattle.gz_pick.specs.declared.heard.Heard.{Heard}
 use Rattle.gz_pick.specs.declared.heard.Pick.TheVariants.{Free}
-use Rattle.gz_round.specs.LookBack.{IsLookedBack}
-use Rattle.gz_round.specs.Rounds.{MayPromise, MayClassicVote, IsPromiseHeard, rounds_used, round_known, promises_known, promises_above, IsValueKnown}
+use Rattle.gz_round.specs.Counting.{IsGoing}
+use Rattle.gz_round.specs.LookBack.{before_promise, IsLookedBack}
+use Rattle.gz_round.specs.Rounds.{MayPromise, MayClassicVote, IsPromiseHeard, has_cast, promises_known, promises_above, IsValueKnown}
 use Rattle.gz_round.specs.History.{Asked, Moment, Sent, Handed, GaveUp, Rested, GaveIn, Caller, Tale}
-use Rattle.gz_round.specs.Sites.{SiteNow, site_now, known}
-use Rattle.gz_round.specs.Shown.{IsShown, IsCurrent, IsNext, IsClear}
+pub use Rattle.gz_round.specs.Sites.{rows_known}
+use Rattle.gz_round.specs.Sites.{SiteNow, site_now}
+use Rattle.gz_round.specs.Sent.{is_notice, last_promise}
+use Rattle.gz_round.specs.Shown.{heard_at, IsShown, IsCurrent, IsNext, IsClear}
 
 -- what a step answers on a row
 abbrev pub answer_of : RowStep → RowAt → Step
@@ -77,20 +81,22 @@ abbrev pub MayAsk : Config → Caller → List Tale → List Moment → SiteNow 
 MayAsk c w past ms now (ReadRow key) = (key ≡ key_of w.call) × MayRead now
 MayAsk c w past ms now (WriteRow key expect step row) = (key ≡ key_of w.call) × MayWrite c w past ms now expect step row
 
+-- whether a reply of a request is awaited: of each one but a decision that the call tells
+abbrev pub is_awaited : Op → Bool
+is_awaited (ReadRow key) = true
+is_awaited (WriteRow key expect step row) = not (is_notice step)
+
 -- a request goes out only to a site that isn't out, and of which no row request is awaited
 pub record MaySend (c : Config) (w : Caller) (past : List Tale) (ms : List Moment) (a : Asked) : Type 0 where
   pub site : a.site < c.n
   pub kept : (site_now ms a.site).out ≡ false
   pub idle : (site_now ms a.site).awaits ≡ None
   pub asks : MayAsk c w past ms (site_now ms a.site) a.op
+  pub awaited : a.awaited ≡ is_awaited a.op
 
 -- row requests rest once a value is shown
 abbrev pub MayRest : Config → List Moment → Type 0
 MayRest c ms = (v : ℕ) × (x : Name) × IsShown c ms v x
-
--- the last row of each site that isn't out
-abbrev pub rows_known : List Moment → ℕ → Option RowAt
-rows_known ms s = known (site_now ms s)
 
 -- no value is known to be chosen at the version
 abbrev pub NoEvidence : Config → List Moment → ℕ → Type 0
@@ -100,44 +106,63 @@ NoEvidence c ms v = (x : Name) → IsEvident c.n c.qc c.qf (rows_known ms) v x �
 abbrev pub NoneAbove : Config → List Moment → ℕ → BallotAt → Type 0
 NoneAbove c ms v b = (s : ℕ) (row : RowAt) → s < c.n → rows_known ms s ≡ Some row → promises_above row v b ≡ false
 
--- a step in a classic ballot leads no further: nothing is awaited, every site was heard or is out, no value is
--- known to be chosen, and no row takes the step, though none promises a ballot above
-pub record IsStuck (c : Config) (ms : List Moment) (v : ℕ) (b : BallotAt) (step : RowStep) : Type 0 where
-  pub idle : (s : ℕ) → s < c.n → (site_now ms s).awaits ≡ None
+-- nothing is awaited, every site was heard or is out, and no value is known to be chosen at the version
+pub record IsIdle (c : Config) (ms : List Moment) (v : ℕ) : Type 0 where
+  pub awaits : (s : ℕ) → s < c.n → (site_now ms s).awaits ≡ None
   pub heard : (s : ℕ) → s < c.n → (site_now ms s).out ≡ false → (row : RowAt) × (rows_known ms s ≡ Some row)
   pub undecided : NoEvidence c ms v
-  pub untaken : (s : ℕ) (row : RowAt) → s < c.n → rows_known ms s ≡ Some row → answer_of step row ≢ Done
-  pub none_above : NoneAbove c ms v b
+
+-- a step in the ballot that the call promised last leads no further, though it could go on: each known row has taken it
+pub record IsStuck (c : Config) (ms : List Moment) (v : ℕ) (b : BallotAt) (step : RowStep) : Type 0 where
+  pub going : IsGoing c ms
+  pub idle : IsIdle c ms v
+  pub last : last_promise ms ≡ Some (v, b)
+  pub taken : (s : ℕ) (row : RowAt) → s < c.n → rows_known ms s ≡ Some row → answer_of step row ≡ Already
 
 -- fewer rows than a classic quorum that are known promise the ballot, without a vote of it
 abbrev pub IsShort : Config → List Moment → ℕ → BallotAt → Type 0
 IsShort c ms v b = count_sites c.n (λ s. promises_known v b (rows_known ms s)) < c.qc
 
--- the rounds that a run reaches are used up
-abbrev pub AreRoundsUsedUp : Config → List Tale → List Moment → ℕ → Type 0
-AreRoundsUsedUp c past ms v = (2 ^ 31 ≤ rounds_used past ms + 1) ⊎ ((s : ℕ) × (s < c.n) × (2 ^ 31 ≤ round_known v (rows_known ms s) + 1))
+-- the call voted for no value in the ballot
+abbrev pub IsUncast : List Moment → ℕ → BallotAt → Type 0
+IsUncast ms v b = (y : Name) → has_cast ms v b y ≡ false
+
+-- work at a version began at a vote or a decision there, or above: such a row was heard before the ballot was promised
+abbrev pub IsBegun : Config → List Moment → ℕ → BallotAt → Type 0
+IsBegun c ms v b = 1 ≤ heard_at c (λ r. nat_le v (row_top r)) (before_promise v b ms)
 
 -- a call that writes nothing has no value to vote for: the promises of a classic quorum leave it to the call, which
--- looked back at no vote
-pub record IsWithoutValue (c : Config) (w : Caller) (past : List Tale) (ms : List Moment) (v : ℕ) (b : BallotAt) : Type 0 where
+-- looked back at no vote, though the version had begun
+pub record IsWithoutValue (c : Config) (w : Caller) (ms : List Moment) (v : ℕ) (b : BallotAt) : Type 0 where
+  pub going : IsGoing c ms
   pub reads : own_value w.name w.call ≡ None
-  pub promise : MayPromise c w past ms v b
+  pub last : last_promise ms ≡ Some (v, b)
+  pub uncast : IsUncast ms v b
   pub heard : List Heard
   pub sites : AreSites c.n heard
   pub enough : c.qc ≤ length heard
   pub rows : All (IsPromiseHeard ms v b) heard
   pub free : pick_of c.n c.qf heard ≡ Free
+  pub begun : IsBegun c ms v b
   pub back : IsLookedBack c ms v b None
   pub undecided : NoEvidence c ms v
 
--- a call gives in where its promise or its classic vote leads no further, short of a quorum of promises or of a
--- value that is chosen; where no round is left; or where it has no value to vote for. Rows that stay as written exclude
--- all four.
+-- a known row has the version collected, at which the call may promise the ballot, or promised it last. No row of this
+-- store has: it collects no version yet.
+pub record IsCollected (c : Config) (w : Caller) (past : List Tale) (ms : List Moment) (v : ℕ) (b : BallotAt) : Type 0 where
+  pub going : IsGoing c ms
+  pub idle : IsIdle c ms v
+  pub promise : MayPromise c w past ms v b
+  pub gone : (s : ℕ) × (row : RowAt) × (s < c.n) × (rows_known ms s ≡ Some row) × (v ≤ row.floor)
+
+-- a call gives in where its promise leads no further, short of a quorum of promises, and nothing was cast in the
+-- ballot; where its vote in the ballot leads no further, short of a value that is chosen; where it has no value to
+-- vote for; or where its version was collected. Rows that stay as written exclude all four.
 pub data MayGiveIn (c : Config) (w : Caller) (past : List Tale) (ms : List Moment) : Type 0 where
-  NoPromise : (v : ℕ) (b : BallotAt) → MayPromise c w past ms v b → IsStuck c ms v b (Promise v b) → IsShort c ms v b → MayGiveIn c w past ms
-  NoVote : (v : ℕ) (b : BallotAt) (x : Value) → MayClassicVote c w ms v b x → IsStuck c ms v b (ClassicVote v b x) → MayGiveIn c w past ms
-  NoRound : (v : ℕ) → NoEvidence c ms v → AreRoundsUsedUp c past ms v → MayGiveIn c w past ms
-  NoValue : (v : ℕ) (b : BallotAt) → IsWithoutValue c w past ms v b → MayGiveIn c w past ms
+  NoPromise : (v : ℕ) (b : BallotAt) → IsStuck c ms v b (Promise v b) → IsUncast ms v b → IsShort c ms v b → MayGiveIn c w past ms
+  NoVote : (v : ℕ) (b : BallotAt) (x : Value) → IsStuck c ms v b (ClassicVote v b x) → MayClassicVote c w ms v b x → MayGiveIn c w past ms
+  NoValue : (v : ℕ) (b : BallotAt) → IsWithoutValue c w ms v b → MayGiveIn c w past ms
+  Collected : (v : ℕ) (b : BallotAt) → IsCollected c w past ms v b → MayGiveIn c w past ms
 
 -- a reply or a give-up is of a request that is awaited
 abbrev pub IsAwaitedOf : List Moment → Asked → Type 0

@@ -11,6 +11,14 @@ use Rattle.gz_core.specs.declared.requests.Op.TheVariants.{ReadRow, WriteRow}
 use Rattle.gz_round.specs.History.{Moment, Sent, Handed, GaveUp, Rested, GaveIn}
 use Rattle.gz_round.specs.Sites.{is_changed}
 
+-- a step that nobody awaits: the others are told what is chosen
+abbrev pub is_notice : RowStep → Bool
+is_notice (FastVote v x) = false
+is_notice (Promise v b) = false
+is_notice (ClassicVote v b x) = false
+is_notice (Decide v x) = true
+is_notice (Trim to x) = false
+
 -- the version at which a step votes for the value of this name
 abbrev pub vote_by : Name → RowStep → Option ℕ
 vote_by x (FastVote v value) = if same_name (name_of value) x then Some v else None

@@ -107,6 +107,10 @@ row_seen (Some seen) = Some seen.row
 abbrev pub known : SiteNow → Option RowAt
 known now = if now.out then None else row_seen now.row
 
+-- the row that the call goes by of each site
+abbrev pub rows_known : List Moment → ℕ → Option RowAt
+rows_known ms s = known (site_now ms s)
+
 -- the row that is heard at a moment
 abbrev pub heard_in : Moment → Option Seen
 heard_in (Sent a) = None

@@ -1,6 +1,6 @@
 -- What a running call keeps stands for what has happened to it.
-use Rattle.std.specs.Prelude.{ℕ, true, false, if◌then◌else◌, ◌≡◌, ◌≤◌, ◌<◌, ◌+◌, ◌⊎◌, List, length, slice_get, Option, Some, None, is_some, option_map}
-use Rattle.gz_core.specs.Names.{Name, BallotAt}
+use Rattle.std.specs.Prelude.{ℕ, true, false, if◌then◌else◌, ◌≡◌, ◌≢◌, ◌≤◌, ◌<◌, ◌+◌, ◌⊎◌, List, length, slice_get, Option, Some, None, is_some, option_map}
+use Rattle.gz_core.specs.Names.{BallotAt, IsClassic}
 use Rattle.gz_core.specs.Rows.{RowAt}
 use Rattle.gz_core.specs.Calls.{key_of, own_value}
 use Rattle.gz_core.specs.declared.values.Value.{Value}
@@ -14,11 +14,11 @@ use Rattle.gz_round.specs.declared.run.Stage.TheVariants.{Look, Fast, Prepare, A
 use Rattle.gz_round.specs.History.{Asked, Moment, Caller, Tale}
 use Rattle.gz_round.specs.declared.hearing.Seen.{Seen}
 use Rattle.gz_round.specs.Sites.{SiteNow, site_now, known, row_seen, written_by}
-use Rattle.gz_round.specs.Sent.{met, voted, phase_of, has_promised_at}
-use Rattle.gz_round.specs.Shown.{IsCurrent, IsClear}
+use Rattle.gz_round.specs.Sent.{met, voted, phase_of, has_promised_at, last_promise}
+use Rattle.gz_round.specs.Shown.{IsCurrent, IsClear, IsGrounded}
 use Rattle.gz_round.specs.LookBack.{IsLookedBack}
-use Rattle.gz_round.specs.Rounds.{MayPromise, MayClassicVote, rounds_used, has_cast, promises_above, passed_since}
-use Rattle.gz_round.specs.Sending.{AreAllowed, MayFastVote, MayRead, rows_known}
+use Rattle.gz_round.specs.Rounds.{MayClassicVote, IsUnused, rounds_used, promises_above, passed_since}
+use Rattle.gz_round.specs.Sending.{AreAllowed, MayFastVote, MayRead, IsUncast, IsBegun, rows_known}
 use Rattle.gz_round.specs.Counting.{IsGoing}
 
 abbrev pub etag_seen : Option Seen → Option ℕ
@@ -80,23 +80,34 @@ pub record MayPass (c : Config) (w : Caller) (ms : List Moment) (v : ℕ) : Type
   pub clear : IsClear c w.name ms v
   pub later : IsUnpromised ms (v + 1)
 
--- it works there by a classic ballot
+-- it works there by a classic ballot of its session, which was used for nothing else; any other ballot that it
+-- promised there was passed since
 pub record IsWorking (c : Config) (w : Caller) (past : List Tale) (ms : List Moment) (v : ℕ) (b : BallotAt) : Type 0 where
-  pub promise : MayPromise c w past ms v b
   pub pass : MayPass c w ms v
+  pub classic : IsClassic b
+  pub session : b.session ≡ w.name.session
+  pub unused : IsUnused past b
+  pub grounded : IsGrounded c ms v
+  pub passed : (d : BallotAt) → d ≢ b → has_promised_at ms v d ≡ true → passed_since v d ms ≡ true
+  pub begun : own_value w.name w.call ≡ None → IsBegun c ms v b
 
--- it has not voted in the ballot, which it has promised, or else no session has used its round
+-- it has not voted in the ballot, which it promised last, or else no session has used its round
 pub record IsPreparing (c : Config) (w : Caller) (past : List Tale) (ms : List Moment) (v : ℕ) (b : BallotAt) : Type 0 where
   pub works : IsWorking c w past ms v b
-  pub uncast : (y : Name) → has_cast ms v b y ≡ false
-  pub used : (has_promised_at ms v b ≡ true) ⊎ (rounds_used past ms < b.round)
+  pub uncast : IsUncast ms v b
+  pub used : (last_promise ms ≡ Some (v, b)) ⊎ (rounds_used past ms < b.round)
+
+-- it may vote in the ballot, which it promised last
+pub record IsVoting (c : Config) (w : Caller) (past : List Tale) (ms : List Moment) (v : ℕ) (b : BallotAt) : Type 0 where
+  pub works : IsWorking c w past ms v b
+  pub last : last_promise ms ≡ Some (v, b)
 
 -- the phase has what its step wants, and what a call that writes nothing looked back at
 abbrev pub StageStands : Config → Caller → List Tale → Stage → List Moment → Type 0
 StageStands c w past Look ms = (voted w.name ms ≡ false) × (phase_of ms ≡ NotBegun)
 StageStands c w past (Fast v) ms = MayFastVote c w ms v × ((x : Value) × (own_value w.name w.call ≡ Some x)) × IsUnpromised ms v
-StageStands c w past (Prepare v b found) ms = IsPreparing c w past ms v b × ArePassed c ms v b × (own_value w.name w.call ≡ None → IsLookedBack c ms v b found)
-StageStands c w past (Accept v b x) ms = MayClassicVote c w ms v b x × IsWorking c w past ms v b × ArePassed c ms v b
+StageStands c w past (Prepare v b found) ms = IsPreparing c w past ms v b × ArePassed c ms v b × (own_value w.name w.call ≡ None → last_promise ms ≡ Some (v, b) → IsLookedBack c ms v b found)
+StageStands c w past (Accept v b x) ms = MayClassicVote c w ms v b x × IsVoting c w past ms v b × ArePassed c ms v b
 
 -- each site that may be read is being read, or is out
 abbrev pub AreAskedAgain : Config → List Moment → Type 0

@@ -43,6 +43,7 @@ impl Run {
     pub fn act(&mut self, alloc: Global, config: &Config, first: u32) -> Result<Turn, AllocError>
         requires config { IsConfig config.now }
         requires first { first < 2 ^ 31 }
+        requires round { self.old.round < 2 ^ 31 + first }
         requires ready { IsReady config.now self.old }
         ensures { IfOk result (λ turn. (w : Caller) (past : List Tale) (ms : List Moment) → Ready config.now w past self.old ms
             → HasTurned config.now w past self.new (sent_from first turn.send ms) turn.answer) }
@@ -103,6 +104,7 @@ impl Run {
     fn follow(&mut self, alloc: Global, config: &Config, first: u32) -> Result<Turn, AllocError>
         requires config { IsConfig config.now }
         requires first { first < 2 ^ 31 }
+        requires round { self.old.round < 2 ^ 31 + first }
         requires follows { CanFollow config.now self.old }
         ensures { IfOk result (λ turn. (w : Caller) (past : List Tale) (ms : List Moment) → Ready config.now w past self.old ms → IsGoing config.now ms
             → HasTurned config.now w past self.new (sent_from first turn.send ms) turn.answer) }
@@ -126,6 +128,7 @@ impl Run {
     fn go_on(&mut self, alloc: Global, config: &Config, first: u32) -> Result<Turn, AllocError>
         requires config { IsConfig config.now }
         requires first { first < 2 ^ 31 }
+        requires round { self.old.round < 2 ^ 31 + first }
         requires acts { CanAct config.now self.old }
         ensures { IfOk result (λ turn. (w : Caller) (past : List Tale) (ms : List Moment) → Acts config.now w past self.old ms
             → HasTurned config.now w past self.new (sent_from first turn.send ms) turn.answer) }
@@ -155,6 +158,7 @@ impl Run {
     fn carry_on(&mut self, alloc: Global, config: &Config, first: u32) -> Result<Turn, AllocError>
         requires config { IsConfig config.now }
         requires first { first < 2 ^ 31 }
+        requires round { self.old.round < 2 ^ 31 + first }
         requires carries { CanCarry config.now self.old }
         ensures { IfOk result (λ turn. (w : Caller) (past : List Tale) (ms : List Moment) → Carries config.now w past self.old ms
             → HasTurned config.now w past self.new (sent_from first turn.send ms) turn.answer) }

@@ -1,9 +1,9 @@
 //! How a call goes on by a classic ballot, where a phase ended without its goal. (Lamport 2006, "Fast Paxos", section 2.2.)
-ghost use Rattle.std.specs.Prelude.{◌≡◌, ◌≤◌, ◌<◌, ◌+◌, ◌^◌, List, [], length, Some, None, IfOk};
+ghost use Rattle.std.specs.Prelude.{◌≡◌, ◌≤◌, ◌<◌, ◌+◌, ◌^◌, List, [], length, None, IfOk};
 ghost use Rattle.gz_core.specs.Configurations.{IsConfig};
 ghost use Rattle.gz_round.specs.History.{Moment, Caller, Tale, sent_from};
 ghost use Rattle.gz_round.specs.Following.{HasTurned};
-ghost use Rattle.gz_round.specs.Acting.{Steps, CanStep, RunsOut, CanRunOut, Prepares, CanPrepare, IsNextBallot, given_in_of, ended_of, prepared_of, is_overtaken};
+ghost use Rattle.gz_round.specs.Acting.{Steps, CanStep, RunsOut, CanRunOut, Prepares, CanPrepare, IsBallotAbove, given_in_of, ended_of, prepared_of, is_overtaken};
 
 use crate::run::{Run, Stage};
 use gz_core::{Answer, Ballot, Config, Items, Out, RowStep, Turn, UnsureWhy, Version};
@@ -20,6 +20,7 @@ impl Run {
     ) -> Result<Turn, AllocError>
         requires config { IsConfig config.now }
         requires first { first < 2 ^ 31 }
+        requires round { self.old.round < 2 ^ 31 + first }
         requires steps { CanStep config.now self.old }
         ensures { IfOk result (λ turn. (w : Caller) (past : List Tale) (ms : List Moment) → Steps config.now w past self.old ms
             → HasTurned config.now w past self.new (sent_from first turn.send ms) turn.answer) }
@@ -37,6 +38,7 @@ impl Run {
     fn run_out(&mut self, config: &Config, first: u32, send: Items<Out>) -> Result<Turn, AllocError>
         requires config { IsConfig config.now }
         requires first { first < 2 ^ 31 }
+        requires round { self.old.round < 2 ^ 31 + first }
         requires few { length send ≤ 16 }
         requires runs_out { CanRunOut config.now self.old first send }
         ensures { IfOk result (λ turn. (w : Caller) (past : List Tale) (ms : List Moment) → RunsOut config.now w past self.old (sent_from first send ms)
@@ -80,7 +82,8 @@ impl Run {
         }
     }
 
-    /// Prepares a ballot at a version, after the requests that the event sends already.
+    /// Prepares a new ballot at a version, after the requests that the event sends already: each site is asked to
+    /// promise it.
     pub fn prepare(
         &mut self,
         config: &Config,
@@ -90,18 +93,14 @@ impl Run {
     ) -> Result<Turn, AllocError>
         requires config { IsConfig config.now }
         requires first { first < 2 ^ 31 }
+        requires round { self.old.round < 2 ^ 31 + first }
         requires few { length send ≤ 16 }
         requires prepares { CanPrepare config.now self.old first send version }
         ensures { IfOk result (λ turn. (w : Caller) (past : List Tale) (ms : List Moment) → Prepares config.now w past self.old (sent_from first send ms) version
             → HasTurned config.now w past self.new (sent_from first turn.send ms) turn.answer) }
     {
-        match self.next_ballot(version) {
-            None => Ok(Turn {
-                send,
-                answer: Some(self.given_in()),
-            }),
-            Some(ballot) => self.promise(config, first, version, ballot, send),
-        }
+        let ballot = self.next_ballot(version);
+        self.promise(config, first, version, ballot, send)
     }
 
     /// Asks each site to promise a new ballot.
@@ -117,7 +116,7 @@ impl Run {
         requires first { first < 2 ^ 31 }
         requires few { length send ≤ 16 }
         requires prepares { CanPrepare config.now self.old first send version }
-        requires ballot { IsNextBallot self.old version (Some ballot) }
+        requires ballot { IsBallotAbove self.old version ballot }
         ensures { IfOk result (λ turn. (w : Caller) (past : List Tale) (ms : List Moment) → Prepares config.now w past self.old (sent_from first send ms) version
             → HasTurned config.now w past self.new (sent_from first turn.send ms) turn.answer) }
     {

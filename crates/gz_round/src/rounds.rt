@@ -4,13 +4,10 @@ ghost use Rattle.std.specs.List.{list_any, count_by};
 ghost use Rattle.gz_core.specs.Rows.{column_in};
 ghost use Rattle.gz_core.specs.Slots.{slots, slot_of};
 ghost use Rattle.gz_round.specs.Rounds.{round_known, above_known, promises_known, slot_round, promises_above, slot_promises_above, slot_promises};
-ghost use Rattle.gz_round.specs.Acting.{round_in, is_overtaken, IsNextBallot};
+ghost use Rattle.gz_round.specs.Acting.{round_in, is_overtaken, IsBallotAbove};
 
 use crate::run::{Run, Stage};
 use gz_core::{Ballot, Column, Row, Version, Vote};
-
-/// The rounds that a run reaches lie below this one.
-const ROUNDS: u32 = 1 << 31;
 
 /// The greater of two rounds.
 pub fn later_of(a: u32, b: u32) -> u32
@@ -21,18 +18,17 @@ pub fn later_of(a: u32, b: u32) -> u32
 
 impl Run {
     /// The ballot to prepare at a version: one round above those that the session used, and those that known rows
-    /// promise there. None where no round is left.
-    pub fn next_ballot(&self, version: Version) -> Option<Ballot>
-        ensures { IsNextBallot self.now version result }
+    /// promise there.
+    pub fn next_ballot(&self, version: Version) -> Ballot
+        requires used { self.now.round + 1 < 2 ^ 32 }
+        requires known { round_in version self.now.rows < 2 ^ 31 }
+        ensures { IsBallotAbove self.now version result }
     {
         let top = later_of(self.round, top_round(self.rows.as_slice(), version));
-        if top >= ROUNDS - 1 {
-            return None;
-        }
-        Some(Ballot {
+        Ballot {
             round: top + 1,
             session: self.name.session_number(),
-        })
+        }
     }
 
     /// Whether the ballot of the phase leads no further: a known row promises one above, or the call never

@@ -234,7 +234,7 @@ begun_turn told old new tales session call effect fits small began =
     let s = member_stands old tales session m fits (place_numbered old.clients.items session m b.opened b.member) in
     let after : Member = record { client = client; crashed = m.crashed; last = Some (length old.calls.items) } in
     let more : List Tale = begun session call first turn ts ∷ ts in
-    let holds : Holds client (first + length turn.send) more = subst (λ k. Holds client (first + length turn.send) (begun k call first turn ts ∷ ts)) s.session_is (b.holds s.next ts s.holds) in
+    let holds : Holds client (first + length turn.send) more = subst (λ k. Holds client (first + length turn.send) (begun k call first turn ts ∷ ts)) s.session_is (b.holds s.next ts s.holds s.below) in
     let config : client.config ≡ old.cfg = b.same.config_is ∙ s.config_is in
     let number : client.session ≡ session = b.same.session_is ∙ s.session_is in
     let told_by : AreTold old.cfg session more = subst (λ k. AreTold old.cfg k more) number (subst (λ k. AreTold k client.session more) config holds.told) in

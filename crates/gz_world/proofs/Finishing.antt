@@ -4,9 +4,9 @@ use Rattle.std.specs.Prelude.{slice_get, slice_set}
 use Rattle.gz_core.specs.Names.{Name}
 use Rattle.gz_core.specs.declared.calls.Call.{Call}
 use Rattle.gz_core.specs.declared.requests.Turn.{Turn}
-use Rattle.gz_round.specs.History.{Asked, Moment, Tale, begun}
+use Rattle.gz_round.specs.History.{Asked, Moment, Tale}
 use Rattle.gz_client.specs.declared.client.Client.{Client}
-use Rattle.gz_client.specs.Tales.{Holds, Extends, IsSameClient}
+use Rattle.gz_client.specs.Tales.{Begins, Extends, IsSameClient}
 use Rattle.gz_history.specs.declared.record.CallRec.{CallRec}
 use Rattle.gz_world.specs.States.{RequestAt, request_of, numbered, sent_requests, end_at}
 use Rattle.gz_world.specs.Weights.{capped, call_bytes, outs_weight}
@@ -63,14 +63,14 @@ told_parts old room mid new n r marked moment m last c client turn first tick ef
 pub began_parts : {S : Type 0} (old room new : World S) (session : ℕ) (call kept : Call) (m : Member) (client : Client) (turn : Turn) (name : Name) (first tick : ℕ) (effect : Effect)
     → IsSameWorld old room → first ≡ length (map request_of old.net.items) + 1 → tick ≡ length old.journal.items + 1 → 1 ≤ session → kept ≡ call
     → slice_get old.clients.items (session - 1) ≡ Some m
-    → ((next : ℕ) (ts : List Tale) → Holds m.client next ts → Holds client (first + length turn.send) (begun m.client.session call first turn ts ∷ ts)) → IsSameClient m.client client
+    → Begins m.client client first call turn → IsSameClient m.client client
     → ((tales : ℕ → List Tale) → Fits tales old → name ≡ record { session = session; seq = length (tales session) + 1 })
     → Started room new session name tick kept m client turn → effect ≡ effect_of first session turn
     → BeganBy old new session call m client turn name effect
 began_parts old room new session call kept m client turn name first tick effect same first_is tick_is opened kept_is member holds same_client name_is started effect_is = record {
   opened = opened;
   member = member;
-  holds = subst (λ k. (next : ℕ) (ts : List Tale) → Holds m.client next ts → Holds client (k + length turn.send) (begun m.client.session call k turn ts ∷ ts)) first_is holds;
+  holds = subst (λ k. Begins m.client client k call turn) first_is holds;
   same = same_client;
   name_is = name_is;
   clients = started.clients ∙ ap (λ xs. slice_set xs (session - 1) (let k : Member = record { client = client; crashed = m.crashed; last = Some (length room.calls.items) } in k)) same.clients

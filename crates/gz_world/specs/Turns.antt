@@ -4,9 +4,9 @@ use Rattle.gz_core.specs.Names.{Name}
 use Rattle.gz_core.specs.declared.calls.Call.{Call}
 use Rattle.gz_core.specs.declared.requests.Reply.{Reply}
 use Rattle.gz_core.specs.declared.requests.Turn.{Turn}
-use Rattle.gz_round.specs.History.{Asked, Moment, Handed, GaveUp, Tale, begun}
+use Rattle.gz_round.specs.History.{Asked, Moment, Handed, GaveUp, Tale}
 use Rattle.gz_client.specs.declared.client.Client.{Client}
-use Rattle.gz_client.specs.Tales.{Holds, IsSameClient, Extends, CanBeTold}
+use Rattle.gz_client.specs.Tales.{IsSameClient, Begins, Extends, CanBeTold}
 use Rattle.gz_history.specs.declared.record.CallRec.{CallRec}
 use Rattle.gz_world.specs.States.{RequestAt, request_of, numbered, with_handed, with_given_up, sent_requests, end_at}
 use Rattle.gz_world.specs.Steps.{sent_pair, answered}
@@ -65,7 +65,7 @@ effect_of first session turn = record { outcome = outcomes.Done; session = Some 
 pub record BeganBy {S : Type 0} (old new : World S) (session : ℕ) (call : Call) (m : Member) (client : Client) (turn : Turn) (name : Name) (effect : Effect) : Type 0 where
   pub opened : 1 ≤ session
   pub member : slice_get old.clients.items (session - 1) ≡ Some m
-  pub holds : (next : ℕ) (ts : List Tale) → Holds m.client next ts → Holds client (length (map request_of old.net.items) + 1 + length turn.send) (begun m.client.session call (length (map request_of old.net.items) + 1) turn ts ∷ ts)
+  pub holds : Begins m.client client (length (map request_of old.net.items) + 1) call turn
   pub same : IsSameClient m.client client
   pub name_is : (tales : ℕ → List Tale) → Fits tales old → name ≡ record { session = session; seq = length (tales session) + 1 }
   pub clients : new.clients.items ≡ slice_set old.clients.items (session - 1) (record { client = client; crashed = m.crashed; last = Some (length old.calls.items) })

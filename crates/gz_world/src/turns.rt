@@ -3,10 +3,10 @@ ghost use Rattle.std.specs.Prelude.{min, ◌≡◌, ℕ, ◌+◌, ◌-◌, ◌^�
 ghost use Rattle.std.specs.Option.{ForSome, option_map_or};
 ghost use Rattle.gz_core.specs.declared.requests.Turn.{Turn};
 ghost use Rattle.gz_core.specs.declared.requests.Reply.{Reply};
-ghost use Rattle.gz_round.specs.History.{Tale, Asked, Moment, Handed, GaveUp, begun};
+ghost use Rattle.gz_round.specs.History.{Tale, Asked, Moment, Handed, GaveUp};
 ghost use Rattle.gz_client.specs.declared.client.Client.{Client};
 ghost use Rattle.gz_round.specs.Starting.{IsWithin};
-ghost use Rattle.gz_client.specs.Tales.{Holds, CanBegin, CanBeTold, IsSameClient, Extends};
+ghost use Rattle.gz_client.specs.Tales.{CanBegin, CanBeTold, IsSameClient, Begins, Extends};
 ghost use Rattle.gz_history.specs.declared.record.CallRec.{CallRec};
 ghost use Rattle.gz_world.specs.States.{RequestAt, numbered, request_of, with_handed, with_given_up, sent_requests, end_at};
 ghost use Rattle.gz_world.specs.Steps.{sent_pair, answered};
@@ -111,8 +111,7 @@ fn begun(
     requires begin { CanBegin client.now }
     requires within { IsWithin call.now }
     requires first { first < 2 ^ 31 }
-    ensures holds { IfOk result (λ moved. (next : ℕ) (ts : List Tale) → Holds client.now next ts
-        → Holds moved.client (first + length moved.turn.send) (begun client.now.session call.now first moved.turn ts ∷ ts)) }
+    ensures holds { IfOk result (λ moved. Begins client.now moved.client first call.now moved.turn) }
     ensures same { IfOk result (λ moved. IsSameClient client.now moved.client) }
     ensures told { IfOk result (λ moved. moved.effect ≡ effect_of first session moved.turn) }
 {

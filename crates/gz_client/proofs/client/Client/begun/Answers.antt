@@ -12,8 +12,8 @@ open-requires-clause-opens c =
     (w, tale_of w c.args.self.now.round ∷ [], c.in_ok-run.ensures.ready w (tale_of w c.args.self.now.round ∷ []) refl refl (tale_round w c.args.self.now.round))
 
 pub returns-clause-ok : goal.returns-clause-ok
-returns-clause-ok c = λ next ts h.
+returns-clause-ok c = λ next ts h l.
     let w : Caller = record { name = record { session = c.args.self.now.session; seq = length ts + 1 }; call = c.args.call } in
     subst (λ (q : Client). Holds q (c.args.first + length c.in_ok-send.send) (begun c.args.self.now.session c.args.call c.args.first (record { send = c.in_ok-send.send; answer = None }) ts ∷ ts)) (sym c.with_run.ensures)
-    (begun_holds c.args.self.now c.args.call c.args.first c.in_ok-send.send next ts c.open.new.self h c.requires.begin.idle
+    (begun_holds c.args.self.now c.args.call c.args.first c.in_ok-send.send next ts c.open.new.self h l c.requires.begin.idle
     (c.in_ok-send.ensures w ts (c.in_ok-run.ensures.ready w ts (ap (λ n. let k : Name = record { session = c.args.self.now.session; seq = n + 1 } in k) (sym h.calls_are)) refl (sym h.round_is))))

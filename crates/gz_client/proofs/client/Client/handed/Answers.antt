@@ -1,9 +1,9 @@
-use Rattle.std.proofs.Common.{◌∷◌}
+use Rattle.std.proofs.Common.{◌∷◌, refl}
 use Rattle.std.proofs.lemmas.Result.{IfOk-weaker}
 use Rattle.gz_round.specs.History.{Handed}
 use Rattle.gz_round.proofs.Numbers.{numbered_handed}
 use Rattle.gz_client.specs.Tales.{CanBeTold}
-use Rattle.gz_client.proofs.Holding.{run_held, about, acted_extends, told_runs, told_site, can_hear}
+use Rattle.gz_client.proofs.Holding.{run_held, about, acted_extends, told_runs, told_site, told_round, can_hear}
 use Rattle.gz_client.proofs.client.Client.handed.Goals as goal
 
 pub copy_run-requires : goal.copy_run-requires
@@ -37,8 +37,14 @@ returns-clause-ok c =
     IfOk-weaker c.act.result _ _ (λ after acted. λ next t ts a h awaited l.
     let k = run_held c.args.self.now next t ts c.in_ok-run.run' c.in_ok-run.ensures h in
     let i = about c.args.self.now c.in_ok-run.run' c.args.n c.args.first c.site_of-at.result next t ts a c.in_ok-run.ensures c.site_of-at.ensures h awaited in
-    acted_extends c.args.self.now after.0 c.in_ok-run.run' c.note_reply.new.self c.args.first after.1 (Handed a c.args.answer.now) next t ts c.in_ok-run.ensures acted h
+    acted_extends c.args.self.now after.0 c.in_ok-run.run' c.note_reply.new.self c.args.first after.1 (Handed a c.args.answer.now) next t ts c.in_ok-run.ensures acted h l refl
     (numbered_handed c.args.self.now.config t.moments a c.args.answer.now next c.args.first l k.numbered) (c.in_ok-note_reply.ensures.ready c.args.self.now.config t.caller ts t.moments a i.inside i.awaits i.ready)) c.act.ensures.ok
 
 pub returns-clause-same : goal.returns-clause-same
 returns-clause-same c = c.act.ensures.same
+
+pub act-requires-clause-round : goal.act-requires-clause-round
+act-requires-clause-round c =
+    let k : CanBeTold c.args.self.now c.args.n c.args.first = c.requires.told in
+    let i = about c.args.self.now c.in_ok-run.run' c.args.n c.args.first c.site_of-at.result k.0 k.1 k.2 k.3 c.in_ok-run.ensures c.site_of-at.ensures k.4 k.5 in
+    told_round c.args.self.now c.note_reply.new.self c.args.n c.args.first (Handed k.3 c.args.answer.now) k (c.in_ok-note_reply.ensures.ready c.args.self.now.config k.1.caller k.2 k.1.moments k.3 i.inside i.awaits i.ready) refl

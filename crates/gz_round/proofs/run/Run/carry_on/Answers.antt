@@ -44,3 +44,9 @@ make_step-requires-clause-steps c =
 
 pub returns : goal.returns
 returns c = IfOk-weaker c.make_step.result _ _ (λ turn h. λ w past ms p. h w past ms (record { carries = p; ahead = sym c.is_overtaken.ensures ∙ c.if-is_overtaken.false })) c.make_step.ensures
+
+pub prepare-requires-clause-round : goal.prepare-requires-clause-round
+prepare-requires-clause-round c = c.requires.round
+
+pub make_step-requires-clause-round : goal.make_step-requires-clause-round
+make_step-requires-clause-round c = c.requires.round

@@ -104,3 +104,9 @@ pub returns-in-Absent : goal.returns-in-Absent
 returns-in-Absent c =
     IfOk-weaker c.close-in-Absent.result _ _ (λ turn p. λ w past ms r going.
     ([], inl refl, p w past ms r.stands ((going, c.in-Absent.ensures w past ms r), tt))) c.close-in-Absent.ensures
+
+pub go_on-requires-clause-round : goal.go_on-requires-clause-round
+go_on-requires-clause-round c = c.requires.round
+
+pub go_on-requires-in-Vote-clause-round : goal.go_on-requires-in-Vote-clause-round
+go_on-requires-in-Vote-clause-round c = c.requires.round

@@ -50,3 +50,9 @@ pub returns-in-Accept : goal.returns-in-Accept
 returns-in-Accept c =
     IfOk-weaker c.carry_on-in-Accept.result _ _ (λ turn p. λ w past ms a.
     p w past ms (subst (ChoiceMeans c.args.config.now w past c.args.self.now ms) c.in-Accept.is (c.in_ok-choose.ensures w past ms a))) c.carry_on-in-Accept.ensures
+
+pub carry_on-requires-clause-round : goal.carry_on-requires-clause-round
+carry_on-requires-clause-round c = c.requires.round
+
+pub carry_on-requires-in-Accept-clause-round : goal.carry_on-requires-in-Accept-clause-round
+carry_on-requires-in-Accept-clause-round c = c.requires.round

@@ -2,7 +2,7 @@ use Rattle.std.proofs.Common.{arith}
 use Rattle.gz_round.proofs.Turns.{steps_step}
 use Rattle.std.proofs.lemmas.Result.{IfOk-weaker}
 use Rattle.gz_round.specs.Acting.{CanStep}
-use Rattle.gz_round.proofs.Turns.{steps_ask, stepped_from, stepped_runs, stepped_out}
+use Rattle.gz_round.proofs.Turns.{steps_ask, stepped_from, stepped_runs, stepped_out, stepped_round}
 use Rattle.gz_round.proofs.run.Run.make_step.Goals as goal
 
 pub returns-then-waits : goal.returns-then-waits
@@ -54,3 +54,9 @@ run_out-requires-clause-few c =
     let few = c.in_ok-send.ensures.few in
     let sites = c.requires.config.sites in
     omega arith
+
+pub run_out-requires-clause-round : goal.run_out-requires-clause-round
+run_out-requires-clause-round c =
+    let k : CanStep c.args.config.now c.args.self.now = c.requires.steps in
+    let round = stepped_round c.args.self.now c.first_pass.new.self c.in_ok-step.step c.in_ok-step.ensures k.3.ahead c.in_ok-send.ensures.left in
+    omega (arith, c.requires.round, round)

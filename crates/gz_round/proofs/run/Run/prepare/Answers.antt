@@ -1,9 +1,12 @@
-use Rattle.std.proofs.Common.{Some, sym, subst}
-use Rattle.gz_round.specs.History.{sent_from}
-use Rattle.gz_round.specs.Following.{HasTurned}
-use Rattle.gz_round.proofs.Prepares.{spent_turned}
+use Rattle.std.proofs.Common.{arith}
+use Rattle.gz_round.specs.Acting.{CanPrepare}
+use Rattle.gz_round.proofs.Prepares.{rounds_below}
 use Rattle.gz_round.proofs.run.Run.prepare.Goals as goal
 
-pub returns-in-None : goal.returns-in-None
-returns-in-None c = λ w past ms p.
-    subst (λ a. HasTurned c.args.config.now w past c.args.self.now (sent_from c.args.first c.args.send ms) (Some a)) (sym c.given_in.ensures) (spent_turned c.args.config.now w past c.args.self.now (sent_from c.args.first c.args.send ms) c.args.version c.requires.config p c.in-None.ensures)
+pub next_ballot-ballot-requires-clause-used : goal.next_ballot-ballot-requires-clause-used
+next_ballot-ballot-requires-clause-used c = omega (arith, c.requires.round, c.requires.first)
+
+pub next_ballot-ballot-requires-clause-known : goal.next_ballot-ballot-requires-clause-known
+next_ballot-ballot-requires-clause-known c =
+    let k : CanPrepare c.args.config.now c.args.self.now c.args.first c.args.send c.args.version = c.requires.prepares in
+    rounds_below c.args.config.now c.args.self.now _ c.args.version k.3.stands.knows

@@ -18,3 +18,6 @@ pub returns-in-None : goal.returns-in-None
 returns-in-None c =
     IfOk-weaker c.prepare.result _ _ (λ turn h. λ w past ms r.
     h w past ms (subst (Prepares c.args.config.now w past c.args.self.now (sent_from c.args.first c.args.send ms)) (sym c.working-version.ensures) (out_prepares c.args.config.now w past c.args.self.now (sent_from c.args.first c.args.send ms) r (sym c.in-None.ensures)))) c.prepare.ensures
+
+pub prepare-requires-clause-round : goal.prepare-requires-clause-round
+prepare-requires-clause-round c = c.requires.round
