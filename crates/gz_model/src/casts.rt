@@ -8,23 +8,24 @@ use gz_core::{Ballot, Config, Key, PutName, SiteId, Version};
 use std::alloc::AllocError;
 
 /// A vote that a site cast: for the value of this name, in this ballot, at this version of the object of this key.
+/// Votes are ordered by what tells them apart soonest, so that few comparisons come to the keys.
 #[derive(PartialEq, Eq, PartialOrd, Ord)]
 pub struct Cast {
+    pub name: PutName,
     pub site: SiteId,
-    pub key: Key,
     pub version: Version,
     pub ballot: Ballot,
-    pub name: PutName,
+    pub key: Key,
 }
 
 impl Drop for Cast {
     fn drop(self) {
         let Cast {
+            name: _,
             site: _,
-            key: _,
             version: _,
             ballot: _,
-            name: _,
+            key: _,
         } = self;
     }
 }
@@ -37,11 +38,11 @@ impl Clone for Cast {
     fn clone(&self) -> Result<Cast, AllocError> {
         let key = self.key.clone()?;
         Ok(Cast {
+            name: self.name,
             site: self.site,
-            key,
             version: self.version,
             ballot: self.ballot,
-            name: self.name,
+            key,
         })
     }
 }
@@ -63,6 +64,20 @@ pub fn chosen(cfg: &Config, casts: &[Cast], key: &Key, v: Version) -> Option<Put
 }
 
 impl Cast {
+    /// The key of the object.
+    pub fn into_key(self) -> Key
+        ensures { result ≡ self.key }
+    {
+        let Cast {
+            name: _,
+            site: _,
+            version: _,
+            ballot: _,
+            key,
+        } = self;
+        key
+    }
+
     // Whether the vote was cast at this version of the object.
     fn is_at(&self, key: &Key, v: Version) -> bool
         ensures { result ≡ is_at self.now key.now v }

@@ -20,10 +20,10 @@ name_total = then_total (on_total (λ (n : Name). n.session) nat_cmp_total) (on_
 -- the order of votes is total
 pub cast_total : IsTotalOrder cast_cmp
 cast_total =
-    then_total (on_total (λ (c : Cast). c.site) nat_cmp_total)
-    (then_total (on_total (λ (c : Cast). c.key) (lists_total nat_cmp_total))
+    then_total (on_total (λ (c : Cast). c.name) name_total)
+    (then_total (on_total (λ (c : Cast). c.site) nat_cmp_total)
     (then_total (on_total (λ (c : Cast). c.version) nat_cmp_total)
-    (then_total (on_total (λ (c : Cast). c.ballot) ballot_total) (on_total (λ (c : Cast). c.name) name_total))))
+    (then_total (on_total (λ (c : Cast). c.ballot) ballot_total) (on_total (λ (c : Cast). c.key) (lists_total nat_cmp_total)))))
 
 equal_by : (o : Ordering) → is_eq o ≡ true → o ≡ Equal
 equal_by Less e = cc

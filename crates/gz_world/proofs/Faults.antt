@@ -11,7 +11,11 @@ use Rattle.gz_site.specs.declared.sites.RowRead.TheVariants as reads
 use Rattle.gz_site.specs.declared.sites.RowWrite.{RowWrite}
 use Rattle.gz_site.specs.declared.sites.RowWrite.TheVariants as writes
 use Rattle.gz_world.specs.States.{RequestAt, request_of, numbered, with_reply}
-use Rattle.gz_world.specs.Deliveries.{read_reply, write_reply, IsCounted, IsCountedFor}
+use Rattle.gz_world.specs.Deliveries.{read_reply, write_reply, IsCounted, IsCountedFor, LeavesSites}
+use Rattle.gz_world.specs.Steps.{quiet}
+use Rattle.gz_world.specs.declared.events.Effect.{Effect}
+use Rattle.gz_world.specs.declared.events.Outcome.{Outcome}
+use Rattle.gz_world.specs.declared.events.Outcome.TheVariants as outcomes
 use Rattle.gz_round.specs.History.{Tale}
 use Rattle.gz_site.specs.Told.{Told}
 use Rattle.gz_world.specs.Bridge.{state_of}
@@ -88,3 +92,7 @@ skipped_counts told faults w tales event why is = λ n e r tick there last.
 pub counted_then : {S : Type 0} (faults : S → ℕ) (old mid new : World S) (n : ℕ) → new.net ≡ mid.net → new.sites ≡ mid.sites → IsCountedFor faults old n mid → IsCountedFor faults old n new
 counted_then faults old mid new n net sites h = λ r tick there last.
     subst (λ v. Rose (faults_at faults old.sites.items r.site) (faults_at faults v.items r.site)) (sym sites) (h r tick (ap (λ v. numbered (map request_of v.items) n) (sym net) ∙ there) last)
+
+-- a delivery that is done reaches a site
+pub delivery_reaches : (event : Event) (n : ℕ) (effect : Effect) (session : Option ℕ) → event ≡ events.Deliver n → effect ≡ quiet outcomes.Done session → LeavesSites event effect.outcome → ⊥
+delivery_reaches event n effect session e q l = subst (λ (o : Outcome). LeavesSites (events.Deliver n) o) (ap (λ (x : Effect). x.outcome) q) (subst (λ (ev : Event). LeavesSites ev effect.outcome) e l)

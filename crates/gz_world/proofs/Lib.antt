@@ -12,3 +12,4 @@ pub mod Places
 pub mod Results
 pub mod Telling
 pub mod Turning
+pub mod Unlisted

@@ -20,11 +20,11 @@ ballot_cmp a b = ordering_then (nat_cmp a.round b.round) (nat_cmp a.session b.se
 abbrev pub name_cmp : Name → Name → Ordering
 name_cmp a b = ordering_then (nat_cmp a.session b.session) (nat_cmp a.seq b.seq)
 
--- the order of votes: by site, key, version, ballot and name
+-- the order of votes: by name, site, version, ballot and key
 abbrev pub cast_cmp : Cast → Cast → Ordering
 cast_cmp a b =
-    ordering_then (nat_cmp a.site b.site) (ordering_then (slice_cmp nat_cmp a.key b.key)
-    (ordering_then (nat_cmp a.version b.version) (ordering_then (ballot_cmp a.ballot b.ballot) (name_cmp a.name b.name))))
+    ordering_then (name_cmp a.name b.name) (ordering_then (nat_cmp a.site b.site)
+    (ordering_then (nat_cmp a.version b.version) (ordering_then (ballot_cmp a.ballot b.ballot) (slice_cmp nat_cmp a.key b.key))))
 
 -- whether two votes are the same one
 abbrev pub same_cast : Cast → Cast → Bool
@@ -41,6 +41,10 @@ with_cast casts c = if is_listed casts c then casts else casts ++ c ∷ []
 -- the list with each of these votes
 abbrev pub with_casts : List Cast → List Cast → List Cast
 with_casts casts fresh = fold with_cast casts fresh
+
+-- the votes with one more, unless the list has it
+abbrev pub with_unlisted : List Cast → List Cast → Cast → List Cast
+with_unlisted casts fresh c = if is_listed casts c then fresh else fresh ++ c ∷ []
 
 -- what the index holds of a vote: that it is listed, or only known
 abbrev pub listed_in : List (Cast × Bool) → Cast → Option Bool

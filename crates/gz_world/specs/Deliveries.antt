@@ -18,6 +18,9 @@ use Rattle.gz_world.specs.States.{RequestAt, request_of, numbered, with_reply}
 use Rattle.gz_world.specs.Steps.{Answers, IsReplyTo, casts_in, quiet}
 use Rattle.gz_world.specs.Weights.{capped, reply_weight}
 use Rattle.gz_world.specs.declared.events.Effect.{Effect}
+use Rattle.gz_world.specs.declared.events.Event.{Event}
+use Rattle.gz_world.specs.declared.events.Event.TheVariants as events
+use Rattle.gz_world.specs.declared.events.Outcome.{Outcome}
 use Rattle.gz_world.specs.declared.events.Outcome.TheVariants as outcomes
 use Rattle.gz_world.specs.declared.world.Member.{Member}
 use Rattle.gz_world.specs.declared.world.World.{World}
@@ -49,6 +52,16 @@ abbrev pub IsCountedFor : {S : Type 0} → (S → ℕ) → World S → ℕ → W
 IsCountedFor faults old n new =
     (r : RequestAt) (tick : ℕ) → numbered (map request_of new.net.items) n ≡ Some r → numbered r.replies (length r.replies) ≡ Some (tick, replies.Failed)
     → Rose (faults_at faults old.sites.items r.site) (faults_at faults new.sites.items r.site)
+
+-- an event that reaches no site: one that is skipped, or that is no delivery
+abbrev pub LeavesSites : Event → Outcome → Type 0
+LeavesSites events.OpenSession outcome = Unit {0}
+LeavesSites (events.Begin session call) outcome = Unit {0}
+LeavesSites (events.Deliver n) outcomes.Done = ⊥
+LeavesSites (events.Deliver n) (outcomes.Skipped why) = Unit {0}
+LeavesSites (events.Reply n which) outcome = Unit {0}
+LeavesSites (events.GiveUp n) outcome = Unit {0}
+LeavesSites (events.Crash session) outcome = Unit {0}
 
 -- no site's state has changed
 abbrev pub AreTheSame : {S : Type 0} → (S → Option Told) → List S → List S → Type 0

@@ -8,7 +8,7 @@ ghost use Rattle.gz_client.specs.Lowest.{IsLowestLive};
 ghost use Rattle.gz_client.specs.Tales.{live, IsLiveAtIn};
 ghost use Rattle.gz_world.specs.Bridge.{state_of};
 ghost use Rattle.gz_world.specs.Counting.{IsFull};
-ghost use Rattle.gz_world.specs.Deliveries.{IsCountedFor};
+ghost use Rattle.gz_world.specs.Deliveries.{IsCountedFor, LeavesSites};
 ghost use Rattle.gz_world.specs.Fits.{FitsBy, Fits, IsFitting, IsBounded};
 ghost use Rattle.gz_world.specs.Refusals.{refusal_of};
 ghost use Rattle.gz_world.specs.Steps.{last_name, name_at, last_call, IsLowestOf, IsEntryOf};
@@ -122,6 +122,7 @@ impl<S: Site> World<S> {
         ensures err { OnErr result (StaysBy S.told self.old self.new) }
         ensures journal { self.new.journal ≡ self.old.journal }
         ensures fault { IfOk result (λ effect. (n : ℕ) → event.now ≡ Event.Deliver n → IsCountedFor S.faults self.old n self.new) }
+        ensures sites { IfOk result (λ effect. LeavesSites event.now effect.outcome → self.new.sites ≡ self.old.sites) }
     {
         match event {
             Event::OpenSession => self.open_session(),
@@ -142,6 +143,7 @@ impl<S: Site> World<S> {
         ensures err { OnErr result (StaysBy S.told self.old self.new) }
         ensures journal { self.new.journal ≡ self.old.journal }
         ensures fault { IfOk result (λ effect. (n : ℕ) → event.now ≡ Event.Deliver n → IsCountedFor S.faults self.old n self.new) }
+        ensures sites { IfOk result (λ effect. LeavesSites event.now effect.outcome → self.new.sites ≡ self.old.sites) }
     {
         match self.refusal(event) {
             Some(why) => Ok(quiet(Outcome::Skipped { why }, self.session_of(event))),
@@ -156,6 +158,7 @@ impl<S: Site> World<S> {
         ensures told { (entry : Entry) × (RecordedBy S.told self.old event effect self.new entry × IsToldOf (length self.new.journal.items) entry effect result) }
         ensures net { self.new.net ≡ self.old.net }
         ensures sites { self.new.sites ≡ self.old.sites }
+        ensures outcome { result.outcome ≡ effect.outcome }
     {
         let tick = self.next_tick();
         let entry = self.entry_of(event, &effect);
@@ -166,7 +169,8 @@ impl<S: Site> World<S> {
 
     /// The entry of an event, by its effect.
     fn entry_of(&self, event: Event, effect: &Effect) -> Entry
-        ensures { (events : ℕ) (tales : ℕ → List Tale) → FitsBy events tales self.now → IsEntryOf (state_of S.told tales self.now) event effect.now result }
+        ensures is { (events : ℕ) (tales : ℕ → List Tale) → FitsBy events tales self.now → IsEntryOf (state_of S.told tales self.now) event effect.now result }
+        ensures outcome { result.outcome ≡ effect.now.outcome }
     {
         let (call, live) = self.call_and_live(effect.session);
         Entry {
@@ -187,6 +191,7 @@ impl<S: Site> World<S> {
         ensures step { IfOk result (λ applied. StepsBy S.told self.old event self.new applied) }
         ensures err { OnErr result (StaysBy S.told self.old self.new) }
         ensures fault { IfOk result (λ applied. (n : ℕ) → event ≡ Event.Deliver n → IsCountedFor S.faults self.old n self.new) }
+        ensures sites { IfOk result (λ applied. LeavesSites event applied.outcome → self.new.sites ≡ self.old.sites) }
     {
         self.journal.reserve(1)?;
         let effect = self.act(&event)?;
@@ -205,8 +210,12 @@ impl<S: Site> World<S> {
         // A reply that tells of a fault is kept only where the site counted one.
         ensures fault { IfOk result (λ applied. (n : ℕ) → event ≡ Event.Deliver n → IsCountedFor S.faults self.old n self.new) }
 
-        // Full comes exactly at the bounds; want of memory comes first, once it came.
+        // An event that is skipped, or that is no delivery, reaches no site, and so raises no site's count of faults.
+        ensures sites { IfOk result (λ applied. LeavesSites event applied.outcome → self.new.sites ≡ self.old.sites) }
+
+        // Full comes exactly at the bounds, and leaves all as it was; want of memory comes first, once it came.
         ensures full { (result ≡ Err ApplyError.Full) ↔ ((self.old.spent ≡ false) × IsFull self.old) }
+        ensures untouched { result ≡ Err ApplyError.Full → self.new ≡ self.old }
         ensures spent { (result ≡ Err ApplyError.NoMemory) ↔ IsTrue self.new.spent }
         ensures ever { IsTrue self.old.spent → IsTrue self.new.spent }
         ensures reached { IsReachedBy S.told self.old → IsReachedBy S.told self.new }

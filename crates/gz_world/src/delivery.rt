@@ -11,7 +11,7 @@ ghost use Rattle.gz_world.specs.Fits.{Fits, IsFitting};
 ghost use Rattle.gz_world.specs.Turns.{IsSmall};
 ghost use Rattle.gz_world.specs.Weights.{capped, reply_weight};
 
-use crate::audit::{Casts, casts_of};
+use crate::audit::Casts;
 use crate::events::{Effect, Outcome};
 use crate::lookups::item_at;
 use crate::requests::Request;
@@ -32,31 +32,6 @@ fn read_reply(read: RowRead) -> Reply
     }
 }
 
-/// The votes that the reply to a read shows.
-fn casts_read(
-    alloc: Global,
-    site: SiteId,
-    key: &Key,
-    reply: &Reply,
-) -> Result<Vec<Cast>, AllocError>
-    ensures { IfOk result (λ casts. casts.items ≡ casts_in site (Op.ReadRow key.now) reply.now) }
-{
-    match reply {
-        Reply::Row { row, .. } => casts_of(alloc, site, key, row),
-        _ => Ok(Vec::new(alloc)),
-    }
-}
-
-/// Adds votes to the audit list.
-fn add_casts(casts: &mut Casts, fresh: Vec<Cast>) -> Result<(), AllocError>
-    ensures ok { OnOk result (casts.new.list.items ≡ with_casts casts.old.list.items fresh.items) }
-    ensures err { OnErr result (casts.new.list.items ≡ casts.old.list.items) }
-{
-    casts.prepare(fresh.as_slice())?;
-    casts.extend(fresh);
-    Ok(())
-}
-
 /// Keeps the votes that the reply to a read shows.
 fn audit_read(
     alloc: Global,
@@ -69,9 +44,26 @@ fn audit_read(
     ensures ok { OnOk result (casts.new.list.items ≡ with_casts casts.old.list.items (casts_in site (Op.ReadRow key.now) reply)) }
     ensures err { OnErr result (casts.new.list.items ≡ casts.old.list.items) }
 {
-    let fresh = casts_read(alloc, site, key, &reply)?;
-    add_casts(casts, fresh)?;
+    if let Reply::Row { row, .. } = &reply {
+        audit_row(alloc, casts, site, key, row)?;
+    }
     Ok(reply)
+}
+
+/// Keeps the votes that stand in the row of a site.
+fn audit_row(
+    alloc: Global,
+    casts: &mut Casts,
+    site: SiteId,
+    key: &Key,
+    row: &Row,
+) -> Result<(), AllocError>
+    ensures ok { OnOk result (casts.new.list.items ≡ with_casts casts.old.list.items (casts_of site key.now row.now)) }
+    ensures err { OnErr result (casts.new.list.items ≡ casts.old.list.items) }
+{
+    let fresh = casts.prepare(alloc, site, key, row)?;
+    casts.extend(fresh);
+    Ok(())
 }
 
 /// Reads a row at a site.
@@ -115,24 +107,6 @@ fn audit_write(casts: &mut Casts, fresh: Vec<Cast>, written: RowWrite) -> Reply
     }
 }
 
-/// The votes that a row shows which is about to be written, with the memory that the audit list needs for them.
-fn prepared(
-    alloc: Global,
-    casts: &mut Casts,
-    site: SiteId,
-    key: &Key,
-    row: &Row,
-) -> Result<Vec<Cast>, AllocError>
-    ensures fresh { IfOk result (λ fresh. fresh.items ≡ casts_of site key.now row.now) }
-    ensures list { casts.new.list.items ≡ casts.old.list.items }
-    ensures room { IfOk result (λ fresh. vec_len casts.new.list + length fresh.items ≤ vec_capacity casts.new.list) }
-    ensures known { IfOk result (λ fresh. All (λ c. is_known casts.new.index.entries c ≡ true) fresh.items) }
-{
-    let fresh = casts_of(alloc, site, key, row)?;
-    casts.prepare(fresh.as_slice())?;
-    Ok(fresh)
-}
-
 /// Writes a row at a site.
 fn write<S: Site>(
     alloc: Global,
@@ -153,7 +127,7 @@ fn write<S: Site>(
     ensures others { OthersStay sites.old.items site sites.new.items }
     ensures fault { IfOk result (λ reply. IsCounted S.faults sites.old.items site sites.new.items reply) }
 {
-    let fresh = prepared(alloc, casts, site, key, row)?;
+    let fresh = casts.prepare(alloc, site, key, row)?;
     match write_at(alloc, sites, site.index(), key, expect, row) {
         Ok(written) => Ok(audit_write(casts, fresh, written)),
         Err(SiteFault::Failed) => Ok(Reply::Failed),

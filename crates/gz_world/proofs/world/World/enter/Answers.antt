@@ -13,7 +13,7 @@ returns-clause-told g c =
         (λ tales fits. (
           subst (λ q. FitsBy q tales (record old { journal = c.push_reserved.new.self })) (sym n) (fits_journal (length old.journal.items + 1) tales old (record old { journal = c.push_reserved.new.self }) fits refl refl refl refl refl refl),
           record {
-            entry_is = c.entry_of-entry.ensures (length old.journal.items + 1) tales fits;
+            entry_is = c.entry_of-entry.ensures.is (length old.journal.items + 1) tales fits;
             journal = c.push_reserved.ensures.items;
             cfg = refl;
             sites = record { sites = λ i. refl; casts = refl };
@@ -25,3 +25,6 @@ returns-clause-told g c =
         subst (λ q. IsToldOf q c.entry_of-entry.result c.args.effect c.told_of-applied.result) (c.next_tick-tick.ensures ∙ sym n) (c.told_of-applied.ensures c.args.effect refl),
       ),
     )
+
+pub returns-clause-outcome : goal.returns-clause-outcome
+returns-clause-outcome g c = (c.told_of-applied.ensures c.args.effect refl).outcome_is ∙ c.entry_of-entry.ensures.outcome

@@ -1,8 +1,8 @@
 use Rattle.std.proofs.Common.{refl}
 use Rattle.gz_world.proofs.world.World.entry_of.Goals as goal
 
-pub returns : goal.returns
-returns g c = λ events tales fits. record {
+pub returns-clause-is : goal.returns-clause-is
+returns-clause-is g c = λ events tales fits. record {
   event_is = refl;
   outcome_is = refl;
   session_is = refl;

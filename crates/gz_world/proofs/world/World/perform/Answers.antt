@@ -1,5 +1,7 @@
-use Rattle.std.proofs.Common.{refl}
+use Rattle.std.proofs.Common.{refl, subst, ◌∙◌}
+use Rattle.gz_world.specs.Deliveries.{LeavesSites}
 use Rattle.gz_world.specs.Told.{StaysBy}
+use Rattle.gz_world.specs.declared.events.Outcome.{Outcome}
 use Rattle.gz_world.proofs.Results.{on_err_any}
 use Rattle.gz_world.proofs.Performing.{steps_of, stays_reserved, stays_then, fits_kept_by}
 use Rattle.gz_world.proofs.Faults.{counted_then}
@@ -29,3 +31,6 @@ returns-clause-step g c =
 
 pub returns-clause-fault : goal.returns-clause-fault
 returns-clause-fault g c = λ n e. counted_then g.S.Site.faults c.args.self.now c.act.new.self c.enter.new.self n c.enter.ensures.net c.enter.ensures.sites (c.in_ok-effect.ensures.fault n e)
+
+pub returns-clause-sites : goal.returns-clause-sites
+returns-clause-sites g c = λ l. c.enter.ensures.sites ∙ c.in_ok-effect.ensures.sites (subst (λ (o : Outcome). LeavesSites c.args.event o) c.enter.ensures.outcome l)
