@@ -9,7 +9,9 @@ use Rattle.gz_core.specs.Calls.{key_of}
 use Rattle.gz_core.specs.Configurations.{need}
 use Rattle.gz_core.specs.Counts.{count_sites}
 use Rattle.gz_core.specs.Rows.{RowAt, column_in}
-use Rattle.gz_core.specs.Slots.{vote_pair, Slot, Gone, DecidedAs, OpenAt, Act, Promises, VotesClassic, slots, slot_of}
+use Rattle.gz_core.specs.Slots.{vote_pair, Act, Promises, VotesClassic, slots, slot_of}
+use Rattle.gz_core.specs.declared.slots.Slot.{Slot}
+use Rattle.gz_core.specs.declared.slots.Slot.TheVariants.{Gone, DecidedAs, OpenAt}
 use Rattle.gz_core.specs.declared.rows.Column.{Column}
 use Rattle.gz_core.specs.declared.rows.Column.TheVariants.{Open, Decided}
 use Rattle.gz_core.specs.declared.values.Value.{Value}

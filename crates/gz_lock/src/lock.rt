@@ -21,9 +21,11 @@ pub type Seat<V> = atomic_table::Seat<Slot<V>, View<V>>;
 /// A value under a ticket lock.
 #[derive(Drop)]
 pub struct Lock<V: Turned> {
-    pub table: Home<V>,
+    table: Home<V>,
     ghost sized: { IsSized table.shared.table_id },
 }
+
+unsafe impl<V: Turned + Send> Sync for Lock<V> {}
 
 /// There was no memory. The value comes back.
 #[derive(Drop)]

@@ -1,0 +1,62 @@
+//! Turns of a tally under the lock, for `bench/lock` to time. With no words, four threads take some turns and it prints how many there are.
+#![tactic(auto)]
+
+mod threads;
+
+ghost use Rattle.std.specs.Prelude.{◌≡◌, []};
+
+use anyhow::{Result, bail, ensure};
+use gz_lock::{Lock, Tally};
+use std::alloc::Global;
+use std::env;
+use std::time::Instant;
+use threads::take_turns_on;
+
+fn empty(alloc: Global) -> Tally
+    ensures { result.past.items ≡ [] }
+{
+    Tally {
+        past: Vec::new(alloc),
+    }
+}
+
+/// The time in nanoseconds that so many threads take for so many turns each.
+fn time_of_turns(rt: &HostRuntime, threads: u32, turns: u32) -> Result<u128> {
+    let Ok((lock, mut first)) = Lock::new(rt.alloc(), empty(rt.alloc()), 5) else {
+        bail!("no memory");
+    };
+    let start = Instant::now(rt)?;
+    take_turns_on(rt, &lock, &mut first, threads, turns);
+    let taken = start.elapsed(rt)?.as_nanos();
+    let taken_before = u64::from(threads) * u64::from(turns);
+    ensure!(
+        lock.turn(rt, &mut first, 0)? == taken_before + 1,
+        "a turn is missing"
+    );
+    Ok(taken)
+}
+
+fn show_time(rt: &HostRuntime, threads: &str, turns: &str) -> Result<()> {
+    let (threads, turns) = (threads.parse()?, turns.parse()?);
+    ensure!(
+        turns <= 100_000_000 && (threads == 1 || threads == 2 || threads == 4),
+        "1, 2 or 4 threads, up to 100,000,000 turns"
+    );
+    println!(rt; "{}", time_of_turns(rt, threads, turns)?)?;
+    Ok(())
+}
+
+fn show_turns(rt: &HostRuntime) -> Result<()> {
+    time_of_turns(rt, 4, 1000)?;
+    println!(rt; "4 threads, 1000 turns each")?;
+    Ok(())
+}
+
+fn main(rt: HostRuntime) -> Result<()> {
+    let words: Vec<String> = env::args(&rt)?.collect(rt.alloc())?;
+    match words.as_slice() {
+        [_] => show_turns(&rt),
+        [_, threads, turns] => show_time(&rt, threads, turns),
+        _ => bail!("usage: gz_lock_bench [THREADS TURNS]"),
+    }
+}
