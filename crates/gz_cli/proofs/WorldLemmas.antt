@@ -129,4 +129,4 @@ more-empty told (first ∷ sites) site all one (suc i) = more-empty told sites s
 
 -- a new site in memory holds nothing
 pub empty-site : (site : MemSite) → memory site ≡ nothing → IsEmpty (memory site)
-empty-site site same = record { rows = λ key. ap (λ (t : Told). t.rows key) same; top = ap (λ (t : Told). t.top) same }
+empty-site site same = record { rows = λ key. ap (λ (t : Told). t.rows key) same; blobs = λ blob. ap (λ (t : Told). t.blobs blob) same; top = ap (λ (t : Told). t.top) same }

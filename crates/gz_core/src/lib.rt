@@ -4,6 +4,7 @@
 
 pub mod blobs;
 pub mod calls;
+pub mod fragments;
 pub mod keys;
 pub mod lists;
 pub mod names;
@@ -15,6 +16,7 @@ pub mod values;
 
 pub use blobs::BlobName;
 pub use calls::{Answer, Call, Phase, UnsureWhy};
+pub use fragments::FragRef;
 pub use gz_config::{Config, ConfigError, Order};
 pub use keys::Key;
 pub use lists::Items;

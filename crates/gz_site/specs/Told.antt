@@ -2,20 +2,23 @@
 use Rattle.std.specs.Prelude.{ℕ, ◌≡◌, List, Option, Some, None, Bool, option_map}
 use Rattle.std.specs.Cmp.Lexicographic.{slice_cmp}
 use Rattle.std.specs.Ordering.{nat_cmp, is_eq}
+use Rattle.gz_core.specs.Blobs.{BlobAt}
 use Rattle.gz_core.specs.Rows.{RowAt}
 
--- the row of each key with its entity tag, and the greatest tag that the site has used
+-- the row of each key with its entity tag, the bytes of each blob, and the greatest tag that the site has used
 pub record Told : Type 0 where
   pub rows : List ℕ → Option (ℕ × RowAt)
+  pub blobs : BlobAt → Option (List ℕ)
   pub top : ℕ
 
 -- the state of a site that holds nothing
 abbrev pub nothing : Told
-nothing = record { rows = λ key. None; top = 0 }
+nothing = record { rows = λ key. None; blobs = λ blob. None; top = 0 }
 
 -- the site holds nothing and has used no tag
 pub record IsEmpty (told : Told) : Type 0 where
   pub rows : (key : List ℕ) → told.rows key ≡ None
+  pub blobs : (blob : BlobAt) → told.blobs blob ≡ None
   pub top : told.top ≡ 0
 
 -- a relation between what a site told before and tells now; one that does not tell goes on so

@@ -1,4 +1,4 @@
-//! What lies outside the store: sites that hold rows, shelves of files, and sinks of bytes, each as a trait with
+//! What lies outside the store: sites that hold rows and blobs, shelves of files, and sinks of bytes, each as a trait with
 //! an implementation in memory.
 #![tactic(auto)]
 
@@ -9,7 +9,7 @@ pub mod shelves;
 pub mod sinks;
 pub mod sites;
 
-pub use many::{read_at, write_at};
+pub use many::{drop_blob_at, get_blob_at, put_blob_at, read_at, write_at};
 pub use memory::{Failing, MemSite};
 pub use memory_files::{MemShelf, MemSink};
 pub use shelves::{Shelf, ShelfError};

@@ -2,11 +2,11 @@
 ghost use Rattle.std.specs.Prelude.{ℕ, ◌≡◌, ◌≢◌, ◌+◌, ◌-◌, ◌^◌, ◌<◌, ◌≤◌, Some, None, Ok, Err, All, min};
 ghost use Rattle.gz_core.specs.Causes.{Rose, HasCause};
 ghost use Rattle.gz_site.specs.Told.{Told, Tells, nothing, etag_of};
-ghost use Rattle.gz_site.specs.Steps.{ReadRowStep, WriteRowStep};
-ghost use Rattle.gz_site.specs.Memory.{told_of, memory, listed, asked, fate_of, Stores, ReadNext, WriteNext, Fated};
+ghost use Rattle.gz_site.specs.Steps.{ReadRowStep, WriteRowStep, PutBlobStep, GetBlobStep, DropBlobStep};
+ghost use Rattle.gz_site.specs.Memory.{told_of, memory, listed, asked, fate_of, Stores, ReadNext, WriteNext, PutBlobNext, GetBlobNext, DropBlobNext, Fated};
 
 use crate::sites::{RowRead, RowWrite, Site, SiteFault};
-use gz_core::{Etag, Key, Row};
+use gz_core::{BlobName, Etag, Items, Key, Row};
 use std::alloc::Global;
 use std::collections::BTreeMap;
 
@@ -20,6 +20,7 @@ pub struct Failing {
 #[derive(Drop)]
 struct Contents {
     rows: BTreeMap<Key, (Etag, Row)>,
+    blobs: BTreeMap<BlobName, Items<u8>>,
     top: u64,
 }
 
@@ -29,6 +30,7 @@ impl Contents {
     {
         Contents {
             rows: BTreeMap::new(alloc),
+            blobs: BTreeMap::new(alloc),
             top: 0,
         }
     }
@@ -93,10 +95,44 @@ impl Contents {
         self.top = etag.number();
         Ok(RowWrite::Written { etag })
     }
+
+    fn put_blob(&mut self, alloc: Global, name: &BlobName, bytes: &[u8]) -> Result<(), SiteFault>
+        ensures { PutBlobNext (told_of self.old) name.now bytes.now result (told_of self.new) }
+    {
+        let Ok(name) = name.clone() else {
+            return Err(SiteFault::NoMemory);
+        };
+        let Ok(bytes) = Items::from_slice(alloc, bytes) else {
+            return Err(SiteFault::NoMemory);
+        };
+        match self.blobs.insert(name, bytes) {
+            Ok(_) => Ok(()),
+            Err(_) => Err(SiteFault::NoMemory),
+        }
+    }
+
+    fn get_blob(&self, alloc: Global, name: &BlobName) -> Result<Option<Vec<u8>>, SiteFault>
+        ensures { GetBlobNext (told_of self.now) name.now result (told_of self.now) }
+    {
+        match self.blobs.get(name) {
+            None => Ok(None),
+            Some(bytes) => match Vec::from_slice(alloc, bytes.as_slice()) {
+                Ok(bytes) => Ok(Some(bytes)),
+                Err(_) => Err(SiteFault::NoMemory),
+            },
+        }
+    }
+
+    fn drop_blob(&mut self, name: &BlobName) -> Result<bool, SiteFault>
+        ensures { DropBlobNext (told_of self.old) name.now result (told_of self.new) }
+    {
+        Ok(self.blobs.remove(name).is_some())
+    }
 }
 
 /// A site in memory. It starts empty, gives tags 1, 2, 3, .., and answers Failed exactly at the calls that it is
-/// made to fail, and at a write that would need a tag above 2^64 - 1. Its counts stay at 2^64 - 1.
+/// made to fail, which are counted over all its calls together, and at a write that would need a tag above 2^64 - 1. Its
+/// counts stay at 2^64 - 1.
 #[derive(Drop)]
 pub struct MemSite {
     contents: Contents,
@@ -208,6 +244,58 @@ impl Site for MemSite {
                 Ok(_) => Err(self.fail()),
                 Err(SiteFault::Failed) => Err(self.fail()),
                 Err(SiteFault::NoMemory) => Err(SiteFault::NoMemory),
+            },
+        }
+    }
+
+    fn put_blob(&mut self, alloc: Global, name: &BlobName, bytes: &[u8]) -> Result<(), SiteFault>
+        ensures step { Tells (Some (told_of self.old.contents)) (Some (told_of self.new.contents)) (λ old new. PutBlobStep old name.now bytes.now result new) }
+        ensures cause { HasCause SiteFault.Failed self.old.faults self.new.faults result }
+        ensures listed { listed self.new ≡ listed self.old }
+        ensures asked { asked self.new ≡ min (asked self.old + 1) (2 ^ 64 - 1) }
+        ensures fated { Fated (fate_of (listed self.old) (asked self.new)) (memory self.old) (PutBlobNext (memory self.old) name.now bytes.now) result (memory self.new) }
+    {
+        match self.turn() {
+            None => self.contents.put_blob(alloc, name, bytes),
+            Some(false) => Err(self.fail()),
+            Some(true) => match self.contents.put_blob(alloc, name, bytes) {
+                Err(SiteFault::NoMemory) => Err(SiteFault::NoMemory),
+                _ => Err(self.fail()),
+            },
+        }
+    }
+
+    fn get_blob(&mut self, alloc: Global, name: &BlobName) -> Result<Option<Vec<u8>>, SiteFault>
+        ensures step { Tells (Some (told_of self.old.contents)) (Some (told_of self.new.contents)) (λ old new. GetBlobStep old name.now result new) }
+        ensures cause { HasCause SiteFault.Failed self.old.faults self.new.faults result }
+        ensures listed { listed self.new ≡ listed self.old }
+        ensures asked { asked self.new ≡ min (asked self.old + 1) (2 ^ 64 - 1) }
+        ensures same { memory self.new ≡ memory self.old }
+        ensures fated { Fated (fate_of (listed self.old) (asked self.new)) (memory self.old) (GetBlobNext (memory self.old) name.now) result (memory self.new) }
+    {
+        match self.turn() {
+            None => self.contents.get_blob(alloc, name),
+            Some(false) => Err(self.fail()),
+            Some(true) => match self.contents.get_blob(alloc, name) {
+                Err(SiteFault::NoMemory) => Err(SiteFault::NoMemory),
+                _ => Err(self.fail()),
+            },
+        }
+    }
+
+    fn drop_blob(&mut self, _alloc: Global, name: &BlobName) -> Result<bool, SiteFault>
+        ensures step { Tells (Some (told_of self.old.contents)) (Some (told_of self.new.contents)) (λ old new. DropBlobStep old name.now result new) }
+        ensures cause { HasCause SiteFault.Failed self.old.faults self.new.faults result }
+        ensures listed { listed self.new ≡ listed self.old }
+        ensures asked { asked self.new ≡ min (asked self.old + 1) (2 ^ 64 - 1) }
+        ensures fated { Fated (fate_of (listed self.old) (asked self.new)) (memory self.old) (DropBlobNext (memory self.old) name.now) result (memory self.new) }
+    {
+        match self.turn() {
+            None => self.contents.drop_blob(name),
+            Some(false) => Err(self.fail()),
+            Some(true) => match self.contents.drop_blob(name) {
+                Err(SiteFault::NoMemory) => Err(SiteFault::NoMemory),
+                _ => Err(self.fail()),
             },
         }
     }

@@ -1,10 +1,11 @@
-//! A site: a table of rows with a read that gives an entity tag, and a write that is conditional on one.
+//! A site: a table of rows with a read that gives an entity tag, and a write that is conditional on one, and a table of
+//! blobs.
 ghost use Rattle.std.specs.Prelude.{ℕ, Option};
 ghost use Rattle.gz_core.specs.Causes.{HasCause};
 ghost use Rattle.gz_site.specs.Told.{Told, Tells};
-ghost use Rattle.gz_site.specs.Steps.{ReadRowStep, WriteRowStep};
+ghost use Rattle.gz_site.specs.Steps.{ReadRowStep, WriteRowStep, PutBlobStep, GetBlobStep, DropBlobStep};
 
-use gz_core::{Etag, Key, Row};
+use gz_core::{BlobName, Etag, Key, Row};
 use std::alloc::Global;
 
 /// What a read of a row gives.
@@ -34,8 +35,9 @@ pub enum SiteFault {
     NoMemory,
 }
 
-/// A site that holds one row for each object. A site that tells its state tells the rows with their tags and the
-/// greatest tag that it has used; one that does not is bound by its count of faults alone. No call removes a row.
+/// A site that holds one row for each object, and blobs by their names. A site that tells its state tells the rows with
+/// their tags, the bytes of the blobs and the greatest tag that it has used; one that does not is bound by its count of
+/// faults alone. No call removes a row.
 pub trait Site: Drop {
     ghost told: { Self → Option Told };
 
@@ -55,5 +57,20 @@ pub trait Site: Drop {
         row: &Row,
     ) -> Result<RowWrite, SiteFault>
         ensures step { Tells (told self.old) (told self.new) (λ old new. WriteRowStep old key.now expect row.now result new) }
+        ensures cause { HasCause SiteFault.Failed (faults self.old) (faults self.new) result };
+
+    /// Stores bytes under a blob's name, in place of those that stood there.
+    fn put_blob(&mut self, alloc: Global, name: &BlobName, bytes: &[u8]) -> Result<(), SiteFault>
+        ensures step { Tells (told self.old) (told self.new) (λ old new. PutBlobStep old name.now bytes.now result new) }
+        ensures cause { HasCause SiteFault.Failed (faults self.old) (faults self.new) result };
+
+    /// The bytes of a blob, if there is one of this name.
+    fn get_blob(&mut self, alloc: Global, name: &BlobName) -> Result<Option<Vec<u8>>, SiteFault>
+        ensures step { Tells (told self.old) (told self.new) (λ old new. GetBlobStep old name.now result new) }
+        ensures cause { HasCause SiteFault.Failed (faults self.old) (faults self.new) result };
+
+    /// Takes a blob away, and tells whether there was one of this name.
+    fn drop_blob(&mut self, alloc: Global, name: &BlobName) -> Result<bool, SiteFault>
+        ensures step { Tells (told self.old) (told self.new) (λ old new. DropBlobStep old name.now result new) }
         ensures cause { HasCause SiteFault.Failed (faults self.old) (faults self.new) result };
 }
