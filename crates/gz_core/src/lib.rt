@@ -4,7 +4,6 @@
 
 pub mod blobs;
 pub mod calls;
-pub mod fragments;
 pub mod keys;
 pub mod lists;
 pub mod names;
@@ -16,7 +15,6 @@ pub mod values;
 
 pub use blobs::BlobName;
 pub use calls::{Answer, Call, Phase, UnsureWhy};
-pub use fragments::FragRef;
 pub use gz_config::{Config, ConfigError, Order};
 pub use keys::Key;
 pub use lists::Items;
