@@ -1,12 +1,14 @@
 -- The lines of a schedule keep to the bounds of an object.
 use Rattle.std.proofs.Common.{ℕ, ◌≡◌, ◌≤◌, zero, suc, List, [], ◌∷◌, length, refl, sym, subst, arith}
-use Rattle.std.specs.Prelude.{◌==◌, ◌&&◌, Bool, true, false, nat_le, if◌then◌else◌, Option, Some, None, Result, Ok, Err, IfOk, All, filter_map, map, codes}
+use Rattle.std.specs.Prelude.{◌==◌, ◌&&◌, Bool, true, false, nat_le, if◌then◌else◌, Vec, Option, Some, None, Result, Ok, Err, IfOk, All, filter_map, map, codes}
 use Rattle.std.specs.Result.{result_ok}
 use Rattle.std.specs.List.{slice_split}
 use Rattle.hex.specs.Hex.{decode_of}
 use Rattle.std.proofs.lemmas.Bool.Decides.{nat_tests}
 use Rattle.std.proofs.lemmas.List.Elements.{All-cons, All-nil}
 use Rattle.gz_core.specs.declared.calls.Call.TheVariants as calls
+use Rattle.std.specs.declared.alloc.Global.{Global}
+use Rattle.gz_core.specs.declared.texts.TextError.{TextError}
 use Rattle.gz_core.specs.declared.texts.Why.TheVariants as whys
 use Rattle.gz_lines.specs.declared.faults.Fault.{Fault}
 use Rattle.gz_lines.specs.declared.faults.Fault.TheVariants.{Bad, TooLong}
@@ -23,7 +25,7 @@ use Rattle.gz_lines.specs.Bytes.{next, generated, within, spelled, pair_of, gene
 use Rattle.gz_lines.specs.Counts.{first_of, one_of, two_of, three_of, counted}
 use Rattle.gz_lines.specs.Verbs.{is_word, verb_of}
 use Rattle.gz_lines.specs.Grammar.{number_in, session_in, key_in, list_in, number_alone, session_alone, settle_without, settle_by, line_from, is_or_faulty, reading_for, reading_by, reading_of, read_line}
-use Rattle.gz_lines.specs.Schedule.{IsBounded, line_of, readings}
+use Rattle.gz_lines.specs.Schedule.{IsBounded, line_of, readings, Reads}
 
 -- what follows from a value that was read has a property
 with-ok : {A B : Type 0} (r : Result A Fault) (f : A → Result B Fault) (P : B → Type 0) → ((a : A) → IfOk (f a) P) → IfOk (with r f) P
@@ -169,6 +171,10 @@ lines-bounded : (texts : List (List ℕ)) → All IsBounded (filter_map line_of 
 lines-bounded [] = All-nil IsBounded
 lines-bounded (text ∷ texts) = one-more (read_line text) (map read_line texts) (read_line-bounded text) (lines-bounded texts)
 
+bounded-lines : (text : List ℕ) (found : List Line) → found ≡ filter_map line_of (readings text) → All IsBounded found
+bounded-lines text found same = subst (λ (ls : List Line). All IsBounded ls) (sym same) (lines-bounded (lines text))
+
 -- the lines that were read keep to the bounds
-pub bounded_lines : (text : List ℕ) (found : List Line) → found ≡ filter_map line_of (readings text) → All IsBounded found
-bounded_lines text found same = subst (λ (ls : List Line). All IsBounded ls) (sym same) (lines-bounded (lines text))
+pub reads_bounded : (text : List ℕ) (result : Result (Vec Line Global) TextError) → Reads (readings text) result → IfOk result (λ found. All IsBounded found.items)
+reads_bounded text (Ok found) read = bounded-lines text found.items read.1
+reads_bounded text (Err error) read = tt

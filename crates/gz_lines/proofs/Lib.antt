@@ -3,3 +3,4 @@ pub mod CountLemmas
 pub mod CutLemmas
 pub mod Generating
 pub mod ReadLemmas
+pub mod Reading

@@ -56,9 +56,9 @@ pub record IsFirstFault (all : List Reading) (line : ℕ) (fault : Fault) : Type
   pub above : AreFaultless all (line - 1)
   pub found : fault_at all (line - 1) ≡ Some fault
 
--- a text is a schedule exactly where no line has a fault; else the first line with one is told, with its fault
-abbrev pub Reads : List ℕ → Result (Vec Line Global) TextError → Type 0
-Reads text (Ok found) = AreFaultless (readings text) (length (readings text)) × (found.items ≡ filter_map line_of (readings text))
-Reads text (Err (Bad line why)) = IsFirstFault (readings text) line (faults.Bad why)
-Reads text (Err (TooLong line)) = IsFirstFault (readings text) line faults.TooLong
-Reads text (Err NoMemory) = Unit {0}
+-- what lines read as: they are taken exactly where none has a fault; else the first one with a fault is told, with it
+abbrev pub Reads : List Reading → Result (Vec Line Global) TextError → Type 0
+Reads all (Ok found) = AreFaultless all (length all) × (found.items ≡ filter_map line_of all)
+Reads all (Err (Bad line why)) = IsFirstFault all line (faults.Bad why)
+Reads all (Err (TooLong line)) = IsFirstFault all line faults.TooLong
+Reads all (Err NoMemory) = Unit {0}

@@ -57,7 +57,7 @@ fn form_of<'a>(words: &[&'a str]) -> Option<Command<'a>>
 }
 
 fn replay<'a>(verb: &str, schedule: &'a str, config: Option<&'a str>) -> Option<Command<'a>>
-    ensures exact { option_map task_of result ≡ replay_in verb.now schedule.entry.now (option_map (λ name. name.now) config.entry) }
+    ensures exact { option_map task_of result ≡ replay_in verb.now schedule.now (option_map (λ name. name.now) config.entry) }
     ensures sound { IfSome result IsSound }
 {
     if verb == "replay" {
@@ -68,7 +68,7 @@ fn replay<'a>(verb: &str, schedule: &'a str, config: Option<&'a str>) -> Option<
 }
 
 fn code<'a>(verb: &str, k: &str, m: &str, digits: &'a str) -> Option<Command<'a>>
-    ensures exact { option_map task_of result ≡ code_in verb.now k.now m.now digits.entry.now }
+    ensures exact { option_map task_of result ≡ code_in verb.now k.now m.now digits.now }
     ensures sound { IfSome result IsSound }
 {
     if verb != "code" {

@@ -5,10 +5,7 @@ use std::alloc::{AllocError, Global};
 
 /// The command's name and its values as `clap` reads them; none where it refuses the words for another cause than
 /// want of memory.
-pub fn parsed<'a>(
-    alloc: Global,
-    words: &'a [&'a str],
-) -> Result<Option<Vec<&'a str>>, AllocError> {
+pub fn parsed<'a>(alloc: Global, words: &'a [&'a str]) -> Result<Option<Vec<&'a str>>, AllocError> {
     match matched(alloc, words) {
         Ok(matches) => split(alloc, &matches),
         Err(error) if error.kind() == ErrorKind::OutOfMemory => Err(AllocError),

@@ -25,7 +25,7 @@ pub fn command_of<'a>(
     alloc: Global,
     words: &'a [&'a str],
 ) -> Result<Option<Command<'a>>, AllocError>
-    ensures exact { IfOk result (λ command. option_map task_of command ≡ task_in (map (λ word. word.now) words.entry.now)) }
+    ensures exact { IfOk result (λ command. option_map task_of command ≡ task_in (map (λ word. word.now) words.now)) }
     ensures sound { IfOk result (λ command. IfSome command IsSound) }
 {
     let Some(own) = own_reading(words) else {
