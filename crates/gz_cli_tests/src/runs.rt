@@ -103,7 +103,7 @@ fn holds(alloc: Global, case: &Case) -> Result<bool, AllocError> {
 }
 
 /// Schedules, each with the status and the log of its replay.
-static SCHEDULES: [(&str, u8, &str, &str); 20] = [
+static SCHEDULES: [(&str, u8, &str, &str); 21] = [
     (PUT_GET, 0, "done", PUT_GET_LOG),
     (
         "session\nget 1 a\nsettle 1\n",
@@ -192,13 +192,9 @@ static SCHEDULES: [(&str, u8, &str, &str); 20] = [
         "1.1 put a 0102 2 - open\n2.1 get a - 12 28 bytes 1 1.1 0102\n2.2 get a - 29 33 bytes 1 1.1 0102\nend 3 33 0\n",
     ),
     ("session\ngetat 1 a 1\n", 7, "line 2: unbuilt", ""),
-    ("session\npat 1 a\n", 7, "line 2: unbuilt", ""),
-    (
-        "session\nput 0 a x:01\nsettle 1\n",
-        7,
-        "line 2: unbuilt",
-        "",
-    ),
+    ("session\npat 1 a\n", 7, "line 2: word", ""),
+    ("session\nput 0 a x:01\nsettle 1\n", 7, "line 2: number", ""),
+    ("put 1 a g:0:1048577\n", 8, "line 1: too long", ""),
 ];
 
 /// Calls of the shelf and the sink that fail in the replay of `PUT_GET`, or none, and what comes of it.

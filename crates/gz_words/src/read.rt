@@ -47,13 +47,5 @@ pub fn command_of<'a>(
 fn are_same(read: &[&str], words: &[&str]) -> bool
     ensures { result ≡ true → map (λ word. word.now) read.now ≡ map (λ word. word.now) words.now }
 {
-    if read.len() != words.len() {
-        return false;
-    }
-    for i in 0..read.len() {
-        if read[i] != words[i] {
-            return false;
-        }
-    }
-    true
+    read == words
 }
