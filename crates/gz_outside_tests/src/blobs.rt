@@ -71,35 +71,42 @@ fn blobs_are_kept(rt: HostRuntime) {
     assert!(rt; keeps_blobs(rt.alloc()) == Some(true));
 }
 
-/// A site that fails its second call after its effect, and its fourth without.
-fn failing(alloc: Global) -> Option<MemSite> {
-    let mut failing = Vec::new(alloc);
-    for (call, effect) in [(2, true), (4, false)] {
-        failing.push(Failing { call, effect }).ok()?;
-    }
+/// A site that fails its second call.
+fn failing(alloc: Global, effect: bool) -> Option<MemSite> {
+    let failing = vec![in alloc; Failing { call: 2, effect }].ok()?;
     Some(MemSite::new(alloc, failing))
 }
 
-/// What a site that fails its second and fourth call answers to a read of a row, a put, a get, a drop and a get.
-fn fails_in_turn(alloc: Global) -> Option<bool> {
+/// What comes of a put that fails after a row was read, and what a get shows then.
+fn failed_put(
+    alloc: Global,
+    effect: bool,
+) -> Option<(Result<(), SiteFault>, Result<Option<u8>, SiteFault>)> {
     let name = blob(alloc, 1)?;
-    let mut site = failing(alloc)?;
-    let read = site.read_row(alloc, &name.key).is_ok();
+    let mut site = failing(alloc, effect)?;
+    let _ = site.read_row(alloc, &name.key);
     let put = site.put_blob(alloc, &name, &[7]);
-    let found = get(alloc, &mut site, &name);
+    Some((put, get(alloc, &mut site, &name)))
+}
+
+/// What comes of a drop that fails after a put, and what a get shows then.
+fn failed_drop(
+    alloc: Global,
+    effect: bool,
+) -> Option<(Result<bool, SiteFault>, Result<Option<u8>, SiteFault>)> {
+    let name = blob(alloc, 1)?;
+    let mut site = failing(alloc, effect)?;
+    let _ = site.put_blob(alloc, &name, &[7]);
     let dropped = site.drop_blob(alloc, &name);
-    let kept = get(alloc, &mut site, &name);
-    Some(
-        read && put == Err(SiteFault::Failed)
-            && found == Ok(Some(7))
-            && dropped == Err(SiteFault::Failed)
-            && kept == Ok(Some(7)),
-    )
+    Some((dropped, get(alloc, &mut site, &name)))
 }
 
 #[test]
-fn calls_for_blobs_fail_in_turn(rt: HostRuntime) {
-    assert!(rt; fails_in_turn(rt.alloc()) == Some(true));
+fn calls_for_rows_and_blobs_count_together(rt: HostRuntime) {
+    assert!(rt; failed_put(rt.alloc(), true) == Some((Err(SiteFault::Failed), Ok(Some(7)))));
+    assert!(rt; failed_put(rt.alloc(), false) == Some((Err(SiteFault::Failed), Ok(None))));
+    assert!(rt; failed_drop(rt.alloc(), true) == Some((Err(SiteFault::Failed), Ok(None))));
+    assert!(rt; failed_drop(rt.alloc(), false) == Some((Err(SiteFault::Failed), Ok(Some(7)))));
 }
 
 /// What a put, two gets and a drop answer at two sites, the put and the drop at the second.
