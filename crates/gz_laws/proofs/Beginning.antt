@@ -46,7 +46,7 @@ sent_out : (first : ℕ) (outs : List Out) (ms : List Moment) (s : ℕ) → (sit
 sent_out first [] ms s = refl
 sent_out first (o ∷ os) ms s = let a = asked_of first o in sent_out (first + 1) os (Sent a ∷ ms) s ∙ still_in a (site_now ms s) (is_to a s)
 
-some_needed : (c : Config) (b : BallotAt) → IsConfig c → 1 ≤ need c.qc c.qf b
+pub some_needed : (c : Config) (b : BallotAt) → IsConfig c → 1 ≤ need c.qc c.qf b
 some_needed c b sizes =
     let q = sizes.quorums in
     let m = q.majority in

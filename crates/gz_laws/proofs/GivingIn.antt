@@ -182,11 +182,11 @@ no_promise : (s : State) (w : Caller) (past : List Tale) (ms : List Moment) (v :
 no_promise s w past ms v b k going idle last taken uncast short =
     let promised = last_promised_at ms v b last in
     let all = count_within s.cfg.n (λ i. not (site_now ms i).out) (λ i. promises_known v b (rows_known ms i)) (λ i below h.
-        let r = in_known s.cfg ms v i idle below h in
-        let shown = known_shown s w past ms i r.0 k r.1 in
-        let p = promise_taken r.0 v b shown.0.floor (taken i r.0 below r.1) in
-        let none = unvoted s w past ms v b (record { site = i; row = slots r.0 }) p.0 k promised uncast shown.1 p.1 in
-        ap (promises_known v b) r.1 ∙ ap (λ (x : Slot). slot_promises x b) p.1 ∙ ap (λ t. t && not (is_in b p.0)) (same_refl b) ∙ ap not none) in
+    let r = in_known s.cfg ms v i idle below h in
+    let shown = known_shown s w past ms i r.0 k r.1 in
+    let p = promise_taken r.0 v b shown.0.floor (taken i r.0 below r.1) in
+    let none = unvoted s w past ms v b (record { site = i; row = slots r.0 }) p.0 k promised uncast shown.1 p.1 in
+    ap (promises_known v b) r.1 ∙ ap (λ (x : Slot). slot_promises x b) p.1 ∙ ap (λ t. t && not (is_in b p.0)) (same_refl b) ∙ ap not none) in
     let enough = enough_in s.cfg ms going in
     omega (arith, all, enough, short)
 
@@ -203,16 +203,16 @@ no_vote s w past ms v b k going idle last taken =
     let majority = k.quorums.majority in
     let f = count_found c.n (λ i. not (site_now ms i).out) (omega (arith, enough, majority)) in
     let vote : (i : ℕ) → i < c.n → not (site_now ms i).out ≡ true → (row : RowAt) × ((y : Name) × ((rows_known ms i ≡ Some row) × ((votes_for b y v (Some row) ≡ true) × (votes l v b y i ≡ true)))) = λ i below h.
-        (let r = in_known c ms v i idle below h in
-        let shown = known_shown s w past ms i r.0 k r.1 in
-        let t = classic_taken r.0 v b shown.0.floor (taken i r.0 below r.1) in
-        (r.0, (t.0, (r.1, (t.1.1.1, row_votes l v b t.0 i (slots r.0) (inr (record { site = i; row = slots r.0 }, shown.1, refl, refl)) (t.1.0, t.1.1.0)))))) in
+    (let r = in_known c ms v i idle below h in
+    let shown = known_shown s w past ms i r.0 k r.1 in
+    let t = classic_taken r.0 v b shown.0.floor (taken i r.0 below r.1) in
+    (r.0, (t.0, (r.1, (t.1.1.1, row_votes l v b t.0 i (slots r.0) (inr (record { site = i; row = slots r.0 }, shown.1, refl, refl)) (t.1.0, t.1.1.0)))))) in
     let first = vote f.0 f.1 f.2 in
     let x = first.1.0 in
     let all = count_within c.n (λ i. not (site_now ms i).out) (λ i. votes_for b x v (rows_known ms i)) (λ i below h.
-        let o = vote i below h in
-        let same : o.1.0 ≡ x = carries_one c l v so b o.1.0 x i f.0 classic o.1.1.1.1 first.1.1.1.1 in
-        ap (λ r. votes_for b x v r) o.1.1.0 ∙ ap (λ (y : Name). votes_for b y v (Some o.0)) (sym same) ∙ o.1.1.1.0) in
+    let o = vote i below h in
+    let same : o.1.0 ≡ x = carries_one c l v so b o.1.0 x i f.0 classic o.1.1.1.1 first.1.1.1.1 in
+    ap (λ r. votes_for b x v r) o.1.1.0 ∙ ap (λ (y : Name). votes_for b y v (Some o.0)) (sym same) ∙ o.1.1.1.0) in
     let needed : need c.qc c.qf b ≡ c.qc = ap (λ t. if t then c.qf else c.qc) classic in
     idle.undecided x (inl (b, omega (arith, all, enough, needed)))
 
@@ -304,12 +304,12 @@ no_value s w past ms v b k h =
     let split : ds ≡ late ++ at.early = at.split ∙ one_by_one at.late d at.early in
     let tail = early_deeds c unused at.late (d ∷ at.early) (subst (λ ks. AreDeeds c unused ks) at.split k.run.deeds) in
     let fresh : (q : Write) (u : ℕ) → IsIn q (sent_after unused at.early) → q.act ≡ Promises u b → ⊥ = λ q u i is.
-        (let found : IsIn q (sent_after unused ds) = subst (λ ks. IsIn q (sent_after unused ks)) (sym split) (later_sent late at.early q i) in
-        let o = so.owned q mine.write u v b found mine.found is mine.promises in
-        let step = write_begun w.name at.early q i (o.0 ∙ mine.same) in
-        let there = sends_promised start v b (subst (λ a. HasStep (sends_of start) a) (is ∙ ap (λ x. Promises x b) o.1) (subst (λ xs. HasStep xs q.act) at.rest_is step)) in
-        let bad : true ≡ false = sym there ∙ before_unpromised v b ms in
-        cc) in
+    (let found : IsIn q (sent_after unused ds) = subst (λ ks. IsIn q (sent_after unused ks)) (sym split) (later_sent late at.early q i) in
+    let o = so.owned q mine.write u v b found mine.found is mine.promises in
+    let step = write_begun w.name at.early q i (o.0 ∙ mine.same) in
+    let there = sends_promised start v b (subst (λ a. HasStep (sends_of start) a) (is ∙ ap (λ x. Promises x b) o.1) (subst (λ xs. HasStep xs q.act) at.rest_is step)) in
+    let bad : true ≡ false = sym there ∙ before_unpromised v b ms in
+    cc) in
     let shown = shown_before c st start at.early v k.quorums tail.0 (positive_of c (seen_after unused ds) v ok.1) (before_keeps (MomentsStand st) (λ m ks x. x.1) v b ms stands) (before_keeps HeardInOrder order_tail v b ms k.order) tail.1.known h.begun (sym h.back) in
     let quorum : IsQuorumHeard c (seen_after unused ds) v b h.heard = record {
       sites = h.sites;

@@ -174,7 +174,7 @@ turn_theirs old new n r marked name tick outs there kept net = λ m x q at now.
     let mid = slice_set old (n - 1) marked in
     let sent = sent_requests name tick outs in
     let later : (y : RequestAt) → slice_get mid (m - 1) ≡ Some y → y ≡ q = λ y e.
-        (let both : Some y ≡ Some q = sym (place_numbered (mid ++ sent) m y p.0 (get_append mid sent (m - 1) y e)) ∙ ap (λ xs. numbered xs m) (sym net) ∙ now in cc) in
+    (let both : Some y ≡ Some q = sym (place_numbered (mid ++ sent) m y p.0 (get_append mid sent (m - 1) y e)) ∙ ap (λ xs. numbered xs m) (sym net) ∙ now in cc) in
     elim (cases_eq (m - 1) (n - 1)) [
       | inl e ↦ (let both : Some r ≡ Some x = sym k.1 ∙ sym (ap (slice_get old) e) ∙ p.1 in
           let same : r ≡ x = cc in

@@ -1,6 +1,7 @@
 pub mod Agreeing
 pub mod Agreement
 pub mod Beginning
+pub mod Bounding
 pub mod Carrying
 pub mod CastRuns
 pub mod Currents
@@ -23,6 +24,7 @@ pub mod Overtaking
 pub mod Placing
 pub mod Promising
 pub mod Recording
+pub mod RowBounds
 pub mod RunAnswers
 pub mod RunBegins
 pub mod RunDelivers
@@ -31,7 +33,9 @@ pub mod RunSites
 pub mod RunTools
 pub mod RunTurns
 pub mod Running
+pub mod SendBounds
 pub mod Sending
 pub mod Tales
 pub mod Values
 pub mod Valuing
+pub mod WorldBounds

@@ -1,5 +1,6 @@
 pub mod Agreed
 pub mod Begun
+pub mod Bounded
 pub mod Carried
 pub mod Each
 pub mod Exchanged

@@ -1,10 +1,11 @@
 //! What holds in every world that is reached.
 ghost use Rattle.gz_world.specs.States.{State};
-ghost use Rattle.std.specs.Prelude.{List, ℕ};
+ghost use Rattle.std.specs.Prelude.{List, length, ℕ, ◌*◌, ◌≤◌};
 ghost use Rattle.gz_ledger.specs.Deeds.{Deed};
 ghost use Rattle.gz_world.specs.Reached.{IsReached, AllTell};
 ghost use Rattle.gz_laws.specs.Runs.{IsRun};
 ghost use Rattle.gz_laws.specs.Listed.{AreListed};
+ghost use Rattle.gz_laws.specs.Bounded.{AreWithin, CanStand};
 ghost use Rattle.gz_laws.specs.Carried.{AreCarried};
 ghost use Rattle.gz_laws.specs.Each.{EachTale};
 ghost use Rattle.gz_laws.specs.Exchanged.{AreExchanged};
@@ -50,6 +51,15 @@ pub fn object_runs()
 /// value at one version; what is shown to a call is chosen, and what is chosen is backed by the rows of a quorum.
 pub fn agreement()
     ensures { (key : List ℕ) (s : State) → IsReached s → AllTell s → AreAgreed key s }
+{}
+
+/// In a world that is reached and whose sites tell what they hold, no version in a row is above the number of events, and no
+/// round above the number of requests, nor above sixteen for each event. So after as many events as a world takes each row
+/// is one that a run can hold, and none that a reply shows is unheard.
+pub fn rows_are_bounded()
+    ensures requests { (s : State) → IsReached s → AllTell s → AreWithin (length s.journal) (length s.net) s }
+    ensures events { (s : State) → IsReached s → AllTell s → AreWithin (length s.journal) (16 * length s.journal) s }
+    ensures stand { (s : State) → IsReached s → AllTell s → length s.journal ≤ 4000000 → CanStand s }
 {}
 
 /// In a world that is reached and whose sites tell what they hold, no call gives in for want of promises, votes or a

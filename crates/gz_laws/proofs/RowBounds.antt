@@ -1,0 +1,120 @@
+-- Rows whose versions and rounds are bounded.
+use Rattle.std.proofs.Common.{◌≡◌, ℕ, zero, suc, ◌+◌, ◌*◌, ◌^◌, ◌≤◌, ◌<◌, ◌⊎◌, inl, inr, List, [], ◌∷◌, Some, None, Bool, true, false, length, refl, ap, sym, ◌∙◌, subst, arith}
+use Rattle.std.proofs.lemmas.Bool.{cases_eq, and_from}
+use Rattle.std.proofs.lemmas.Bool.Decides.{nat_tests}
+use Rattle.std.specs.Prelude.{Option, ◌==◌, ◌&&◌, max, nat_lt, nat_le, if◌then◌else◌}
+use Rattle.std.specs.List.{list_all}
+use Rattle.gz_core.specs.Names.{Name, BallotAt}
+use Rattle.gz_core.specs.Rows.{RowAt, Rises, column_in}
+use Rattle.gz_core.specs.Slots.{Slot, slots, slot_of}
+use Rattle.gz_core.specs.declared.rows.Column.{Column}
+use Rattle.gz_core.specs.declared.rows.Column.TheVariants.{Open, Decided}
+use Rattle.gz_accept.specs.Steps.{with_column}
+use Rattle.gz_pick.specs.Evidences.{is_for, is_named, votes_for, decides}
+use Rattle.gz_pick.specs.Looks.{shows_value, top_in, row_top, column_vote, column_decision}
+use Rattle.gz_round.specs.Rounds.{slot_round, round_known, greatest}
+use Rattle.gz_round.specs.Sites.{column_stands, entry_stands, can_stand}
+use Rattle.gz_laws.specs.Bounded.{IsColumnWithin, AreColumnsWithin, IsRowWithin}
+use Rattle.gz_laws.proofs.Hearing.{slots_open}
+
+-- wider bounds
+column_wider : (r q : ℕ) (column : Column) → r ≤ q → IsColumnWithin r column → IsColumnWithin q column
+column_wider r q (Open promise vote) le h = omega (arith, le, h)
+column_wider r q (Decided value) le h = tt
+
+columns_wider : (v w r q : ℕ) (cs : List (ℕ × Column)) → v ≤ w → r ≤ q → AreColumnsWithin v r cs → AreColumnsWithin w q cs
+columns_wider v w r q [] a b h = tt
+columns_wider v w r q (c ∷ cs) a b h = let l = h.0 in (omega (arith, a, l), (column_wider r q c.1 b h.1.0, columns_wider v w r q cs a b h.1.1))
+
+pub row_wider : (v w r q : ℕ) (row : RowAt) → v ≤ w → r ≤ q → IsRowWithin v r row → IsRowWithin w q row
+row_wider v w r q row a b h = record { clean = h.clean; columns = columns_wider v w r q row.columns a b h.columns }
+
+-- a column that is there
+pub column_there : (versions rounds : ℕ) (cs : List (ℕ × Column)) (v : ℕ) (column : Column) → AreColumnsWithin versions rounds cs → column_in cs v ≡ Some column → (v ≤ versions) × IsColumnWithin rounds column
+column_there versions rounds [] v column h e = cc
+column_there versions rounds (c ∷ cs) v column h e =
+    elim (cases_eq c.0 v) [
+      | inl same ↦ (let t : (c.0 == v) ≡ true = grind (arith, nat_tests) in
+          let here : Some c.1 ≡ Some column = sym (ap (λ b. if b then Some c.1 else column_in cs v) t) ∙ e in
+          let is : c.1 ≡ column = cc in
+          let l = h.0 in
+          (omega (arith, same, l), subst (λ (k : Column). IsColumnWithin rounds k) is h.1.0))
+      | inr apart ↦ (let t : (c.0 == v) ≡ false = grind (arith, nat_tests) in
+          column_there versions rounds cs v column h.1.1 (sym (ap (λ b. if b then Some c.1 else column_in cs v) t) ∙ e))
+    ]
+
+-- one column more, or another one
+pub columns_with : (versions rounds v : ℕ) (column : Column) (cs : List (ℕ × Column)) → v ≤ versions → IsColumnWithin rounds column → AreColumnsWithin versions rounds cs → AreColumnsWithin versions rounds (with_column v column cs)
+columns_with versions rounds v column [] le is h = (le, (is, tt))
+columns_with versions rounds v column (c ∷ cs) le is h =
+    elim (nat_lt c.0 v) as (λ t. AreColumnsWithin versions rounds (if t then c ∷ with_column v column cs else (if nat_lt v c.0 then (v, column) ∷ c ∷ cs else (v, column) ∷ cs))) [
+      | true ↦ (h.0, (h.1.0, columns_with versions rounds v column cs le is h.1.1))
+      | false ↦ elim (nat_lt v c.0) as (λ t. AreColumnsWithin versions rounds (if t then (v, column) ∷ c ∷ cs else (v, column) ∷ cs)) [ true ↦ (le, (is, h)) | false ↦ (le, (is, h.1.1)) ]
+    ]
+
+-- the greatest version with a value
+pub top_within : (versions rounds : ℕ) (cs : List (ℕ × Column)) → AreColumnsWithin versions rounds cs → top_in cs ≤ versions
+top_within versions rounds [] h = omega arith
+top_within versions rounds (c ∷ cs) h =
+    let l = h.0 in
+    let r = top_within versions rounds cs h.1.1 in
+    elim (shows_value c.1) as (λ t. (if t then max c.0 (top_in cs) else top_in cs) ≤ versions) [ true ↦ omega (arith, l, r) | false ↦ r ]
+
+-- a vote or a decision that a row has
+vote_there : (o : Option Column) (b : BallotAt) (x : Name) → is_for b x (column_vote o) ≡ true → (column : Column) × (o ≡ Some column)
+vote_there None b x h = cc
+vote_there (Some column) b x h = (column, refl)
+
+decision_there : (o : Option Column) (x : Name) → is_named x (column_decision o) ≡ true → (column : Column) × (o ≡ Some column)
+decision_there None x h = cc
+decision_there (Some column) x h = (column, refl)
+
+pub vote_within : (versions rounds : ℕ) (row : RowAt) (v : ℕ) (b : BallotAt) (x : Name) → IsRowWithin versions rounds row → votes_for b x v (Some row) ≡ true → v ≤ versions
+vote_within versions rounds row v b x h e = let k = vote_there (column_in row.columns v) b x e in (column_there versions rounds row.columns v k.0 h.columns k.1).0
+
+pub decision_within : (versions rounds : ℕ) (row : RowAt) (v : ℕ) (x : Name) → IsRowWithin versions rounds row → decides x v (Some row) ≡ true → v ≤ versions
+decision_within versions rounds row v x h e = let k = decision_there (column_in row.columns v) x e in (column_there versions rounds row.columns v k.0 h.columns k.1).0
+
+-- the round that a row promises
+slot_within : (rounds : ℕ) (o : Option Column) → ((column : Column) → o ≡ Some column → IsColumnWithin rounds column) → slot_round (slot_of o) ≤ rounds
+slot_within rounds None h = omega arith
+slot_within rounds (Some (Open promise vote)) h = h (Open promise vote) refl
+slot_within rounds (Some (Decided value)) h = omega arith
+
+pub round_within : (versions rounds : ℕ) (row : RowAt) (v : ℕ) → IsRowWithin versions rounds row → round_known v (Some row) ≤ rounds
+round_within versions rounds row v h =
+    subst (λ (k : Slot). slot_round k ≤ rounds) (sym (slots_open row v h.clean.floor))
+    (slot_within rounds (column_in row.columns v) (λ column e. (column_there versions rounds row.columns v column h.columns e).1))
+
+pub greatest_within : (n most : ℕ) (f : ℕ → ℕ) → ((i : ℕ) → f i ≤ most) → greatest n f ≤ most
+greatest_within zero most f h = omega arith
+greatest_within (suc n) most f h = let r = greatest_within n most f h in let l = h n in omega (arith, r, l)
+
+-- versions that rise are not more than the greatest of them
+rises_most : (versions rounds bound : ℕ) (cs : List (ℕ × Column)) → Rises bound cs → AreColumnsWithin versions rounds cs → bound ≤ versions → length cs + bound ≤ versions
+rises_most versions rounds bound [] rises h le = omega (arith, le)
+rises_most versions rounds bound (c ∷ cs) rises h le = let r = rises_most versions rounds c.0 cs rises.1 h.1.1 h.0 in let above = rises.0 in omega (arith, r, above)
+
+column_can : (rounds : ℕ) (column : Column) → rounds < 2 ^ 31 → IsColumnWithin rounds column → column_stands column ≡ true
+column_can rounds (Open promise vote) few h = grind (arith, nat_tests)
+column_can rounds (Decided value) few h = refl
+
+columns_can : (versions rounds : ℕ) (cs : List (ℕ × Column)) → versions < 2 ^ 22 → rounds < 2 ^ 31 → AreColumnsWithin versions rounds cs → list_all entry_stands cs ≡ true
+columns_can versions rounds [] few low h = refl
+columns_can versions rounds (c ∷ cs) few low h =
+    let l = h.0 in
+    let below : c.0 < 2 ^ 62 = omega (arith, l, few) in
+    let t : nat_lt c.0 (2 ^ 62) ≡ true = grind (arith, nat_tests) in
+    and_from (entry_stands c) (list_all entry_stands cs) (and_from (nat_lt c.0 (2 ^ 62)) (column_stands c.1) t (column_can rounds c.1 low h.1.0)) (columns_can versions rounds cs few low h.1.1)
+
+-- such a row can stand
+pub row_can : (versions rounds : ℕ) (row : RowAt) → versions < 2 ^ 22 → rounds < 2 ^ 31 → IsRowWithin versions rounds row → can_stand row ≡ true
+row_can versions rounds row few low h =
+    let floor = h.clean.floor in
+    let most = rises_most versions rounds 0 row.columns h.clean.rises h.columns (omega arith) in
+    let a : row.floor < 2 ^ 62 = omega (arith, floor) in
+    let b : length row.columns < 2 ^ 22 = omega (arith, most, few) in
+    let s : nat_lt row.floor (2 ^ 62) ≡ true = grind (arith, nat_tests) in
+    let t : nat_lt (length row.columns) (2 ^ 22) ≡ true = grind (arith, nat_tests) in
+    and_from (nat_lt row.floor (2 ^ 62)) (nat_lt (length row.columns) (2 ^ 22) && list_all entry_stands row.columns) s
+    (and_from (nat_lt (length row.columns) (2 ^ 22)) (list_all entry_stands row.columns) t (columns_can versions rounds row.columns few low h.columns))

@@ -1,0 +1,78 @@
+-- How far the rows of a world go: no version is above the number of events, and no round above the number of requests, nor
+-- above the number of sites for each event. So no row is beyond the bounds on rows that no run can hold.
+use Rattle.std.specs.Prelude.{ℕ, ◌≡◌, ◌≤◌, true, List, [], ◌∷◌, Option, Some, None, slice_get}
+use Rattle.gz_core.specs.Names.{BallotAt}
+use Rattle.gz_core.specs.Rows.{RowAt}
+use Rattle.gz_core.specs.declared.rows.Column.{Column}
+use Rattle.gz_core.specs.declared.rows.Column.TheVariants.{Open, Decided}
+use Rattle.gz_core.specs.declared.requests.Op.{Op}
+use Rattle.gz_core.specs.declared.requests.Op.TheVariants.{ReadRow, WriteRow}
+use Rattle.gz_core.specs.declared.requests.Reply.{Reply}
+use Rattle.gz_core.specs.declared.requests.Reply.TheVariants.{Row, NoRow, Written, Changed, Failed}
+use Rattle.gz_round.specs.History.{Tale}
+use Rattle.gz_round.specs.Sent.{has_promised_at, top_round}
+use Rattle.gz_round.specs.Sites.{can_stand, seen_in, written_by}
+use Rattle.gz_round.specs.declared.hearing.Seen.{Seen}
+use Rattle.gz_site.specs.Told.{Told}
+use Rattle.gz_laws.specs.Each.{EachTale}
+use Rattle.gz_laws.specs.Heard.{IsClean}
+use Rattle.gz_world.specs.States.{RequestAt, State, numbered}
+
+-- no promise of a round above this one
+abbrev pub IsColumnWithin : ℕ → Column → Type 0
+IsColumnWithin rounds (Open promise vote) = promise.round ≤ rounds
+IsColumnWithin rounds (Decided value) = Unit {0}
+
+-- and no version above another number
+abbrev pub AreColumnsWithin : ℕ → ℕ → List (ℕ × Column) → Type 0
+AreColumnsWithin versions rounds [] = Unit {0}
+AreColumnsWithin versions rounds (c ∷ cs) = (c.0 ≤ versions) × (IsColumnWithin rounds c.1 × AreColumnsWithin versions rounds cs)
+
+pub record IsRowWithin (versions rounds : ℕ) (row : RowAt) : Type 0 where
+  pub clean : IsClean row
+  pub columns : AreColumnsWithin versions rounds row.columns
+
+-- what holds of a row that a site keeps, of one that a request writes, and of one that a reply shows
+abbrev pub IfKept : (RowAt → Type 0) → Option (ℕ × RowAt) → Type 0
+IfKept P None = Unit {0}
+IfKept P (Some kept) = P kept.1
+
+abbrev pub IfWritten : (RowAt → Type 0) → Op → Type 0
+IfWritten P (ReadRow key) = Unit {0}
+IfWritten P (WriteRow key expect step row) = P row
+
+abbrev pub IfShown : (RowAt → Type 0) → Reply → Type 0
+IfShown P (Row etag row) = P row
+IfShown P NoRow = Unit {0}
+IfShown P (Written etag) = Unit {0}
+IfShown P Changed = Unit {0}
+IfShown P Failed = Unit {0}
+
+-- of all rows of a world
+pub record EachRow (P : RowAt → Type 0) (s : State) : Type 0 where
+  pub sites : (i : ℕ) (told : Told) (key : List ℕ) → s.sites i ≡ Some told → IfKept P (told.rows key)
+  pub requests : (n : ℕ) (r : RequestAt) → numbered s.net n ≡ Some r → IfWritten P r.op
+  pub replies : (n place tick : ℕ) (r : RequestAt) (reply : Reply) → numbered s.net n ≡ Some r → slice_get r.replies place ≡ Some (tick, reply) → IfShown P reply
+
+-- a call promised no ballot of a round above this one, and none at a version above the other number
+pub record ArePromisesWithin (versions rounds : ℕ) (t : Tale) : Type 0 where
+  pub rounds_low : top_round t.moments ≤ rounds
+  pub versions_low : (v : ℕ) (b : BallotAt) → has_promised_at t.moments v b ≡ true → v ≤ versions
+
+pub record AreWithin (versions rounds : ℕ) (s : State) : Type 0 where
+  pub rows : EachRow (IsRowWithin versions rounds) s
+  pub tales : (session : ℕ) → EachTale (ArePromisesWithin versions rounds) (s.tales session)
+
+-- a row that is shown is heard
+abbrev pub IsHeard : Op → Reply → Type 0
+IsHeard op (Row etag row) = seen_in (written_by op) (Row etag row) ≡ Some (record { etag = Some etag; row = row })
+IsHeard op NoRow = Unit {0}
+IsHeard (ReadRow key) (Written etag) = Unit {0}
+IsHeard (WriteRow key expect step row) (Written etag) = seen_in (Some row) (Written etag) ≡ Some (record { etag = Some etag; row = row })
+IsHeard op Changed = Unit {0}
+IsHeard op Failed = Unit {0}
+
+-- each row is one that a run can hold, and none that a reply shows is unheard
+pub record CanStand (s : State) : Type 0 where
+  pub rows : EachRow (λ row. can_stand row ≡ true) s
+  pub heard : (n place tick : ℕ) (r : RequestAt) (reply : Reply) → numbered s.net n ≡ Some r → slice_get r.replies place ≡ Some (tick, reply) → IsHeard r.op reply
