@@ -6,12 +6,15 @@ use Rattle.std.proofs.lemmas.Bool.Decides.{nat_tests}
 use Rattle.gz_core.specs.Names.{Name, BallotAt, fast, is_below}
 use Rattle.gz_core.specs.Values.{name_of}
 use Rattle.gz_core.specs.Rows.{RowAt, IsRow, column_in}
-use Rattle.gz_core.specs.Slots.{Slot, Gone, OpenAt, DecidedAs, Act, VotesFast, Promises, VotesClassic, Decides, Trims, slots, slot_of, with_slot, trimmed}
+use Rattle.gz_core.specs.declared.slots.Slot.{Slot}
+use Rattle.gz_core.specs.declared.slots.Slot.TheVariants.{Gone, OpenAt, DecidedAs}
+use Rattle.gz_core.specs.Slots.{Act, VotesFast, Promises, VotesClassic, Decides, Trims, slots, slot_of, with_slot, trimmed}
 use Rattle.gz_core.specs.declared.rows.Column.{Column}
 use Rattle.gz_core.specs.declared.rows.Column.TheVariants.{Open, Decided}
 use Rattle.gz_accept.specs.Laws.{Leads, PromisesRise, VotesRise, DecisionsStay, CollectedStays, IsAtLeast}
 use Rattle.gz_core.proofs.Ballots.{below_never, below_not, not_below_trans}
 use Rattle.gz_accept.proofs.Making.{KeepsRule, column_rule}
+use Rattle.gz_accept.proofs.Seen.{slot_there}
 
 -- a vote stays, or one comes that is not below the promise
 abbrev VoteGoes : BallotAt → Option (BallotAt × Name) → Option (BallotAt × Name) → Type 0
@@ -61,11 +64,6 @@ trim_goes r to x there same v =
         | inr f ↦ rw (e, f) (stays (r v))
       ]
     ]
-
-slot_there : (column : Option Column) → slot_of column ≢ Gone
-slot_there None = λ gone. cc
-slot_there (Some (Open promise vote)) = λ gone. cc
-slot_there (Some (Decided value)) = λ gone. cc
 
 -- a version is collected exactly where it is at or below a floor that was raised
 collected_low : (row : RowAt) (v : ℕ) → slots row v ≡ Gone → (nat_lt 0 row.floor && nat_le v row.floor) ≡ true

@@ -4,10 +4,12 @@ use Rattle.std.specs.Prelude.{filter, ◌==◌, Result, Ok, Err, OnOk, OnErr}
 use Rattle.std.proofs.lemmas.Bool.{cases_Bool}
 use Rattle.std.proofs.lemmas.Bool.Decides.{nat_tests}
 use Rattle.gz_core.specs.Rows.{RowAt, IsRow, Rises, AreColumns, IsColumn, StartsDecided, column_in}
+use Rattle.gz_core.specs.Slots.{slots, slot_of}
 use Rattle.gz_core.specs.declared.values.Value.{Value}
 use Rattle.gz_core.specs.declared.rows.Column.{Column}
 use Rattle.gz_core.specs.declared.rows.Column.TheVariants.{Open, Decided}
-use Rattle.gz_accept.specs.Steps.{with_column, with_column_at, trimmed_to, column_or_blank, IsOpenColumn}
+use Rattle.gz_accept.specs.Steps.{with_column, with_column_at, trimmed_to, IsOpenSlot}
+use Rattle.gz_accept.proofs.Seen.{open_above, open_there, slots_there}
 
 -- a lower bound serves too
 pub rises_from : (a b : ℕ) (cs : List (ℕ × Column)) → a ≤ b → Rises b cs → Rises a cs
@@ -34,7 +36,7 @@ columns_with v column (c ∷ cs) rule rules =
     ]
 
 -- above a raised floor the first column is decided, so one that is open does not come before it or replace it
-pub starts_with : (v floor : ℕ) (column : Column) (cs : List (ℕ × Column)) → floor < v → IsOpenColumn (column_or_blank (column_in cs v)) → StartsDecided floor cs → StartsDecided floor (with_column v column cs)
+pub starts_with : (v floor : ℕ) (column : Column) (cs : List (ℕ × Column)) → floor < v → IsOpenSlot (slot_of (column_in cs v)) → StartsDecided floor cs → StartsDecided floor (with_column v column cs)
 starts_with v floor column [] above free starts = inl starts
 starts_with v floor column (c ∷ cs) above free (inl none) =
     elim (cases_Bool (nat_lt c.0 v)) [
@@ -48,12 +50,15 @@ starts_with v floor column ((u, Decided value) ∷ cs) above free (inr first) =
     ]
 starts_with v floor column ((u, Open promise vote) ∷ cs) above free (inr first) = absurd first.1
 
-pub row_with : (row : RowAt) (v : ℕ) (column : Column) → IsRow row → row.floor < v → IsColumn column → IsOpenColumn (column_or_blank (column_in row.columns v)) → IsRow (with_column_at row v column)
-row_with row v column rule above kept free = record {
-  rises = rises_with v row.floor column row.columns above rule.rises;
-  columns = columns_with v column row.columns kept rule.columns;
-  starts = starts_with v row.floor column row.columns above free rule.starts;
-}
+pub row_with : (row : RowAt) (v : ℕ) (column : Column) → IsRow row → 1 ≤ v → IsColumn column → IsOpenSlot (slots row v) → IsRow (with_column_at row v column)
+row_with row v column rule first kept free =
+    let above = open_above row v first free in
+    let vacant : IsOpenSlot (slot_of (column_in row.columns v)) = subst IsOpenSlot (slots_there row v (open_there (slots row v) free)) free in
+    record {
+      rises = rises_with v row.floor column row.columns above rule.rises;
+      columns = columns_with v column row.columns kept rule.columns;
+      starts = starts_with v row.floor column row.columns above vacant rule.starts;
+    }
 
 -- the columns above a version rise from it on
 pub rises_filter : (bound to : ℕ) (cs : List (ℕ × Column)) → Rises bound cs → Rises bound (filter (λ c. nat_lt to c.0) cs)
@@ -99,14 +104,13 @@ row_trimmed row to value rule above = record {
 
 -- a column put in place, or an unchanged row where memory ran out
 pub row_put : {E : Type 0} (row : RowAt) (v : ℕ) (column : Column) (floor : ℕ) (before after : List (ℕ × Column)) (result : Result (Unit {0}) E) →
-    record { floor = floor; columns = before } ≡ row → IsRow (record { floor = floor; columns = before }) → row.floor < v → IsColumn column → IsOpenColumn (column_or_blank (column_in row.columns v)) →
+    record { floor = floor; columns = before } ≡ row → IsRow (record { floor = floor; columns = before }) → 1 ≤ v → IsColumn column → IsOpenSlot (slots row v) →
     OnOk result (after ≡ with_column v column before) → OnErr result (after ≡ before) → IsRow (record { floor = floor; columns = after })
-row_put row v column floor before after (Ok done) seen rule above kept free put same =
+row_put row v column floor before after (Ok done) seen rule first kept free put same =
     let old : RowAt = record { floor = floor; columns = before } in
-    let over : floor < v = subst (λ (r : RowAt). r.floor < v) (sym seen) above in
-    let vacant : IsOpenColumn (column_or_blank (column_in before v)) = subst (λ (r : RowAt). IsOpenColumn (column_or_blank (column_in r.columns v))) (sym seen) free in
-    subst (λ (cs : List (ℕ × Column)). IsRow (record { floor = floor; columns = cs })) (sym put) (row_with old v column rule over kept vacant)
-row_put row v column floor before after (Err failed) seen rule above kept free put same =
+    let vacant : IsOpenSlot (slots old v) = subst (λ (r : RowAt). IsOpenSlot (slots r v)) (sym seen) free in
+    subst (λ (cs : List (ℕ × Column)). IsRow (record { floor = floor; columns = cs })) (sym put) (row_with old v column rule first kept vacant)
+row_put row v column floor before after (Err failed) seen rule first kept free put same =
     subst (λ (cs : List (ℕ × Column)). IsRow (record { floor = floor; columns = cs })) (sym same) rule
 
 -- what a collection leaves

@@ -1,6 +1,6 @@
 -- A row seen version by version, over one column put in place and over columns that are collected.
-use Rattle.std.proofs.Common.{◌≡◌, ℕ, ◌+◌, ◌<◌, true, false, List, [], ◌∷◌, refl, sym, inl, inr, arith, nat_lt, Option, Some, None, ◌∙◌}
-use Rattle.std.specs.Prelude.{filter, ◌==◌, nat_le, if◌then◌else◌}
+use Rattle.std.proofs.Common.{◌≡◌, ℕ, ◌+◌, ◌<◌, ◌≤◌, true, false, List, [], ◌∷◌, refl, sym, subst, inl, inr, arith, nat_lt, Option, Some, None, ◌∙◌}
+use Rattle.std.specs.Prelude.{filter, ◌==◌, ◌&&◌, ◌≢◌, nat_le, if◌then◌else◌}
 use Rattle.std.proofs.lemmas.Bool.{cases_Bool}
 use Rattle.std.proofs.lemmas.Bool.Decides.{nat_tests}
 use mathlib.Core.Path.{fun_ext}
@@ -9,8 +9,10 @@ use Rattle.gz_core.specs.Slots.{slots, slot_of, with_slot, trimmed}
 use Rattle.gz_core.specs.Values.{name_of}
 use Rattle.gz_core.specs.declared.values.Value.{Value}
 use Rattle.gz_core.specs.declared.rows.Column.{Column}
-use Rattle.gz_core.specs.declared.rows.Column.TheVariants.{Decided}
-use Rattle.gz_accept.specs.Steps.{with_column, with_column_at, column_or_blank, trimmed_to}
+use Rattle.gz_core.specs.declared.rows.Column.TheVariants.{Open, Decided}
+use Rattle.gz_core.specs.declared.slots.Slot.{Slot}
+use Rattle.gz_core.specs.declared.slots.Slot.TheVariants.{Gone, DecidedAs, OpenAt}
+use Rattle.gz_accept.specs.Steps.{with_column, with_column_at, trimmed_to, IsOpenSlot}
 
 -- the column that was put is the one of its version, and every other version keeps its own
 pub column_in_with : (v : ℕ) (column : Column) (cs : List (ℕ × Column)) (u : ℕ) → column_in (with_column v column cs) u ≡ (if v == u then Some column else column_in cs u)
@@ -44,22 +46,45 @@ pub slots_above : (row : RowAt) (v : ℕ) → row.floor < v → slots row v ≡ 
 slots_above row v above = let open_one : nat_le v row.floor ≡ false = grind (arith, nat_tests) in
     elim (cases_Bool (nat_lt 0 row.floor)) [ inl e ↦ rw (e, open_one) refl | inr e ↦ rw e refl ]
 
--- a version without a column reads as the blank one
-pub slot_of_blank : (column : Option Column) → slot_of column ≡ slot_of (Some (column_or_blank column))
-slot_of_blank None = refl
-slot_of_blank (Some column) = refl
+-- no column makes a version read as collected
+pub slot_there : (column : Option Column) → slot_of column ≢ Gone
+slot_there None = λ gone. cc
+slot_there (Some (Open promise vote)) = λ gone. cc
+slot_there (Some (Decided value)) = λ gone. cc
 
-slots_with_at : (row : RowAt) (v : ℕ) (column : Column) → row.floor < v → (u : ℕ) → slots (with_column_at row v column) u ≡ with_slot (slots row) v (slot_of (Some column)) u
-slots_with_at row v column above u =
+-- a version that was not collected is not at or below a floor that was raised
+not_low : (row : RowAt) (v : ℕ) → slots row v ≢ Gone → (nat_lt 0 row.floor && nat_le v row.floor) ≡ false
+not_low row v there = elim (cases_Bool (nat_lt 0 row.floor && nat_le v row.floor)) [ inl e ↦ absurd (there (rw e refl)) | inr e ↦ e ]
+
+-- it shows its column
+pub slots_there : (row : RowAt) (v : ℕ) → slots row v ≢ Gone → slots row v ≡ slot_of (column_in row.columns v)
+slots_there row v there = rw (not_low row v there) refl
+
+-- a slot that is open was not collected
+pub open_there : (slot : Slot) → IsOpenSlot slot → slot ≢ Gone
+open_there Gone open_one = absurd open_one
+open_there (DecidedAs x) open_one = λ gone. cc
+open_there (OpenAt promise vote) open_one = λ gone. cc
+
+-- an open version stands above the floor
+pub open_above : (row : RowAt) (v : ℕ) → 1 ≤ v → IsOpenSlot (slots row v) → row.floor < v
+open_above row v first open_one = let low = not_low row v (open_there (slots row v) open_one) in grind (arith, nat_tests)
+
+slots_here : (row : RowAt) (v : ℕ) (column : Column) → slots row v ≢ Gone → slots (with_column_at row v column) v ≡ slot_of (Some column)
+slots_here row v column there =
+    let same : (v == v) ≡ true = grind (arith, nat_tests) in
+    rw (not_low row v there, column_in_with v column row.columns v, same) refl
+
+slots_with_at : (row : RowAt) (v : ℕ) (column : Column) → slots row v ≢ Gone → (u : ℕ) → slots (with_column_at row v column) u ≡ with_slot (slots row) v (slot_of (Some column)) u
+slots_with_at row v column there u =
     elim (cases_Bool (u == v)) [
-      | inl e ↦ let same : (v == u) ≡ true = grind (arith, nat_tests) in
-          let over : row.floor < u = grind (arith, nat_tests) in
-          rw e (slots_above (with_column_at row v column) u over ∙ rw (column_in_with v column row.columns u, same) refl)
+      | inl e ↦ let same : v ≡ u = grind (arith, nat_tests) in
+          rw e (subst (λ (w : ℕ). slots (with_column_at row v column) w ≡ slot_of (Some column)) same (slots_here row v column there))
       | inr e ↦ let other : (v == u) ≡ false = grind (arith, nat_tests) in rw (e, column_in_with v column row.columns u, other) refl
     ]
 
-pub slots_with : (row : RowAt) (v : ℕ) (column : Column) → row.floor < v → slots (with_column_at row v column) ≡ with_slot (slots row) v (slot_of (Some column))
-slots_with row v column above = fun_ext (λ u. slots_with_at row v column above u)
+pub slots_with : (row : RowAt) (v : ℕ) (column : Column) → slots row v ≢ Gone → slots (with_column_at row v column) ≡ with_slot (slots row) v (slot_of (Some column))
+slots_with row v column there = fun_ext (λ u. slots_with_at row v column there u)
 
 -- the row after a collection
 slots_trimmed_at : (row : RowAt) (to : ℕ) (value : Value) → row.floor < to → (u : ℕ) → slots (trimmed_to row to value) u ≡ trimmed (slots row) to (name_of value) u

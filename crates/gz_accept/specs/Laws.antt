@@ -2,7 +2,9 @@
 use Rattle.std.specs.Prelude.{ℕ, ◌≡◌, false, ◌⊎◌, Option, Some, None}
 use Rattle.gz_core.specs.Names.{Name, BallotAt, is_below}
 use Rattle.gz_core.specs.Rows.{RowAt, IsRow}
-use Rattle.gz_core.specs.Slots.{Slot, Gone, DecidedAs, OpenAt, Act, Makes, slots}
+use Rattle.gz_core.specs.Slots.{Act, Makes, slots}
+use Rattle.gz_core.specs.declared.slots.Slot.{Slot}
+use Rattle.gz_core.specs.declared.slots.Slot.TheVariants.{Gone, DecidedAs, OpenAt}
 
 -- a step from a row that keeps its rule to another
 abbrev pub Leads : Act → RowAt → (ℕ → Slot) → Type 0

@@ -2,8 +2,10 @@
 -- (Lamport 2006, "Fast Paxos", section 2.)
 use Rattle.std.specs.Prelude.{ℕ, ◌+◌, false, Bool, nat_lt, nat_le, if◌then◌else◌, List, [], ◌∷◌, filter, Option, Some, None, is_some, Result, Ok, Err}
 use Rattle.gz_core.specs.Names.{Name, BallotAt, fast, is_below, same_ballot, same_name}
-use Rattle.gz_core.specs.Values.{name_of}
 use Rattle.gz_core.specs.Rows.{RowAt, column_in}
+use Rattle.gz_core.specs.Slots.{slots}
+use Rattle.gz_core.specs.declared.slots.Slot.{Slot}
+use Rattle.gz_core.specs.declared.slots.Slot.TheVariants.{Gone, DecidedAs, OpenAt}
 use Rattle.gz_core.specs.declared.values.Value.{Value}
 use Rattle.gz_core.specs.declared.rows.Vote.{Vote}
 use Rattle.gz_core.specs.declared.rows.Column.{Column}
@@ -11,68 +13,65 @@ use Rattle.gz_core.specs.declared.rows.Column.TheVariants.{Open, Decided}
 use Rattle.gz_accept.specs.declared.answers.Step.{Step}
 use Rattle.gz_accept.specs.declared.answers.Step.TheVariants.{Done, Already, Below, Settled, Trimmed}
 
--- a version without a column reads as open, with the fast ballot's promise and no vote
-abbrev pub column_or_blank : Option Column → Column
-column_or_blank None = Open fast None
-column_or_blank (Some column) = column
-
--- a version that was collected answers with the floor, another one by its column
-abbrev pub answer_at : RowAt → ℕ → (Column → Step) → Step
-answer_at row v answer = if nat_le v row.floor then Trimmed row.floor else answer (column_or_blank (column_in row.columns v))
-
 -- a vote stands in this ballot
-abbrev pub is_cast_in : BallotAt → Option Vote → Bool
+abbrev pub is_cast_in : BallotAt → Option (BallotAt × Name) → Bool
 is_cast_in b None = false
-is_cast_in b (Some vote) = same_ballot vote.ballot b
+is_cast_in b (Some vote) = same_ballot vote.0 b
 
--- at an open column a promise above the ballot comes first, and then a step that was taken already
+-- at an open slot a promise above the ballot comes first, and then a step that was taken already
 abbrev pub open_answer : BallotAt → BallotAt → Bool → Step
 open_answer promise b taken = if is_below b promise then Below promise else (if taken then Already else Done)
 
 -- the fast ballot takes one vote, where nothing above it is promised
-abbrev pub fast_column : Column → Step
-fast_column (Decided value) = Settled
-fast_column (Open promise vote) = open_answer promise fast (is_some vote)
+abbrev pub fast_at : ℕ → Slot → Step
+fast_at floor Gone = Trimmed floor
+fast_at floor (DecidedAs x) = Settled
+fast_at floor (OpenAt promise vote) = open_answer promise fast (is_some vote)
 
 -- a promise rises
-abbrev pub promise_column : BallotAt → Column → Step
-promise_column b (Decided value) = Settled
-promise_column b (Open promise vote) = open_answer promise b (same_ballot promise b)
+abbrev pub promise_at : BallotAt → ℕ → Slot → Step
+promise_at b floor Gone = Trimmed floor
+promise_at b floor (DecidedAs x) = Settled
+promise_at b floor (OpenAt promise vote) = open_answer promise b (same_ballot promise b)
 
 -- a classic ballot takes one vote, where nothing above it is promised
-abbrev pub classic_column : BallotAt → Column → Step
-classic_column b (Decided value) = Settled
-classic_column b (Open promise vote) = open_answer promise b (is_cast_in b vote)
+abbrev pub classic_at : BallotAt → ℕ → Slot → Step
+classic_at b floor Gone = Trimmed floor
+classic_at b floor (DecidedAs x) = Settled
+classic_at b floor (OpenAt promise vote) = open_answer promise b (is_cast_in b vote)
 
 -- a decision is taken once
-abbrev pub decide_column : Column → Step
-decide_column (Decided value) = Settled
-decide_column (Open promise vote) = Done
+abbrev pub decide_at : ℕ → Slot → Step
+decide_at floor Gone = Trimmed floor
+decide_at floor (DecidedAs x) = Settled
+decide_at floor (OpenAt promise vote) = Done
 
 -- the version above a new floor may be decided as this name alone
-abbrev pub trim_column : Name → Column → Step
-trim_column x (Decided value) = if same_name (name_of value) x then Done else Settled
-trim_column x (Open promise vote) = Done
+abbrev pub trim_at : Name → Slot → Step
+trim_at x Gone = Already
+trim_at x (DecidedAs y) = if same_name y x then Done else Settled
+trim_at x (OpenAt promise vote) = Done
 
 abbrev pub fast_answer : RowAt → ℕ → Step
-fast_answer row v = answer_at row v fast_column
+fast_answer row v = fast_at row.floor (slots row v)
 
 abbrev pub promise_answer : RowAt → ℕ → BallotAt → Step
-promise_answer row v b = answer_at row v (promise_column b)
+promise_answer row v b = promise_at b row.floor (slots row v)
 
 abbrev pub classic_answer : RowAt → ℕ → BallotAt → Step
-classic_answer row v b = answer_at row v (classic_column b)
+classic_answer row v b = classic_at b row.floor (slots row v)
 
 abbrev pub decide_answer : RowAt → ℕ → Step
-decide_answer row v = answer_at row v decide_column
+decide_answer row v = decide_at row.floor (slots row v)
 
 abbrev pub trim_answer : RowAt → ℕ → Name → Step
-trim_answer row to x = if nat_le to row.floor then Already else trim_column x (column_or_blank (column_in row.columns (to + 1)))
+trim_answer row to x = if nat_le to row.floor then Already else trim_at x (slots row (to + 1))
 
--- a column that is not decided
-abbrev pub IsOpenColumn : Column → Type 0
-IsOpenColumn (Open promise vote) = Unit {0}
-IsOpenColumn (Decided value) = ⊥
+-- a slot that is open
+abbrev pub IsOpenSlot : Slot → Type 0
+IsOpenSlot Gone = ⊥
+IsOpenSlot (DecidedAs x) = ⊥
+IsOpenSlot (OpenAt promise vote) = Unit {0}
 
 -- the columns with another one at a version
 abbrev pub with_column : ℕ → Column → List (ℕ × Column) → List (ℕ × Column)
@@ -83,10 +82,11 @@ with_column v column (c ∷ cs) = if nat_lt c.0 v then c ∷ with_column v colum
 abbrev pub with_column_at : RowAt → ℕ → Column → RowAt
 with_column_at row v column = record { floor = row.floor; columns = with_column v column row.columns }
 
--- the vote that a column holds
-abbrev pub vote_in : Column → Option Vote
-vote_in (Open promise vote) = vote
-vote_in (Decided value) = None
+-- the vote of a column, where there is one
+abbrev pub vote_in : Option Column → Option Vote
+vote_in None = None
+vote_in (Some (Open promise vote)) = vote
+vote_in (Some (Decided value)) = None
 
 -- a vote in the fast ballot
 abbrev pub fast_voted : RowAt → ℕ → Value → RowAt
@@ -94,7 +94,7 @@ fast_voted row v x = with_column_at row v (Open fast (Some (record { ballot = fa
 
 -- a promise, over the vote that stands
 abbrev pub promised : RowAt → ℕ → BallotAt → RowAt
-promised row v b = with_column_at row v (Open b (vote_in (column_or_blank (column_in row.columns v))))
+promised row v b = with_column_at row v (Open b (vote_in (column_in row.columns v)))
 
 -- a vote in a classic ballot, with its promise
 abbrev pub classic_voted : RowAt → ℕ → BallotAt → Value → RowAt

@@ -1,9 +1,10 @@
 //! One column of a row put in place, over the columns that stand there.
 ghost use Rattle.std.specs.Prelude.{◌≡◌, ◌<◌, ◌≤◌, length, filter, nat_lt, slice_set, IfOk, IfErr, OnOk, OnErr};
 ghost use Rattle.std.specs.List.{insert};
-ghost use Rattle.gz_core.specs.Rows.{column_in, IsColumn};
+ghost use Rattle.gz_core.specs.Rows.{IsColumn};
+ghost use Rattle.gz_core.specs.Slots.{slots};
 ghost use Rattle.gz_core.specs.declared.rows.Column.{Column};
-ghost use Rattle.gz_accept.specs.Steps.{with_column, with_column_at, column_or_blank, IsOpenColumn};
+ghost use Rattle.gz_accept.specs.Steps.{with_column, with_column_at, IsOpenSlot};
 
 use gz_core::{Column, Items, Row, Version};
 use std::alloc::AllocError;
@@ -11,9 +12,9 @@ use std::alloc::AllocError;
 /// Puts a column at a version of the row that is open so far.
 #[tactic(auto, using(crate::proofs::Rising::row_put))]
 pub fn put_column(row: &mut Row, v: Version, column: Column) -> Result<(), AllocError>
-    requires above { row.old.floor < v }
+    requires version { 1 ≤ v }
     requires rule { IsColumn column }
-    requires free { IsOpenColumn (column_or_blank (column_in row.old.columns v)) }
+    requires free { IsOpenSlot (slots row.old v) }
     ensures ok { OnOk result (row.new ≡ with_column_at row.old v column) }
     ensures err { OnErr result (row.new ≡ row.old) }
 {

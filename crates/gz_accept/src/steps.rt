@@ -4,7 +4,7 @@ ghost use Rattle.gz_core.specs.Names.{IsClassic};
 ghost use Rattle.gz_core.specs.Rows.{IsRow, column_in};
 ghost use Rattle.gz_core.specs.Values.{name_of};
 ghost use Rattle.gz_core.specs.Slots.{Makes, slots, VotesFast, Promises, VotesClassic, Decides, Trims};
-ghost use Rattle.gz_accept.specs.Steps.{fast_answer, promise_answer, classic_answer, decide_answer, trim_answer, fast_voted, promised, classic_voted, decided, trimmed_to, row_after, AtDone, vote_in, column_or_blank, with_column_at, IsOpenColumn};
+ghost use Rattle.gz_accept.specs.Steps.{fast_answer, promise_answer, classic_answer, decide_answer, trim_answer, fast_voted, promised, classic_voted, decided, trimmed_to, row_after, AtDone, vote_in, with_column_at, IsOpenSlot};
 
 use crate::answers::{Step, classic_step, decide_step, fast_step, promise_step, trim_step};
 use crate::columns::{keep_above, put, put_column};
@@ -98,8 +98,8 @@ pub fn trim(row: &mut Row, to: Version, x: &Value) -> Result<Step, AllocError>
 
 /// Puts a vote for `x` in a ballot, with the promise of that ballot.
 fn cast(row: &mut Row, v: Version, ballot: Ballot, x: &Value) -> Result<(), AllocError>
-    requires above { row.old.floor < v }
-    requires free { IsOpenColumn (column_or_blank (column_in row.old.columns v)) }
+    requires version { 1 ≤ v }
+    requires free { IsOpenSlot (slots row.old v) }
     ensures ok { OnOk result (row.new ≡ with_column_at row.old v (Column.Open ballot (Some (record { ballot = ballot; value = x.now })))) }
     ensures err { OnErr result (row.new ≡ row.old) }
 {
@@ -141,7 +141,7 @@ fn decided_column(x: &Value) -> Result<Column, AllocError>
 
 /// A copy of the vote that stands at a version, if there is one.
 fn vote_at(row: &Row, v: Version) -> Result<Option<Vote>, AllocError>
-    ensures vote { IfOk result (λ vote. vote ≡ vote_in (column_or_blank (column_in row.now.columns v))) }
+    ensures vote { IfOk result (λ vote. vote ≡ vote_in (column_in row.now.columns v)) }
     ensures row { IsRow row.now }
 {
     match row.column(v) {

@@ -1,3 +1,5 @@
 pub mod Ballots
+pub mod Columns
 pub mod Counting
 pub mod Quorums
+pub mod SlotNames

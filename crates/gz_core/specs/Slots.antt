@@ -6,14 +6,10 @@ use Rattle.gz_core.specs.Rows.{RowAt, column_in}
 use Rattle.gz_core.specs.declared.rows.Vote.{Vote}
 use Rattle.gz_core.specs.declared.rows.Column.{Column}
 use Rattle.gz_core.specs.declared.rows.Column.TheVariants.{Open, Decided}
+use Rattle.gz_core.specs.declared.slots.Slot.{Slot}
+use Rattle.gz_core.specs.declared.slots.Slot.TheVariants.{Gone, DecidedAs, OpenAt}
 use Rattle.gz_core.specs.declared.requests.RowStep.{RowStep}
 use Rattle.gz_core.specs.declared.requests.RowStep.TheVariants.{FastVote, Promise, ClassicVote, Decide, Trim}
-
--- an acceptor's state at one version: collected, known to be chosen, or open with a promise and perhaps a vote
-pub data Slot : Type 0 where
-  Gone : Slot
-  DecidedAs : Name → Slot
-  OpenAt : BallotAt → Option (BallotAt × Name) → Slot
 
 -- the ballot of a vote and the name of its value
 abbrev pub vote_pair : Option Vote → Option (BallotAt × Name)
@@ -29,6 +25,29 @@ slot_of (Some (Decided value)) = DecidedAs (name_of value)
 -- the row, version by version; a floor of 0 means that nothing was collected
 abbrev pub slots : RowAt → ℕ → Slot
 slots row v = if nat_lt 0 row.floor && nat_le v row.floor then Gone else slot_of (column_in row.columns v)
+
+-- the vote that stands
+abbrev pub slot_vote : Slot → Option (BallotAt × Name)
+slot_vote Gone = None
+slot_vote (DecidedAs x) = None
+slot_vote (OpenAt promise vote) = vote
+
+-- the name that is known to be chosen
+abbrev pub slot_decision : Slot → Option Name
+slot_decision Gone = None
+slot_decision (DecidedAs x) = Some x
+slot_decision (OpenAt promise vote) = None
+
+-- the name of a vote's value
+abbrev pub voted_name : Option (BallotAt × Name) → Option Name
+voted_name None = None
+voted_name (Some vote) = Some vote.1
+
+-- the name of the vote or the decision
+abbrev pub slot_name : Slot → Option Name
+slot_name Gone = None
+slot_name (DecidedAs x) = Some x
+slot_name (OpenAt promise vote) = voted_name vote
 
 -- the row with another slot at one version
 abbrev pub with_slot : (ℕ → Slot) → ℕ → Slot → ℕ → Slot

@@ -8,6 +8,7 @@ pub mod lists;
 pub mod names;
 pub mod requests;
 pub mod rows;
+pub mod slots;
 pub mod texts;
 pub mod values;
 
@@ -18,5 +19,6 @@ pub use lists::Items;
 pub use names::{Ballot, Etag, PutName, Session, SiteId, Version};
 pub use requests::{Op, Out, Reply, RowStep, Turn};
 pub use rows::{Column, Row, Vote};
+pub use slots::Slot;
 pub use texts::{TextError, Why, Word};
 pub use values::{PutValue, Value};

@@ -1,10 +1,12 @@
 //! The row of an object at a site: one column for each version, an acceptor's state of one instance of Fast Paxos.
-ghost use Rattle.std.specs.Prelude.{◌≡◌, IfOk};
+ghost use Rattle.std.specs.Prelude.{◌≡◌, ◌&&◌, nat_lt, nat_le, Some};
 ghost use Rattle.std.specs.Option.{option_copied};
 ghost use Rattle.gz_core.specs.Rows.{IsRow, empty_row, column_in};
+ghost use Rattle.gz_core.specs.Slots.{slots, slot_of, vote_pair};
 
 use crate::lists::Items;
-use crate::names::{Ballot, Version};
+use crate::names::{Ballot, PutName, Version};
+use crate::slots::Slot;
 use crate::values::Value;
 use std::alloc::{AllocError, Global};
 use std::marker::Model;
@@ -105,6 +107,56 @@ impl Row {
         ensures row { IsRow self.now }
     {
         column_of(self.columns.as_slice(), version)
+    }
+
+    /// Whether a version was collected.
+    pub fn is_collected(&self, version: Version) -> bool
+        ensures same { result ≡ (nat_lt 0 self.now.floor && nat_le version self.now.floor) }
+        ensures row { IsRow self.now }
+    {
+        self.floor > Version::none() && version <= self.floor
+    }
+
+    /// The acceptor's state of a version.
+    pub fn slot(&self, version: Version) -> Slot
+        ensures same { result ≡ slots self.now version }
+        ensures row { IsRow self.now }
+    {
+        if self.is_collected(version) {
+            return Slot::Gone;
+        }
+        match self.column(version) {
+            None => Slot::OpenAt {
+                promise: Ballot::fast(),
+                vote: None,
+            },
+            Some(column) => column.slot(),
+        }
+    }
+}
+
+impl Column {
+    /// The column with names in place of values.
+    pub fn slot(&self) -> Slot
+        ensures { result ≡ slot_of (Some self.now) }
+    {
+        match self {
+            Column::Open { promise, vote } => Slot::OpenAt {
+                promise: *promise,
+                vote: named(vote),
+            },
+            Column::Decided { value } => Slot::DecidedAs(value.name()),
+        }
+    }
+}
+
+/// The ballot of a vote and the name of its value.
+fn named(vote: &Option<Vote>) -> Option<(Ballot, PutName)>
+    ensures { result ≡ vote_pair vote.now }
+{
+    match vote {
+        None => None,
+        Some(vote) => Some((vote.ballot, vote.value.name())),
     }
 }
 

@@ -20,6 +20,7 @@ use Rattle.gz_model.specs.Casts.{is_vote, has_cast}
 use Rattle.gz_model.specs.declared.casts.Cast.{Cast}
 use Rattle.gz_ledger.specs.Acceptors.{slot_votes}
 use Rattle.gz_world.specs.Audit.{same_cast, is_listed, with_cast, with_casts, cast_at, casts_of}
+use Rattle.gz_core.proofs.Columns.{none_below}
 use Rattle.gz_laws.specs.Heard.{IsClean}
 use Rattle.gz_laws.proofs.Hearing.{slots_open}
 use Rattle.gz_laws.proofs.Keys.{same_key-eq}
@@ -105,14 +106,6 @@ fold_has (c ∷ cs) xs key v b x i =
 -- the votes of a row's columns
 abbrev votes_in : ℕ → List ℕ → List (ℕ × Column) → List Cast
 votes_in site key cs = casts_of site key (record { floor = 0; columns = cs })
-
--- a version below the columns has none
-none_below : (v bound : ℕ) (cs : List (ℕ × Column)) → v ≤ bound → Rises bound cs → column_in cs v ≡ None
-none_below v bound [] le rises = refl
-none_below v bound (c ∷ cs) le rises =
-    let l = rises.0 in
-    let other : (c.0 == v) ≡ false = grind (arith, nat_tests) in
-    ap (λ t. if t then Some c.1 else column_in cs v) other ∙ none_below v c.0 cs (omega (arith, l, le)) rises.1
 
 abbrev IsShownBy : ℕ → List ℕ → List ℕ → ℕ → List (ℕ × Column) → Type 0
 IsShownBy site k key bound cs = Rises bound cs → (v : ℕ) (b : BallotAt) (x : Name) (i : ℕ) → has_cast (votes_in site k cs) key v b x i ≡ ((site == i) && slot_votes (slot_of (column_in cs v)) b x)

@@ -9,7 +9,8 @@ use Rattle.gz_core.specs.Values.{name_of}
 use Rattle.gz_core.specs.Calls.{own_value}
 use Rattle.gz_core.specs.Counts.{count_sites}
 use Rattle.gz_core.specs.Rows.{RowAt, column_in}
-use Rattle.gz_core.specs.Slots.{OpenAt, act_of, slots, slot_of}
+use Rattle.gz_core.specs.Slots.{act_of, slots, slot_of}
+use Rattle.gz_core.specs.declared.slots.Slot.TheVariants.{OpenAt}
 use Rattle.gz_core.specs.declared.rows.Column.{Column}
 use Rattle.gz_core.specs.declared.rows.Column.TheVariants.{Open, Decided}
 use Rattle.gz_config.specs.declared.Config.{Config}

@@ -1,20 +1,26 @@
 -- What a client sends at one event grows the store of its object by deeds of the machine of agreement.
-use Rattle.std.proofs.Common.{◌≡◌, ℕ, zero, suc, ◌+◌, ◌⊎◌, inl, inr, List, [], ◌∷◌, ◌++◌, Some, refl, ap, sym, ◌∙◌, subst, arith}
-use Rattle.gz_accept.proofs.Making.{done_above}
+use Rattle.std.proofs.Common.{◌≡◌, ℕ, zero, suc, ◌+◌, ◌⊎◌, ◌≤◌, Bool, true, inl, inr, List, [], ◌∷◌, ◌++◌, Option, Some, None, refl, ap, sym, ◌∙◌, subst, arith}
 use Rattle.std.specs.Prelude.{slice_get}
+use Rattle.std.proofs.lemmas.Bool.{cases_lt, false≢true}
 use Rattle.gz_core.specs.Names.{Name, BallotAt}
-use Rattle.gz_core.specs.Rows.{RowAt}
-use Rattle.gz_core.specs.Slots.{Act, Promises, act_of, slots}
+use Rattle.gz_core.specs.Values.{name_of}
+use Rattle.gz_core.specs.Rows.{RowAt, column_in}
+use Rattle.gz_core.specs.Slots.{Act, Promises, act_of, slots, slot_of, slot_vote, slot_decision}
+use Rattle.gz_core.specs.declared.rows.Column.{Column}
+use Rattle.gz_core.proofs.Columns.{none_below}
+use Rattle.gz_core.proofs.Counting.{count_found}
+use Rattle.gz_core.proofs.Quorums.{need_some}
+use Rattle.gz_pick.specs.Evidences.{votes_for, decides, is_for, is_named}
 use Rattle.gz_config.specs.declared.Config.{Config}
 use Rattle.gz_core.specs.declared.requests.RowStep.{RowStep}
 use Rattle.gz_core.specs.declared.requests.RowStep.TheVariants.{FastVote, Promise, ClassicVote, Decide, Trim}
 use Rattle.gz_core.specs.declared.requests.Op.{Op}
 use Rattle.gz_core.specs.declared.requests.Op.TheVariants.{ReadRow, WriteRow}
 use Rattle.gz_core.specs.declared.requests.Out.{Out}
-use Rattle.gz_accept.specs.Steps.{decide_column}
 use Rattle.gz_accept.proofs.Rising.{rises_with}
 use Rattle.gz_round.specs.History.{Moment, Sent, Caller, Tale, asked_of, sent_from}
-use Rattle.gz_round.specs.Sites.{SiteNow, site_now}
+use Rattle.gz_round.specs.Shown.{IsShown}
+use Rattle.gz_round.specs.Sites.{SiteNow, site_now, some_heard}
 use Rattle.gz_round.specs.Sending.{AreAllowed, MayAsk, MayMake, IsMade}
 use Rattle.gz_history.specs.Answers.{IsWrite}
 use Rattle.gz_ledger.specs.Histories.{Seen, Write, IsIn, IsProposed, VotesFor}
@@ -22,7 +28,7 @@ use Rattle.gz_ledger.specs.Agreements.{HasQuorums}
 use Rattle.gz_ledger.specs.Deeds.{Store, Deed, Begins, Asked as AskedOf, AreDeeds, after_deeds, writes_of, late_rows, sent_after, AreCurrentDeeds}
 use Rattle.gz_ledger.proofs.Shown.{current_more}
 use Rattle.gz_laws.specs.Heard.{unused, IsClean, heard_of, MomentsStand, IsStepOf, SentStep, PastStep, Keeps, AskedHere, CleanOp}
-use Rattle.gz_laws.proofs.Hearing.{IsLastRow, heard_known, last_stands, stand_more}
+use Rattle.gz_laws.proofs.Hearing.{IsLastRow, heard_found, heard_known, last_stands, stand_more}
 use Rattle.gz_laws.proofs.Sending.{step_makes}
 use Rattle.gz_laws.proofs.Guarding.{may_send}
 use Rattle.gz_laws.proofs.Currents.{own_current}
@@ -40,13 +46,39 @@ only_itself st = record { stored = λ s. refl; used = λ s. refl; replies = refl
 pub only_then : (a b c : Store) → OnlyAsks a b → OnlyAsks b c → OnlyAsks a c
 only_then a b c p q = record { stored = λ s. q.stored s ∙ p.stored s; used = λ s. q.used s ∙ p.used s; replies = q.replies ∙ p.replies; asked = λ k h. q.asked k (p.asked k h) }
 
+-- a version at which a clean row has a column is above 0
+first_seen : (row : RowAt) (v : ℕ) → IsClean row → (column_in row.columns v ≡ None → ⊥) → 1 ≤ v
+first_seen row v clean there = elim (cases_lt 0 v) [ inl l ↦ omega arith | inr l ↦ absurd (there (none_below v 0 row.columns (omega arith) clean.rises)) ]
+
+vote_there : (b : BallotAt) (x : Name) (o : Option Column) → is_for b x (slot_vote (slot_of o)) ≡ true → o ≡ None → ⊥
+vote_there b x None h = λ e. absurd (false≢true h)
+vote_there b x (Some column) h = λ e. cc
+
+decision_there : (x : Name) (o : Option Column) → is_named x (slot_decision (slot_of o)) ≡ true → o ≡ None → ⊥
+decision_there x None h = λ e. absurd (false≢true h)
+decision_there x (Some column) h = λ e. cc
+
+-- a version at which a value is shown is above 0
+first_shown : (c : Config) (st : Store) (ms : List Moment) (v : ℕ) (x : Name) → HasQuorums c → MomentsStand st ms → IsShown c ms v x → 1 ≤ v
+first_shown c st ms v x quorums stands (inl k) =
+    let votes : RowAt → Bool = λ r. votes_for k.0 x v (Some r) in
+    let enough = k.1 in
+    let f = count_found c.n (some_heard votes ms) (omega (arith, enough, need_some c.n c.qc c.qf k.0 quorums)) in
+    let g = heard_found st votes ms f.0 stands f.2 in
+    first_seen g.0 v g.1.0 (vote_there k.0 x (column_in g.0.columns v) g.1.1.0)
+first_shown c st ms v x quorums stands (inr k) =
+    let decided : RowAt → Bool = λ r. decides x v (Some r) in
+    let f = count_found c.n (some_heard decided ms) k in
+    let g = heard_found st decided ms f.0 stands f.2 in
+    first_seen g.0 v g.1.0 (decision_there x (column_in g.0.columns v) g.1.1.0)
+
 -- a clean row that a step changes is clean
-pub clean_made : (c : Config) (w : Caller) (past : List Tale) (ms : List Moment) (step : RowStep) (old new : RowAt) → MayMake c w past ms step → IsMade step old new → IsClean old → IsClean new
-clean_made c w past ms (FastVote v x) old new may m clean = let above = may.1.above in subst IsClean (sym m.1) (record { floor = clean.floor; rises = rises_with v 0 _ old.columns above clean.rises })
-clean_made c w past ms (Promise v b) old new may m clean = let above = may.above in subst IsClean (sym m.1) (record { floor = clean.floor; rises = rises_with v 0 _ old.columns above clean.rises })
-clean_made c w past ms (ClassicVote v b x) old new may m clean = let above = may.above in subst IsClean (sym m.1) (record { floor = clean.floor; rises = rises_with v 0 _ old.columns above clean.rises })
-clean_made c w past ms (Decide v x) old new may m clean = let f = clean.floor in let above = done_above old v decide_column m.0 in subst IsClean (sym m.1) (record { floor = clean.floor; rises = rises_with v 0 _ old.columns (omega (arith, f, above)) clean.rises })
-clean_made c w past ms (Trim to x) old new may m clean = absurd may
+pub clean_made : (c : Config) (w : Caller) (past : List Tale) (ms : List Moment) (step : RowStep) (old new : RowAt) → ((v : ℕ) (x : Name) → IsShown c ms v x → 1 ≤ v) → MayMake c w past ms step → IsMade step old new → IsClean old → IsClean new
+clean_made c w past ms (FastVote v x) old new first may m clean = let above = may.1.above in subst IsClean (sym m.1) (record { floor = clean.floor; rises = rises_with v 0 _ old.columns above clean.rises })
+clean_made c w past ms (Promise v b) old new first may m clean = let above = may.above in subst IsClean (sym m.1) (record { floor = clean.floor; rises = rises_with v 0 _ old.columns above clean.rises })
+clean_made c w past ms (ClassicVote v b x) old new first may m clean = let above = may.above in subst IsClean (sym m.1) (record { floor = clean.floor; rises = rises_with v 0 _ old.columns above clean.rises })
+clean_made c w past ms (Decide v x) old new first may m clean = let above = first v (name_of x) may.0 in subst IsClean (sym m.1) (record { floor = clean.floor; rises = rises_with v 0 _ old.columns above clean.rises })
+clean_made c w past ms (Trim to x) old new first may m clean = absurd may
 
 pub here_more : (name : Name) (site : ℕ) (op : Op) (old new : Store) → OnlyAsks old new → AskedHere name site op old → AskedHere name site op new
 here_more name site (ReadRow key) old new only h = tt
@@ -183,7 +215,7 @@ ask_op c w past ms ds site now (WriteRow key expect step row) quorums are keeps 
         drawn = λ q v b h is. write_drawn c w past ms ds step wr q v b keeps m.guard refl refl h is;
         others = λ q h e. write_others c w past ms ds wr q keeps refl h e;
         here = (qa, ((slots m.before, refl), inl refl));
-        clean = clean_made c w past ms step m.before row m.guard m.made known.0;
+        clean = clean_made c w past ms step m.before row (λ v x. first_shown c (after_deeds unused ds) ms v x quorums keeps.stands) m.guard m.made known.0;
         from = λ q h. write_from c w past ms ds step wr q quorums are keeps.stands m.guard refl refl h;
         on = ask_on c w past ms ds step qa quorums are keeps.stands m.guard refl refl;
       },

@@ -8,11 +8,11 @@ use Rattle.std.proofs.lemmas.Bool.Decides.{nat_tests}
 use Rattle.std.specs.Prelude.{Option, ◌==◌, ◌&&◌, ◌||◌, nat_lt, nat_le, if◌then◌else◌}
 use Rattle.gz_core.specs.Names.{Name, BallotAt}
 use Rattle.gz_core.specs.Rows.{RowAt, column_in}
-use Rattle.gz_core.specs.Slots.{Gone, DecidedAs, slots, slot_of}
+use Rattle.gz_core.specs.Slots.{slots, slot_of, slot_vote, slot_decision}
+use Rattle.gz_core.specs.declared.slots.Slot.TheVariants.{Gone, DecidedAs}
 use Rattle.gz_core.specs.declared.rows.Column.{Column}
 use Rattle.gz_core.specs.declared.rows.Column.TheVariants.{Open, Decided}
 use Rattle.gz_config.specs.declared.Config.{Config}
-use Rattle.gz_pick.specs.Looks.{column_vote, column_decision}
 use Rattle.gz_pick.specs.Evidences.{votes_for, decides, is_for, is_named}
 use Rattle.gz_round.specs.History.{Asked, Moment, Sent, Handed, GaveUp, Rested, GaveIn, is_row_request}
 use Rattle.gz_round.specs.declared.hearing.Seen.{Seen as SeenRow}
@@ -25,7 +25,7 @@ use Rattle.gz_ledger.specs.Deeds.{Store, Answered, rows_of}
 use Rattle.gz_laws.specs.Heard.{IsClean, entry_of, heard_of, SeenStands, MomentsStand}
 
 -- a vote of a row from which nothing was collected is one of its slots
-vote_slot : (b : BallotAt) (x : Name) (o : Option Column) → is_for b x (column_vote o) ≡ slot_votes (slot_of o) b x
+vote_slot : (b : BallotAt) (x : Name) (o : Option Column) → is_for b x (slot_vote (slot_of o)) ≡ slot_votes (slot_of o) b x
 vote_slot b x None = refl
 vote_slot b x (Some (Open promise None)) = refl
 vote_slot b x (Some (Open promise (Some vote))) = refl
@@ -37,7 +37,7 @@ slots_open row v e = ap (λ f. if nat_lt 0 f && nat_le v f then Gone else slot_o
 pub votes_slot : (row : RowAt) (v : ℕ) (b : BallotAt) (x : Name) → row.floor ≡ 0 → votes_for b x v (Some row) ≡ slot_votes (slots row v) b x
 votes_slot row v b x e = vote_slot b x (column_in row.columns v) ∙ sym (ap (λ s. slot_votes s b x) (slots_open row v e))
 
-decided_slot : (x : Name) (o : Option Column) → is_named x (column_decision o) ≡ true → slot_of o ≡ DecidedAs x
+decided_slot : (x : Name) (o : Option Column) → is_named x (slot_decision (slot_of o)) ≡ true → slot_of o ≡ DecidedAs x
 decided_slot x None h = cc
 decided_slot x (Some (Open promise vote)) h = cc
 decided_slot x (Some (Decided value)) h = ap DecidedAs (name_means _ x h)

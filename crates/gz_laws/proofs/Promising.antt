@@ -9,7 +9,8 @@ use Rattle.std.specs.List.{All}
 use Rattle.gz_core.specs.Names.{Name, BallotAt, fast, IsClassic, same_ballot, same_name}
 use Rattle.gz_core.specs.Values.{name_of}
 use Rattle.gz_core.specs.Rows.{RowAt, column_in}
-use Rattle.gz_core.specs.Slots.{Promises, VotesClassic, OpenAt, act_of, slots, slot_of}
+use Rattle.gz_core.specs.Slots.{Promises, VotesClassic, act_of, slots, slot_of, slot_vote}
+use Rattle.gz_core.specs.declared.slots.Slot.TheVariants.{OpenAt}
 use Rattle.gz_core.specs.declared.rows.Column.{Column}
 use Rattle.gz_core.specs.declared.rows.Column.TheVariants.{Open, Decided}
 use Rattle.gz_config.specs.declared.Config.{Config}
@@ -17,7 +18,7 @@ use Rattle.gz_core.specs.declared.requests.RowStep.{RowStep}
 use Rattle.gz_core.specs.declared.requests.RowStep.TheVariants.{FastVote, Promise, ClassicVote, Decide, Trim}
 use Rattle.gz_core.specs.declared.requests.Op.{Op}
 use Rattle.gz_core.specs.declared.requests.Op.TheVariants.{ReadRow, WriteRow}
-use Rattle.gz_pick.specs.Looks.{column_vote, row_vote}
+use Rattle.gz_pick.specs.Looks.{row_vote}
 use Rattle.gz_pick.specs.declared.heard.Heard.{Heard}
 use Rattle.gz_round.specs.History.{Asked, Moment, Sent, Handed, GaveUp, Rested, GaveIn, Caller, Tale, is_row_request}
 use Rattle.gz_round.specs.declared.hearing.Seen.{Seen as SeenRow}
@@ -207,7 +208,7 @@ promises_heard st ms v b heard stands all = λ at h e.
     record { entry = record { site = h.site; row = slots p.0 }; found = w.1; site = refl; row = p.2; none = p.3 }
 
 -- a vote that was heard
-vote_open : (o : Option Column) (b : BallotAt) (x : Name) → column_vote o ≡ Some (b, x) → (p : BallotAt) × (slot_of o ≡ OpenAt p (Some (b, x)))
+vote_open : (o : Option Column) (b : BallotAt) (x : Name) → slot_vote (slot_of o) ≡ Some (b, x) → (p : BallotAt) × (slot_of o ≡ OpenAt p (Some (b, x)))
 vote_open None b x e = cc
 vote_open (Some (Open promise None)) b x e = cc
 vote_open (Some (Open promise (Some vote))) b x e = (promise, ap (OpenAt promise) e)

@@ -14,7 +14,7 @@ use Rattle.gz_core.specs.declared.requests.Op.{Op}
 use Rattle.gz_core.specs.declared.requests.Op.TheVariants.{ReadRow, WriteRow}
 use Rattle.gz_core.specs.declared.requests.Reply.{Reply}
 use Rattle.gz_core.specs.declared.requests.Reply.TheVariants.{Row, NoRow, Written, Changed, Failed}
-use Rattle.gz_accept.specs.Steps.{column_or_blank, vote_in, with_column_at}
+use Rattle.gz_accept.specs.Steps.{vote_in, with_column_at}
 use Rattle.gz_accept.proofs.Seen.{column_in_with}
 use Rattle.gz_round.specs.declared.hearing.Seen.{Seen as SeenRow}
 use Rattle.gz_round.specs.History.{Asked, Moment, Sent, Handed, GaveUp, Rested, GaveIn, Caller, Tale}
@@ -43,7 +43,7 @@ given_same : (calls : List CallRec) (x y : Value) → IsGiven calls x → Some x
 given_same calls x y h e = subst (IsGiven calls) (same_value x y e) h
 
 -- the vote that a promise is made over is the row's
-kept_vote : (o : Option Column) (x : Value) → vote_value (vote_in (column_or_blank o)) ≡ Some x → column_value o ≡ Some x
+kept_vote : (o : Option Column) (x : Value) → vote_value (vote_in o) ≡ Some x → column_value o ≡ Some x
 kept_vote None x e = cc
 kept_vote (Some (Open promise vote)) x e = e
 kept_vote (Some (Decided value)) x e = cc
@@ -63,7 +63,7 @@ known_given calls w ms v x own heard (inr h) = heard h.0 h.1 h.2 v x h.3
 pub made_given : (calls : List CallRec) (c : Config) (w : Caller) (past : List Tale) (ms : List Moment) (step : RowStep) (old new : RowAt) → IsOwnGiven calls w → AreHeardGiven calls ms → MayMake c w past ms step → IsMade step old new → AreGiven calls old → AreGiven calls new
 made_given calls c w past ms (FastVote v x) old new own heard may m row = subst (AreGiven calls) (sym m.1) (with_given calls old v (Open fast (Some (record { ballot = fast; value = x }))) row (λ y e. given_same calls x y (own x may.0) e))
 made_given calls c w past ms (Promise v b) old new own heard may m row =
-    subst (AreGiven calls) (sym m.1) (with_given calls old v (Open b (vote_in (column_or_blank (column_in old.columns v)))) row (λ y e. row v y (kept_vote (column_in old.columns v) y e)))
+    subst (AreGiven calls) (sym m.1) (with_given calls old v (Open b (vote_in (column_in old.columns v))) row (λ y e. row v y (kept_vote (column_in old.columns v) y e)))
 made_given calls c w past ms (ClassicVote v b x) old new own heard may m row =
     subst (AreGiven calls) (sym m.1) (with_given calls old v (Open b (Some (record { ballot = b; value = x }))) row (λ y e. given_same calls x y (known_given calls w ms v x own heard may.known) e))
 made_given calls c w past ms (Decide v x) old new own heard may m row = subst (AreGiven calls) (sym m.1) (with_given calls old v (Decided x) row (λ y e. given_same calls x y (known_given calls w ms v x own heard may.1) e))

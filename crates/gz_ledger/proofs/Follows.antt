@@ -5,7 +5,9 @@ use Rattle.std.specs.Prelude.{nat_le}
 use Rattle.std.proofs.lemmas.Bool.{both_ways, cases_Bool, cases_eq, cond-true, cond-false, eq-eqb, ne_eqb, eqb-true, eqb-false, leb-true, leb-false, le-leb, lt-leb}
 use Rattle.std.proofs.lemmas.Option.{same_Some}
 use Rattle.gz_core.specs.Names.{Name, BallotAt, fast, is_below}
-use Rattle.gz_core.specs.Slots.{Slot, Gone, DecidedAs, OpenAt, with_slot, trimmed, Act, VotesFast, Promises, VotesClassic, Decides, Trims, IsVoteOf, Makes}
+use Rattle.gz_core.specs.Slots.{with_slot, trimmed, Act, VotesFast, Promises, VotesClassic, Decides, Trims, IsVoteOf, Makes}
+use Rattle.gz_core.specs.declared.slots.Slot.{Slot}
+use Rattle.gz_core.specs.declared.slots.Slot.TheVariants.{Gone, DecidedAs, OpenAt}
 use Rattle.gz_core.proofs.Ballots.{below_never, below_not, below_trans, below_cases, not_below_trans}
 use Rattle.gz_ledger.specs.Acceptors.{Acceptor}
 

@@ -2,7 +2,9 @@
 use Rattle.std.proofs.Common.{◌≡◌, ℕ, zero, suc, ◌+◌, ◌≤◌, false, List, ◌∷◌, Option, Some, None, refl, ap, ◌∙◌, sym, subst, inl, inr, ◌⊎◌, arith}
 use Rattle.std.proofs.lemmas.Bool.{cases_eq}
 use Rattle.gz_core.specs.Names.{Name, BallotAt, fast, same_ballot}
-use Rattle.gz_core.specs.Slots.{Slot, Gone, DecidedAs, OpenAt, Act, VotesFast, Promises, VotesClassic, Decides, Trims}
+use Rattle.gz_core.specs.Slots.{Act, VotesFast, Promises, VotesClassic, Decides, Trims}
+use Rattle.gz_core.specs.declared.slots.Slot.{Slot}
+use Rattle.gz_core.specs.declared.slots.Slot.TheVariants.{Gone, DecidedAs, OpenAt}
 use Rattle.gz_config.specs.declared.Config.{Config}
 use Rattle.gz_model.proofs.Choices.{allowed_safe}
 use Rattle.gz_ledger.specs.Acceptors.{HasValue}

@@ -4,7 +4,9 @@ use Rattle.std.proofs.lemmas.Bool.{both_ways, cases_lt, false_from_ne_true, true
 use Rattle.std.proofs.lemmas.Option.{same_Some, some_pair_parts}
 use Rattle.gz_core.specs.Names.{Name, BallotAt, fast, is_below, same_ballot}
 use Rattle.gz_core.specs.Counts.{count_sites}
-use Rattle.gz_core.specs.Slots.{Slot, Gone, DecidedAs, OpenAt, VotesClassic}
+use Rattle.gz_core.specs.Slots.{VotesClassic}
+use Rattle.gz_core.specs.declared.slots.Slot.{Slot}
+use Rattle.gz_core.specs.declared.slots.Slot.TheVariants.{Gone, DecidedAs, OpenAt}
 use Rattle.gz_config.specs.declared.Config.{Config}
 use Rattle.gz_core.proofs.Ballots.{below_fast, same_means, name_from}
 use Rattle.gz_core.proofs.Counting.{count_weaker}

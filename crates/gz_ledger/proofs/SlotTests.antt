@@ -3,7 +3,8 @@ use Rattle.std.proofs.Common.{◌≡◌, true, false, not, Option, Some, None, r
 use Rattle.std.proofs.lemmas.Bool.{true≢false, both_ways, and_parts, and_from, not-true, not_from_false, false_from_ne_true}
 use Rattle.std.proofs.lemmas.Option.{none-some}
 use Rattle.gz_core.specs.Names.{Name, BallotAt, fast, is_below, same_ballot, same_name}
-use Rattle.gz_core.specs.Slots.{Slot, Gone, DecidedAs, OpenAt}
+use Rattle.gz_core.specs.declared.slots.Slot.{Slot}
+use Rattle.gz_core.specs.declared.slots.Slot.TheVariants.{Gone, DecidedAs, OpenAt}
 use Rattle.gz_core.proofs.Ballots.{same_means, same_refl, name_means, name_refl}
 use Rattle.gz_ledger.specs.Acceptors.{slot_votes, slot_voted, slot_lets}
 

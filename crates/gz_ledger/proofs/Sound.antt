@@ -1,7 +1,9 @@
 -- What every run keeps.
 use Rattle.std.proofs.Common.{◌≡◌, ℕ, suc, ◌+◌, false, List, [], ◌∷◌, Some, None, ap, ◌∙◌, sym, subst, inl, inr, ◌⊎◌}
 use Rattle.gz_core.specs.Names.{Name, BallotAt, fast, same_ballot}
-use Rattle.gz_core.specs.Slots.{Slot, Gone, DecidedAs, OpenAt, Act, VotesFast, Promises, VotesClassic, Decides, Trims, Makes}
+use Rattle.gz_core.specs.Slots.{Act, VotesFast, Promises, VotesClassic, Decides, Trims, Makes}
+use Rattle.gz_core.specs.declared.slots.Slot.{Slot}
+use Rattle.gz_core.specs.declared.slots.Slot.TheVariants.{Gone, DecidedAs, OpenAt}
 use Rattle.gz_config.specs.declared.Config.{Config}
 use Rattle.gz_model.specs.Choosing.{IsSafe}
 use Rattle.gz_ledger.specs.Acceptors.{Acceptor}

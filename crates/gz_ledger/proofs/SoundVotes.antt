@@ -4,7 +4,9 @@ use Rattle.std.specs.List.{slice_get}
 use Rattle.std.proofs.lemmas.Bool.{both_ways}
 use Rattle.std.proofs.lemmas.Option.{same_Some, some_pair_parts}
 use Rattle.gz_core.specs.Names.{Name, BallotAt, is_below}
-use Rattle.gz_core.specs.Slots.{Slot, OpenAt, IsVoteOf}
+use Rattle.gz_core.specs.Slots.{IsVoteOf}
+use Rattle.gz_core.specs.declared.slots.Slot.{Slot}
+use Rattle.gz_core.specs.declared.slots.Slot.TheVariants.{OpenAt}
 use Rattle.gz_config.specs.declared.Config.{Config}
 use Rattle.gz_core.proofs.Ballots.{below_never, below_not, below_cases, below_at}
 use Rattle.gz_core.proofs.Counting.{count_weaker, count_found}

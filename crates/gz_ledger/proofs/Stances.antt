@@ -3,7 +3,9 @@ use Rattle.std.proofs.Common.{◌≡◌, ℕ, true, false, ◌==◌, Option, Som
 use Rattle.std.proofs.lemmas.Bool.{both_ways, false_from_ne_true, cond-true, cond-false, eq-eqb, ne_eqb, cases_eq}
 use Rattle.std.proofs.lemmas.Option.{none-some, same_Some}
 use Rattle.gz_core.specs.Names.{Name, BallotAt, fast, is_below, same_ballot}
-use Rattle.gz_core.specs.Slots.{Slot, OpenAt, Makes}
+use Rattle.gz_core.specs.Slots.{Makes}
+use Rattle.gz_core.specs.declared.slots.Slot.{Slot}
+use Rattle.gz_core.specs.declared.slots.Slot.TheVariants.{OpenAt}
 use Rattle.gz_config.specs.declared.Config.{Config}
 use Rattle.gz_core.proofs.Ballots.{same_means, below_never, below_not, below_fast, not_below_trans}
 use Rattle.gz_ledger.specs.Acceptors.{Acceptor, with_acceptor}

@@ -1,7 +1,8 @@
 -- An acceptor of every version of one object, and what it shows of a version. (Lamport 2006, "Fast Paxos".)
 use Rattle.std.specs.Prelude.{ℕ, ◌<◌, ◌==◌, Bool, true, false, ◌&&◌, not, if◌then◌else◌, Some, None}
 use Rattle.gz_core.specs.Names.{Name, BallotAt, fast, is_below, same_ballot, same_name}
-use Rattle.gz_core.specs.Slots.{Slot, Gone, DecidedAs, OpenAt}
+use Rattle.gz_core.specs.declared.slots.Slot.{Slot}
+use Rattle.gz_core.specs.declared.slots.Slot.TheVariants.{Gone, DecidedAs, OpenAt}
 
 -- an acceptor's state of each version
 abbrev pub Acceptor : Type 0

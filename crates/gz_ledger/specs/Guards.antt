@@ -1,7 +1,8 @@
 -- What a call may send, by the rows that were shown and the writes that were sent.
 use Rattle.std.specs.Prelude.{ℕ, ◌≡◌, ◌≤◌, ◌+◌, suc, false, ◌⊎◌, List, length, Some, slice_get}
 use Rattle.gz_core.specs.Names.{Name, BallotAt, fast, same_ballot}
-use Rattle.gz_core.specs.Slots.{OpenAt, Act, VotesFast, Promises, VotesClassic, Decides, Trims, IsVoteOf}
+use Rattle.gz_core.specs.Slots.{Act, VotesFast, Promises, VotesClassic, Decides, Trims, IsVoteOf}
+use Rattle.gz_core.specs.declared.slots.Slot.TheVariants.{OpenAt}
 use Rattle.gz_config.specs.declared.Config.{Config}
 use Rattle.gz_pick.specs.declared.heard.Heard.{Heard}
 use Rattle.gz_pick.specs.declared.heard.Pick.TheVariants.{Free}

@@ -1,7 +1,8 @@
 -- The rows that sites showed and the writes that calls sent, the newest first.
 use Rattle.std.specs.Prelude.{ℕ, ◌≡◌, ◌≤◌, Bool, false, ◌&&◌, ◌||◌, ◌==◌, ◌⊎◌, List, [], ◌∷◌, length, Some}
 use Rattle.gz_core.specs.Names.{Name, BallotAt}
-use Rattle.gz_core.specs.Slots.{DecidedAs, OpenAt, Act, VotesFast, Promises, VotesClassic, Decides, Trims}
+use Rattle.gz_core.specs.Slots.{Act, VotesFast, Promises, VotesClassic, Decides, Trims}
+use Rattle.gz_core.specs.declared.slots.Slot.TheVariants.{DecidedAs, OpenAt}
 use Rattle.gz_config.specs.declared.Config.{Config}
 use Rattle.gz_model.specs.Choosing.{IsChosenBy}
 use Rattle.gz_model.specs.Sites.{AreSites}

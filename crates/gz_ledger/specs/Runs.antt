@@ -1,7 +1,9 @@
 -- Runs that the guards allow.
 use Rattle.std.specs.Prelude.{ℕ, List, [], ◌∷◌, Some, None}
 use Rattle.gz_core.specs.Names.{Name, BallotAt, fast}
-use Rattle.gz_core.specs.Slots.{Slot, OpenAt, DecidedAs, VotesFast, Promises, VotesClassic, Decides, with_slot}
+use Rattle.gz_core.specs.Slots.{VotesFast, Promises, VotesClassic, Decides, with_slot}
+use Rattle.gz_core.specs.declared.slots.Slot.{Slot}
+use Rattle.gz_core.specs.declared.slots.Slot.TheVariants.{OpenAt, DecidedAs}
 use Rattle.gz_config.specs.declared.Config.{Config}
 use Rattle.gz_config.specs.declared.Order.TheVariants.{Parallel}
 use Rattle.gz_ledger.specs.Acceptors.{Acceptor, new_acceptor}

@@ -1,4 +1,3 @@
 pub mod Counts
-mod Firsts
 mod Joins
 pub mod Shown

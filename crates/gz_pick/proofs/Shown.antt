@@ -9,10 +9,9 @@ use Rattle.gz_core.specs.Counts.{count_sites}
 use Rattle.gz_core.specs.Configurations.{need, AreQuorums}
 use Rattle.gz_core.specs.Names.{Name, BallotAt, fast, is_below, same_ballot, same_name}
 use Rattle.gz_core.specs.Rows.{RowAt, column_in}
-use Rattle.gz_core.specs.Values.{name_of}
-use Rattle.gz_core.specs.declared.rows.Column.{Column}
-use Rattle.gz_core.specs.declared.rows.Column.TheVariants.{Open, Decided}
-use Rattle.gz_pick.specs.Looks.{row_decision, row_name, column_vote, column_decision, column_name}
+use Rattle.gz_core.specs.Slots.{slot_of}
+use Rattle.gz_core.proofs.SlotNames.{decision_named, vote_named}
+use Rattle.gz_pick.specs.Looks.{row_decision, row_name}
 use Rattle.gz_pick.specs.Evidences.{vote_of, decision_of, is_for, is_named, votes_for, decides, votes_in, is_chosen, has_decided, is_in, shows_in, higher, top_ballot, votes_at, first_in, or_else, evidence_of, row_at, IsEvident, IsEvidence}
 use Rattle.gz_pick.proofs.Counts.{count_rows, count_one, first_there, first_passes}
 
@@ -68,18 +67,6 @@ some_there : {A : Type 0} (o : Option A) → is_some o ≡ true → (x : A) × (
 some_there None some = absurd (false≢true some)
 some_there (Some x) some = (x, refl)
 
--- a decision and a vote name the value of their column
-decision_named : (column : Option Column) (x : Name) → column_decision column ≡ Some x → column_name column ≡ Some x
-decision_named None x is = absurd cc
-decision_named (Some (Open promise vote)) x is = absurd cc
-decision_named (Some (Decided value)) x is = is
-
-vote_named : (column : Option Column) (vote : BallotAt × Name) → column_vote column ≡ Some vote → column_name column ≡ Some vote.1
-vote_named None vote is = absurd cc
-vote_named (Some (Open promise None)) vote is = absurd cc
-vote_named (Some (Open promise (Some cast))) vote is = let pair : (cast.ballot, name_of cast.value) ≡ vote = cc in ap (λ (p : BallotAt × Name). Some p.1) pair
-vote_named (Some (Decided value)) vote is = absurd cc
-
 -- what the row of an evident site shows
 abbrev Names : ℕ → ℕ → ℕ → List (Option RowAt) → ℕ → Option RowAt → Type 0
 Names n qc qf rows v row = (r : RowAt) × (x : Name) × (row ≡ Some r) × (row_name r v ≡ Some x) × IsEvident n qc qf (row_at rows) v x
@@ -88,7 +75,7 @@ decided_names : (n qc qf : ℕ) (rows : List (Option RowAt)) (v : ℕ) (row : Op
 decided_names n qc qf rows v None has counted = absurd (false≢true has)
 decided_names n qc qf rows v (Some r) has counted =
     let decision = some_there (row_decision r v) has in
-    (r, decision.0, refl, decision_named (column_in r.columns v) decision.0 decision.1, inr (counted decision.0 (ap (is_named decision.0) decision.1 ∙ name_refl decision.0)))
+    (r, decision.0, refl, decision_named (slot_of (column_in r.columns v)) decision.0 decision.1, inr (counted decision.0 (ap (is_named decision.0) decision.1 ∙ name_refl decision.0)))
 
 -- a vote that is chosen has as many sites as its ballot needs
 chosen_counted : (n qc qf : ℕ) (rows : List (Option RowAt)) (v : ℕ) (vote : BallotAt × Name) → length rows ≡ n → is_chosen qc qf rows v (Some vote) ≡ true → need qc qf vote.0 ≤ count_sites n (λ s. votes_for vote.0 vote.1 v (row_at rows s))
@@ -101,7 +88,7 @@ voted_names : (n qc qf : ℕ) (rows : List (Option RowAt)) (v : ℕ) (row : Opti
 voted_names n qc qf rows v row None len has chosen = absurd (false≢true chosen)
 voted_names n qc qf rows v None (Some vote) len has chosen = absurd cc
 voted_names n qc qf rows v (Some r) (Some vote) len has chosen =
-    (r, vote.1, refl, vote_named (column_in r.columns v) vote has, inl (vote.0, chosen_counted n qc qf rows v vote len chosen))
+    (r, vote.1, refl, vote_named (slot_of (column_in r.columns v)) vote has, inl (vote.0, chosen_counted n qc qf rows v vote len chosen))
 
 and_right : (a b : Bool) → (a && b) ≡ true → b ≡ true
 and_right true b both = both

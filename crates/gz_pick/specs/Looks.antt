@@ -1,47 +1,22 @@
--- What a row shows of a version: its vote, its decision, and the name of either.
+-- What the columns of a row show of a version: its vote, its decision, and the name of either.
 use Rattle.std.specs.Prelude.{ℕ, Bool, true, false, max, if◌then◌else◌, List, [], ◌∷◌, Option, Some, None}
 use Rattle.gz_core.specs.Names.{Name, BallotAt}
-use Rattle.gz_core.specs.Values.{name_of}
 use Rattle.gz_core.specs.Rows.{RowAt, column_in}
-use Rattle.gz_core.specs.declared.rows.Vote.{Vote}
+use Rattle.gz_core.specs.Slots.{slot_of, slot_vote, slot_decision, slot_name}
 use Rattle.gz_core.specs.declared.rows.Column.{Column}
 use Rattle.gz_core.specs.declared.rows.Column.TheVariants.{Open, Decided}
 
--- a vote's ballot and the name of its value
-abbrev pub cast_of : Option Vote → Option (BallotAt × Name)
-cast_of None = None
-cast_of (Some vote) = Some (vote.ballot, name_of vote.value)
-
--- the vote that a column holds
-abbrev pub column_vote : Option Column → Option (BallotAt × Name)
-column_vote None = None
-column_vote (Some (Open promise vote)) = cast_of vote
-column_vote (Some (Decided value)) = None
-
--- the name that a column knows to be chosen
-abbrev pub column_decision : Option Column → Option Name
-column_decision None = None
-column_decision (Some (Open promise vote)) = None
-column_decision (Some (Decided value)) = Some (name_of value)
-
--- the name of the vote or the decision of a column
-abbrev pub column_name : Option Column → Option Name
-column_name None = None
-column_name (Some (Open promise None)) = None
-column_name (Some (Open promise (Some vote))) = Some (name_of vote.value)
-column_name (Some (Decided value)) = Some (name_of value)
-
 -- the vote of a row at a version
 abbrev pub row_vote : RowAt → ℕ → Option (BallotAt × Name)
-row_vote row v = column_vote (column_in row.columns v)
+row_vote row v = slot_vote (slot_of (column_in row.columns v))
 
 -- the name that a row knows to be chosen at a version
 abbrev pub row_decision : RowAt → ℕ → Option Name
-row_decision row v = column_decision (column_in row.columns v)
+row_decision row v = slot_decision (slot_of (column_in row.columns v))
 
 -- the name that a row has at a version, of a vote or a decision
 abbrev pub row_name : RowAt → ℕ → Option Name
-row_name row v = column_name (column_in row.columns v)
+row_name row v = slot_name (slot_of (column_in row.columns v))
 
 -- a column shows a value where it has a vote or is decided; a promise alone shows none
 abbrev pub shows_value : Column → Bool

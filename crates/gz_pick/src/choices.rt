@@ -42,12 +42,9 @@ fn top_heard(heard: &[Heard]) -> Option<Ballot>
 fn first_carried(config: &Config, heard: &[Heard], b: Ballot) -> Option<usize>
     ensures { result ≡ position (carries config.now.n config.now.qf heard.now b) heard.now }
 {
-    for place in 0..heard.len() {
-        if is_carried(config, heard, b, &heard[place]) {
-            return Some(place);
-        }
-    }
-    None
+    heard
+        .iter()
+        .position(|one| is_carried(config, heard, b, one))
 }
 
 /// Whether a vote forces its value, where `b` is the highest ballot.
@@ -75,11 +72,8 @@ fn reaches_threshold(config: &Config, heard: &[Heard], vote: &Option<(Ballot, Pu
 fn count_heard(heard: &[Heard], b: Ballot, x: PutName) -> usize
     ensures { result ≡ heard_votes b x heard.now }
 {
-    let mut count = 0;
-    for one in heard {
-        if is_cast_for(&one.vote, b, x) {
-            count += 1;
-        }
-    }
-    count
+    heard
+        .iter()
+        .filter(|one| is_cast_for(&one.vote, b, x))
+        .count()
 }

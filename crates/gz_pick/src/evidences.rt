@@ -39,12 +39,7 @@ fn first_decided(rows: &[Option<Row>], v: Version) -> Option<usize>
     ensures same { result ≡ position (has_decided v) rows.now }
     ensures within { IfSome result (λ place. place < length rows.now) }
 {
-    for place in 0..rows.len() {
-        if is_decided(&rows[place], v) {
-            return Some(place);
-        }
-    }
-    None
+    rows.iter().position(|row| is_decided(row, v))
 }
 
 /// The first row with a chosen fast vote, or else with one of the highest ballot that has one.
@@ -66,12 +61,8 @@ fn first_chosen(config: &Config, rows: &[Option<Row>], v: Version, b: Ballot) ->
     ensures same { result ≡ position (shows_in config.now.qc config.now.qf rows.now v b) rows.now }
     ensures within { IfSome result (λ place. place < length rows.now) }
 {
-    for place in 0..rows.len() {
-        if is_chosen_in(config, rows, v, b, &rows[place]) {
-            return Some(place);
-        }
-    }
-    None
+    rows.iter()
+        .position(|row| is_chosen_in(config, rows, v, b, row))
 }
 
 /// Whether a row's vote is a chosen one of ballot `b`.

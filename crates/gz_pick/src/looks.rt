@@ -1,8 +1,8 @@
-//! What one row shows of a version.
-ghost use Rattle.std.specs.Prelude.{◌≡◌, Some, max};
-ghost use Rattle.gz_pick.specs.Looks.{row_vote, row_decision, row_name, row_top, cast_of, column_vote, column_decision, column_name, top_in, shows_value};
+//! What the columns of a row show of a version.
+ghost use Rattle.std.specs.Prelude.{◌≡◌, max};
+ghost use Rattle.gz_pick.specs.Looks.{row_vote, row_decision, row_name, row_top, shows_value};
 
-use gz_core::{Ballot, Column, PutName, Row, Version, Vote};
+use gz_core::{Ballot, Column, PutName, Row, Version};
 
 /// The vote of a row at a version: its ballot and the name of its value.
 pub fn vote_at(row: &Row, v: Version) -> Option<(Ballot, PutName)>
@@ -10,7 +10,7 @@ pub fn vote_at(row: &Row, v: Version) -> Option<(Ballot, PutName)>
 {
     match row.column(v) {
         None => None,
-        Some(column) => column_vote_of(column),
+        Some(column) => column.slot().vote(),
     }
 }
 
@@ -20,7 +20,7 @@ pub fn decided_at(row: &Row, v: Version) -> Option<PutName>
 {
     match row.column(v) {
         None => None,
-        Some(column) => column_decision_of(column),
+        Some(column) => column.slot().decision(),
     }
 }
 
@@ -30,7 +30,7 @@ pub fn named_at(row: &Row, v: Version) -> Option<PutName>
 {
     match row.column(v) {
         None => None,
-        Some(column) => column_name_of(column),
+        Some(column) => column.slot().name(),
     }
 }
 
@@ -52,46 +52,6 @@ pub fn later_of(a: Version, b: Version) -> Version
     ensures { result ≡ max a b }
 {
     if a < b { b } else { a }
-}
-
-fn column_vote_of(column: &Column) -> Option<(Ballot, PutName)>
-    ensures { result ≡ column_vote (Some column.now) }
-{
-    match column {
-        Column::Open { vote, .. } => cast_in(vote),
-        Column::Decided { .. } => None,
-    }
-}
-
-fn cast_in(vote: &Option<Vote>) -> Option<(Ballot, PutName)>
-    ensures { result ≡ cast_of vote.now }
-{
-    match vote {
-        None => None,
-        Some(vote) => Some((vote.ballot, vote.value.name())),
-    }
-}
-
-fn column_decision_of(column: &Column) -> Option<PutName>
-    ensures { result ≡ column_decision (Some column.now) }
-{
-    match column {
-        Column::Open { .. } => None,
-        Column::Decided { value } => Some(value.name()),
-    }
-}
-
-fn column_name_of(column: &Column) -> Option<PutName>
-    ensures { result ≡ column_name (Some column.now) }
-{
-    match column {
-        Column::Open { vote: None, .. } => None,
-        Column::Open {
-            vote: Some(vote),
-            ..
-        } => Some(vote.value.name()),
-        Column::Decided { value } => Some(value.name()),
-    }
 }
 
 fn has_value(column: &Column) -> bool

@@ -49,13 +49,9 @@ pub fn is_cast_for(vote: &Option<(Ballot, PutName)>, b: Ballot, x: PutName) -> b
 pub fn count_votes(rows: &[Option<Row>], v: Version, b: Ballot, x: PutName) -> usize
     ensures { result ≡ votes_in b x v rows.now }
 {
-    let mut count = 0;
-    for row in rows {
-        if is_cast_for(&vote_of_row(row, v), b, x) {
-            count += 1;
-        }
-    }
-    count
+    rows.iter()
+        .filter(|row| is_cast_for(&vote_of_row(row, v), b, x))
+        .count()
 }
 
 /// The higher of a ballot, where there is one, and that of a vote.

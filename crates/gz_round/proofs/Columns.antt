@@ -7,17 +7,19 @@ use Rattle.std.proofs.lemmas.Option.{same_Some, none-some}
 use Rattle.gz_core.specs.Names.{Name}
 use Rattle.gz_core.specs.Values.{name_of}
 use Rattle.gz_core.specs.Rows.{RowAt, empty_row, column_in}
-use Rattle.gz_core.specs.Slots.{Slot, Gone, slots, slot_of}
+use Rattle.gz_core.specs.Slots.{slots, slot_of, slot_name}
+use Rattle.gz_core.specs.declared.slots.Slot.{Slot}
+use Rattle.gz_core.specs.declared.slots.Slot.TheVariants.{Gone}
 use Rattle.gz_core.specs.declared.values.Value.{Value}
 use Rattle.gz_core.specs.declared.rows.Column.{Column}
 use Rattle.gz_core.specs.declared.rows.Column.TheVariants.{Open, Decided}
-use Rattle.gz_pick.specs.Looks.{row_top, top_in, row_name, column_name, shows_value, highest_of}
+use Rattle.gz_pick.specs.Looks.{row_top, top_in, row_name, shows_value, highest_of}
 use Rattle.gz_round.specs.Sites.{can_stand, entry_stands, column_stands}
 use Rattle.gz_round.specs.Rounds.{slot_round}
 use Rattle.gz_round.specs.Causes.{row_value, column_value}
 
 -- a column that names a value shows one
-name_shows : (column : Column) (x : Name) → column_name (Some column) ≡ Some x → shows_value column ≡ true
+name_shows : (column : Column) (x : Name) → slot_name (slot_of (Some column)) ≡ Some x → shows_value column ≡ true
 name_shows (Open promise None) x e = absurd (none-some x e)
 name_shows (Open promise (Some vote)) x e = refl
 name_shows (Decided value) x e = refl
@@ -31,19 +33,19 @@ top_here true v rest e = omega arith
 top_here false v rest e = absurd (cc)
 
 -- a version at which the columns name a value is at most the greatest one that shows a value
-pub named_top : (columns : List (ℕ × Column)) (v : ℕ) (x : Name) → column_name (column_in columns v) ≡ Some x → v ≤ top_in columns
+pub named_top : (columns : List (ℕ × Column)) (v : ℕ) (x : Name) → slot_name (slot_of (column_in columns v)) ≡ Some x → v ≤ top_in columns
 named_top [] v x e = absurd (none-some x e)
 named_top (c ∷ cs) v x e =
     elim (cases_Bool (c.0 == v)) [
       | inl h ↦ (
           let found : column_in (c ∷ cs) v ≡ Some c.1 = cond-true (c.0 == v) (Some c.1) (column_in cs v) h in
           let same : c.0 ≡ v = eqb-true c.0 v h in
-          let shown : shows_value c.1 ≡ true = name_shows c.1 x (sym (ap column_name found) ∙ e) in
+          let shown : shows_value c.1 ≡ true = name_shows c.1 x (sym (ap (λ column. slot_name (slot_of column)) found) ∙ e) in
           let here : c.0 ≤ top_in (c ∷ cs) = top_here (shows_value c.1) c.0 (top_in cs) shown in
           omega arith)
       | inr h ↦ (
           let found : column_in (c ∷ cs) v ≡ column_in cs v = cond-false (c.0 == v) (Some c.1) (column_in cs v) h in
-          let rest : v ≤ top_in cs = named_top cs v x (sym (ap column_name found) ∙ e) in
+          let rest : v ≤ top_in cs = named_top cs v x (sym (ap (λ column. slot_name (slot_of column)) found) ∙ e) in
           let here : top_in cs ≤ top_in (c ∷ cs) = top_step (shows_value c.1) c.0 (top_in cs) in
           omega arith)
     ]
@@ -96,7 +98,7 @@ pub empty_stands : can_stand empty_row ≡ true
 empty_stands = refl
 
 -- a row has a value at a version at which it names one
-columns_valued : (column : Option Column) (x : Name) → column_name column ≡ Some x → IsSome (column_value column)
+columns_valued : (column : Option Column) (x : Name) → slot_name (slot_of column) ≡ Some x → IsSome (column_value column)
 columns_valued None x e = absurd (none-some x e)
 columns_valued (Some (Open promise None)) x e = absurd (none-some x e)
 columns_valued (Some (Open promise (Some vote))) x e = refl
@@ -106,12 +108,12 @@ pub named_has : (row : RowAt) (v : ℕ) (x : Name) → row_name row v ≡ Some x
 named_has row v x e = columns_valued (column_in row.columns v) x e
 
 -- the value that an answer tells has the name that the row shows
-put_named : (column : Column) (x : Name) (value : Value) → column_name (Some column) ≡ Some x → column_value (Some column) ≡ Some value → name_of value ≡ x
+put_named : (column : Column) (x : Name) (value : Value) → slot_name (slot_of (Some column)) ≡ Some x → column_value (Some column) ≡ Some value → name_of value ≡ x
 put_named (Open promise None) x value e k = absurd (none-some x e)
 put_named (Open promise (Some vote)) x value e k = ap name_of (sym (same_Some vote.value value k)) ∙ same_Some (name_of vote.value) x e
 put_named (Decided own) x value e k = ap name_of (sym (same_Some own value k)) ∙ same_Some (name_of own) x e
 
-columns_named : (column : Option Column) (x : Name) (value : Value) → column_name column ≡ Some x → column_value column ≡ Some value → name_of value ≡ x
+columns_named : (column : Option Column) (x : Name) (value : Value) → slot_name (slot_of column) ≡ Some x → column_value column ≡ Some value → name_of value ≡ x
 columns_named None x value e k = absurd (none-some x e)
 columns_named (Some column) x value e k = put_named column x value e k
 

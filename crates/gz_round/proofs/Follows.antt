@@ -4,16 +4,15 @@ use Rattle.std.specs.List.{slice_get, list_all}
 use Rattle.std.proofs.lemmas.Bool.{cases_Bool, cases_eq, cond-true, cond-false, and_parts, and_from, true≢false, false≢true, both_ways, or_cases, or_left, or_right, le-leb, leb-true, eqb-true, eq-eqb}
 use Rattle.std.proofs.lemmas.Option.{same_Some, none-some, slice_get_within}
 use Rattle.gz_core.specs.Names.{Name, BallotAt, same_ballot, fast}
-use Rattle.gz_core.specs.Values.{name_of}
 use Rattle.gz_core.specs.Rows.{RowAt, column_in}
 use Rattle.gz_core.specs.Configurations.{IsConfig, need}
 use Rattle.gz_core.specs.Calls.{own_value}
 use Rattle.gz_core.specs.declared.values.Value.{Value}
-use Rattle.gz_core.specs.declared.rows.Column.{Column}
-use Rattle.gz_core.specs.declared.rows.Column.TheVariants.{Open, Decided}
 use Rattle.gz_config.specs.declared.Config.{Config}
 use Rattle.gz_core.proofs.Counting.{count_found, count_weaker}
-use Rattle.gz_pick.specs.Looks.{row_top, row_name, row_vote, row_decision, column_name, column_vote, column_decision, highest_of}
+use Rattle.gz_pick.specs.Looks.{row_top, row_name, row_vote, row_decision, highest_of}
+use Rattle.gz_core.specs.Slots.{slot_of}
+use Rattle.gz_core.proofs.SlotNames.{decision_named, vote_named}
 use Rattle.gz_pick.specs.Evidences.{votes_for, decides, IsEvidence, row_at, is_for, is_named}
 use Rattle.gz_round.specs.declared.run.Run.{Run}
 use Rattle.gz_round.specs.declared.following.Next.TheVariants.{Vote as VoteAt, Chosen}
@@ -124,17 +123,6 @@ voted_some x (m ∷ ms) u h =
 pub unvoted_clear : (c : Config) (x : Name) (ms : List Moment) (v : ℕ) → voted x ms ≡ false → IsClear c x ms v
 unvoted_clear c x ms v h u n k = absurd (both_ways (voted x ms) h (voted_some x ms u k))
 
-name_of_vote : (column : Option Column) (vote : BallotAt × Name) → column_vote column ≡ Some vote → column_name column ≡ Some vote.1
-name_of_vote None vote e = absurd (none-some vote e)
-name_of_vote (Some (Open promise None)) vote e = absurd (none-some vote e)
-name_of_vote (Some (Open promise (Some held))) vote e = ap (λ (v : BallotAt × Name). Some v.1) (same_Some (held.ballot, name_of held.value) vote e)
-name_of_vote (Some (Decided value)) vote e = absurd (none-some vote e)
-
-name_of_decision : (column : Option Column) (x : Name) → column_decision column ≡ Some x → column_name column ≡ Some x
-name_of_decision None x e = absurd (none-some x e)
-name_of_decision (Some (Open promise vote)) x e = absurd (none-some x e)
-name_of_decision (Some (Decided value)) x e = e
-
 for_some : (b : BallotAt) (x : Name) (o : Option (BallotAt × Name)) → is_for b x o ≡ true → (vote : BallotAt × Name) × (o ≡ Some vote)
 for_some b x None h = absurd (false≢true h)
 for_some b x (Some vote) h = (vote, refl)
@@ -145,11 +133,11 @@ named_some x (Some y) h = (y, refl)
 
 votes_top : (b : BallotAt) (x : Name) (v : ℕ) (o : Option RowAt) → votes_for b x v o ≡ true → (row : RowAt) × (o ≡ Some row) × (v ≤ row_top row)
 votes_top b x v None h = absurd (false≢true h)
-votes_top b x v (Some row) h = let k = for_some b x (row_vote row v) h in (row, refl, named_top row.columns v k.0.1 (name_of_vote (column_in row.columns v) k.0 k.1))
+votes_top b x v (Some row) h = let k = for_some b x (row_vote row v) h in (row, refl, named_top row.columns v k.0.1 (vote_named (slot_of (column_in row.columns v)) k.0 k.1))
 
 decides_top : (x : Name) (v : ℕ) (o : Option RowAt) → decides x v o ≡ true → (row : RowAt) × (o ≡ Some row) × (v ≤ row_top row)
 decides_top x v None h = absurd (false≢true h)
-decides_top x v (Some row) h = let k = named_some x (row_decision row v) h in (row, refl, named_top row.columns v k.0 (name_of_decision (column_in row.columns v) k.0 k.1))
+decides_top x v (Some row) h = let k = named_some x (row_decision row v) h in (row, refl, named_top row.columns v k.0 (decision_named (slot_of (column_in row.columns v)) k.0 k.1))
 
 need_some : (c : Config) (b : BallotAt) → IsConfig c → 1 ≤ need c.qc c.qf b
 need_some c b h = let q = h.quorums in elim (cases_Bool (same_ballot b fast)) [

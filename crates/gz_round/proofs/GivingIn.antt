@@ -11,6 +11,7 @@ use Rattle.gz_core.specs.declared.calls.Answer.{Answer}
 use Rattle.gz_core.specs.declared.calls.Answer.TheVariants.{NoQuorum, Unsure}
 use Rattle.gz_core.specs.declared.calls.UnsureWhy.TheVariants.{NoQuorum as UnsureNoQuorum}
 use Rattle.gz_core.specs.Rows.{RowAt}
+use Rattle.gz_core.specs.Slots.{slots}
 use Rattle.gz_core.specs.declared.values.Value.{Value}
 use Rattle.gz_accept.specs.declared.answers.Step.TheVariants.{Done, Already}
 use Rattle.gz_config.specs.declared.Config.{Config}
@@ -82,7 +83,7 @@ prepared_out c w past run ms v b found at r =
     let above = none_above_listed c run ms v b r.stands.knows (or_parts (nat_lt run.round b.round) (list_any (above_known v b) run.rows) ahead).1 in
     elim (gone_or_kept c ms v) [
       | inl gone ↦ Collected v b (record { going = r.going; idle = idle; promise = last_may c w past ms v b s.0.works last; gone = gone })
-      | inr kept ↦ NoPromise v b (stuck_from c w past run ms v b (Promise v b) r (ap (λ st. step_in st run.own) at) idle last (λ (site : ℕ) (row : RowAt) (l : site < c.n) (e : rows_known ms site ≡ Some row). promise_untaken row v b (kept site row l e) (undecided_known c ms v site row idle.undecided l e) (above site row l e))) s.0.uncast (short_known c run ms v b r.stands.knows short)
+      | inr kept ↦ NoPromise v b (stuck_from c w past run ms v b (Promise v b) r (ap (λ st. step_in st run.own) at) idle last (λ (site : ℕ) (row : RowAt) (l : site < c.n) (e : rows_known ms site ≡ Some row). promise_untaken (slots row v) row.floor b (kept site row l e) (undecided_known c ms v site row idle.undecided l e) (above site row l e))) s.0.uncast (short_known c run ms v b r.stands.knows short)
     ]
 
 voted_out : (c : Config) (w : Caller) (past : List Tale) (run : Run) (ms : List Moment) (v : ℕ) (b : BallotAt) (x : Value) → run.stage ≡ Accept v b x → RunsOut c w past run ms → MayGiveIn c w past ms
@@ -93,7 +94,7 @@ voted_out c w past run ms v b x at r =
     let above = none_above_listed c run ms v b r.stands.knows ahead in
     elim (gone_or_kept c ms v) [
       | inl gone ↦ Collected v b (record { going = r.going; idle = idle; promise = last_may c w past ms v b s.1.works s.1.last; gone = gone })
-      | inr kept ↦ NoVote v b x (stuck_from c w past run ms v b (ClassicVote v b x) r (ap (λ st. step_in st run.own) at) idle s.1.last (λ (site : ℕ) (row : RowAt) (l : site < c.n) (e : rows_known ms site ≡ Some row). classic_untaken row v b (kept site row l e) (undecided_known c ms v site row idle.undecided l e) (above site row l e))) s.0
+      | inr kept ↦ NoVote v b x (stuck_from c w past run ms v b (ClassicVote v b x) r (ap (λ st. step_in st run.own) at) idle s.1.last (λ (site : ℕ) (row : RowAt) (l : site < c.n) (e : rows_known ms site ≡ Some row). classic_untaken (slots row v) row.floor b (kept site row l e) (undecided_known c ms v site row idle.undecided l e) (above site row l e))) s.0
     ]
 
 -- a phase that has ended without its goal ends the call, but for the first phases

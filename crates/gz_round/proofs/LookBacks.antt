@@ -10,8 +10,9 @@ use Rattle.gz_core.specs.declared.values.Value.{Value}
 use Rattle.gz_core.specs.declared.rows.Column.{Column}
 use Rattle.gz_core.specs.declared.rows.Column.TheVariants.{Open, Decided}
 use Rattle.gz_config.specs.declared.Config.{Config}
+use Rattle.gz_core.specs.Slots.{slot_of, slot_vote}
 use Rattle.gz_core.proofs.Ballots.{same_refl}
-use Rattle.gz_pick.specs.Looks.{row_top, row_vote, column_vote}
+use Rattle.gz_pick.specs.Looks.{row_top, row_vote}
 use Rattle.gz_round.specs.declared.hearing.Seen.{Seen}
 use Rattle.gz_round.specs.declared.run.Mark.{Mark}
 use Rattle.gz_round.specs.declared.run.Run.{Run}
@@ -191,7 +192,7 @@ cast_seen : (v : ℕ) (o : Option Seen) (x : Value) → row_cast v (row_seen o) 
 cast_seen v None x e = absurd (none-some x e)
 cast_seen v (Some seen) x e = (seen, refl, e)
 
-cast_names : (o : Option Column) (x : Value) → column_cast o ≡ Some x → (d : BallotAt) × (column_vote o ≡ Some (d, name_of x)) × (column_value o ≡ Some x)
+cast_names : (o : Option Column) (x : Value) → column_cast o ≡ Some x → (d : BallotAt) × (slot_vote (slot_of o) ≡ Some (d, name_of x)) × (column_value o ≡ Some x)
 cast_names None x e = absurd (none-some x e)
 cast_names (Some (Open promise None)) x e = absurd (none-some x e)
 cast_names (Some (Open promise (Some held))) x e = (held.ballot, ap (λ (z : Value). Some (held.ballot, name_of z)) (same_Some held.value x e), e)

@@ -8,7 +8,9 @@ use Rattle.std.proofs.lemmas.Option.{same_Some, none-some, slice_get_within}
 use Rattle.gz_core.specs.Names.{Name, BallotAt, same_ballot, same_name}
 use Rattle.gz_core.specs.Values.{name_of}
 use Rattle.gz_core.specs.Rows.{RowAt}
-use Rattle.gz_core.specs.Slots.{Slot, Gone, DecidedAs, OpenAt, slots}
+use Rattle.gz_core.specs.Slots.{slots}
+use Rattle.gz_core.specs.declared.slots.Slot.{Slot}
+use Rattle.gz_core.specs.declared.slots.Slot.TheVariants.{Gone, DecidedAs, OpenAt}
 use Rattle.gz_accept.specs.declared.answers.Step.TheVariants.{Done}
 use Rattle.gz_accept.specs.Steps.{promise_answer}
 use Rattle.gz_core.specs.Configurations.{IsConfig}
@@ -238,7 +240,7 @@ prepared_gone c w new ns v b config k going idle low untaken =
     let row = known_some (rows_known ns site.0) site.2 in
     elim (gone_or_kept c ns v) [
       | inl gone ↦ gone
-      | inr kept ↦ absurd (untaken site.0 row.0 site.1 row.1 (fresh_taken row.0 v b (kept site.0 row.0 site.1 row.1) (undecided_known c ns v site.0 row.0 idle.undecided site.1 row.1) (low_listed c new ns v b site.0 row.0 k low site.1 row.1)))
+      | inr kept ↦ absurd (untaken site.0 row.0 site.1 row.1 (fresh_taken (slots row.0 v) row.0.floor b (kept site.0 row.0 site.1 row.1) (undecided_known c ns v site.0 row.0 idle.undecided site.1 row.1) (low_listed c new ns v b site.0 row.0 k low site.1 row.1)))
     ]
 
 -- once the new ballot was promised at each site that takes it, the call waits, or gives in

@@ -12,7 +12,9 @@ use Rattle.std.proofs.lemmas.List.Quantifiers.{position-Some}
 use Rattle.gz_core.specs.Names.{Name, BallotAt, same_ballot, fast}
 use Rattle.gz_core.specs.Values.{name_of}
 use Rattle.gz_core.specs.Rows.{RowAt, column_in}
-use Rattle.gz_core.specs.Slots.{Slot, Gone, DecidedAs, OpenAt, slots, slot_of, vote_pair, IsVoteOf}
+use Rattle.gz_core.specs.Slots.{slots, slot_of, vote_pair, IsVoteOf}
+use Rattle.gz_core.specs.declared.slots.Slot.{Slot}
+use Rattle.gz_core.specs.declared.slots.Slot.TheVariants.{Gone, DecidedAs, OpenAt}
 use Rattle.gz_core.specs.declared.values.Value.{Value}
 use Rattle.gz_core.specs.declared.rows.Vote.{Vote}
 use Rattle.gz_core.specs.declared.rows.Column.{Column}
@@ -34,13 +36,13 @@ use Rattle.gz_round.specs.Causes.{row_value, column_value, vote_value}
 use Rattle.gz_round.specs.Sending.{NoEvidence, MayGiveIn, NoValue}
 use Rattle.gz_round.specs.Standing.{Knows, Stands, StageStands, MayPass}
 use Rattle.gz_round.specs.Following.{IsUnmet}
-use Rattle.gz_round.specs.Choosing.{slot_vote, heard_vote, IsHeardIn, AreHeardIn, IsProposed}
+use Rattle.gz_round.specs.Choosing.{promised_vote, heard_vote, IsHeardIn, AreHeardIn, IsProposed}
 use Rattle.gz_round.specs.Acting.{Acts, Carries, IsFewIn, ChoiceMeans, choice_of}
 use Rattle.gz_round.proofs.Known.{listed_known, known_heard}
 use Rattle.gz_round.proofs.LookBacks.{back_heard, last_promised_at}
 use Rattle.gz_round.proofs.Arms.{stands_stage}
 
-vote_yes : (b : BallotAt) (slot : Slot) (vote : Option (BallotAt × Name)) → slot_vote b slot ≡ Some vote → slot_promises slot b ≡ true
+vote_yes : (b : BallotAt) (slot : Slot) (vote : Option (BallotAt × Name)) → promised_vote b slot ≡ Some vote → slot_promises slot b ≡ true
 vote_yes b Gone vote e = absurd (none-some vote e)
 vote_yes b (DecidedAs x) vote e = absurd (none-some vote e)
 vote_yes b (OpenAt promise held) vote e =
@@ -49,7 +51,7 @@ vote_yes b (OpenAt promise held) vote e =
       | inr k ↦ absurd (none-some vote (sym (cond-false (same_ballot promise b && not (is_in b held)) (Some held) None k) ∙ e))
     ]
 
-vote_no : (b : BallotAt) (slot : Slot) → slot_vote b slot ≡ None → slot_promises slot b ≡ false
+vote_no : (b : BallotAt) (slot : Slot) → promised_vote b slot ≡ None → slot_promises slot b ≡ false
 vote_no b Gone e = refl
 vote_no b (DecidedAs x) e = refl
 vote_no b (OpenAt promise held) e =
@@ -120,7 +122,7 @@ not_true : (t : Bool) → not t ≡ true → t ≡ false
 not_true true e = absurd (false≢true e)
 not_true false e = refl
 
-slot_open : (b : BallotAt) (slot : Slot) (vote : Option (BallotAt × Name)) → slot_vote b slot ≡ Some vote → (slot ≡ OpenAt b vote) × (IsVoteOf b vote → ⊥)
+slot_open : (b : BallotAt) (slot : Slot) (vote : Option (BallotAt × Name)) → promised_vote b slot ≡ Some vote → (slot ≡ OpenAt b vote) × (IsVoteOf b vote → ⊥)
 slot_open b Gone vote e = absurd (none-some vote e)
 slot_open b (DecidedAs x) vote e = absurd (none-some vote e)
 slot_open b (OpenAt promise held) vote e =

@@ -3,7 +3,9 @@ use Rattle.std.specs.Prelude.{ℕ, ◌≡◌, ◌<◌, ◌⊎◌, ◌&&◌, not,
 use Rattle.std.specs.List.{All}
 use Rattle.gz_core.specs.Names.{Name, BallotAt, same_ballot}
 use Rattle.gz_core.specs.Rows.{RowAt}
-use Rattle.gz_core.specs.Slots.{Slot, Gone, DecidedAs, OpenAt, slots}
+use Rattle.gz_core.specs.Slots.{slots}
+use Rattle.gz_core.specs.declared.slots.Slot.{Slot}
+use Rattle.gz_core.specs.declared.slots.Slot.TheVariants.{Gone, DecidedAs, OpenAt}
 use Rattle.gz_core.specs.declared.values.Value.{Value}
 use Rattle.gz_config.specs.declared.Config.{Config}
 use Rattle.gz_pick.specs.Evidences.{is_in}
@@ -17,19 +19,19 @@ use Rattle.gz_round.specs.LookBack.{or_next, row_cast}
 use Rattle.gz_round.specs.Causes.{row_value}
 
 -- the vote of a slot that promises a ballot without a vote of it, none where it is not such a slot
-abbrev pub slot_vote : BallotAt → Slot → Option (Option (BallotAt × Name))
-slot_vote b Gone = None
-slot_vote b (DecidedAs x) = None
-slot_vote b (OpenAt promise vote) = if same_ballot promise b && not (is_in b vote) then Some vote else None
+abbrev pub promised_vote : BallotAt → Slot → Option (Option (BallotAt × Name))
+promised_vote b Gone = None
+promised_vote b (DecidedAs x) = None
+promised_vote b (OpenAt promise vote) = if same_ballot promise b && not (is_in b vote) then Some vote else None
 
 -- the same of a row that may be unknown
 abbrev pub heard_vote : ℕ → BallotAt → Option RowAt → Option (Option (BallotAt × Name))
 heard_vote v b None = None
-heard_vote v b (Some row) = slot_vote b (slots row v)
+heard_vote v b (Some row) = promised_vote b (slots row v)
 
 -- the row of a site promises the ballot, with this vote
 abbrev pub IsHeardIn : List (Option RowAt) → ℕ → BallotAt → Heard → Type 0
-IsHeardIn rows v b h = (row : RowAt) × (slice_get rows h.site ≡ Some (Some row)) × (slot_vote b (slots row v) ≡ Some h.vote)
+IsHeardIn rows v b h = (row : RowAt) × (slice_get rows h.site ≡ Some (Some row)) × (promised_vote b (slots row v) ≡ Some h.vote)
 
 -- all rows below a place that promise the ballot
 pub record AreHeardIn (c : Config) (rows : List (Option RowAt)) (v : ℕ) (b : BallotAt) (heard : List Heard) (at : ℕ) : Type 0 where

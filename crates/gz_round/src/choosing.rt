@@ -4,7 +4,7 @@ ghost use Rattle.std.specs.Prelude.{◌≡◌, ◌≤◌, ◌<◌, ◌+◌, ◌^
 ghost use Rattle.std.specs.List.{All};
 ghost use Rattle.gz_core.specs.Rows.{RowAt};
 ghost use Rattle.gz_core.specs.Names.{BallotAt};
-ghost use Rattle.gz_core.specs.Slots.{slots, slot_of, vote_pair, OpenAt};
+ghost use Rattle.gz_core.specs.declared.slots.Slot.TheVariants.{OpenAt};
 ghost use Rattle.gz_core.specs.Configurations.{IsConfig};
 ghost use Rattle.gz_config.specs.declared.Config.{Config};
 ghost use Rattle.gz_pick.specs.Choices.{AreSites};
@@ -13,12 +13,11 @@ ghost use Rattle.gz_round.specs.History.{Moment, Caller, Tale};
 ghost use Rattle.gz_round.specs.Causes.{row_value};
 ghost use Rattle.gz_round.specs.Acting.{Acts, CanAct, ChoiceMeans, choice_of};
 ghost use Rattle.gz_round.specs.LookBack.{or_next};
-ghost use Rattle.gz_round.specs.Choosing.{slot_vote, heard_vote, IsHeardIn, AreHeardIn, IsProposed};
+ghost use Rattle.gz_round.specs.Choosing.{promised_vote, heard_vote, IsHeardIn, AreHeardIn, IsProposed};
 
 use crate::acting::value_at;
-use crate::rounds::is_collected;
 use crate::run::{Run, Stage, copy_if_some, copy_of};
-use gz_core::{Ballot, Column, Config, Items, PutName, Row, SiteId, Value, Version, Vote};
+use gz_core::{Ballot, Config, Items, PutName, Row, SiteId, Slot, Value, Version};
 use gz_pick::heard::{Heard, Pick};
 use gz_pick::pick;
 use std::alloc::{AllocError, Global};
@@ -203,28 +202,17 @@ fn promise_of(
 {
     match row {
         None => None,
-        Some(row) => promise_in(row, version, ballot),
+        Some(row) => promise_in(row.slot(version), ballot),
     }
 }
 
-fn promise_in(row: &Row, version: Version, ballot: Ballot) -> Option<Option<(Ballot, PutName)>>
-    ensures { result ≡ slot_vote ballot (slots row.now version) }
+fn promise_in(slot: Slot, ballot: Ballot) -> Option<Option<(Ballot, PutName)>>
+    ensures { result ≡ promised_vote ballot slot }
 {
-    if is_collected(row, version) {
-        return None;
-    }
-    match row.column(version) {
-        None => promise_at(Ballot::fast(), None, ballot),
-        Some(column) => promise_of_column(column, ballot),
-    }
-}
-
-fn promise_of_column(column: &Column, ballot: Ballot) -> Option<Option<(Ballot, PutName)>>
-    ensures { result ≡ slot_vote ballot (slot_of (Some column.now)) }
-{
-    match column {
-        Column::Decided { .. } => None,
-        Column::Open { promise, vote } => promise_at(*promise, cast_of(vote), ballot),
+    match slot {
+        Slot::Gone => None,
+        Slot::DecidedAs(_) => None,
+        Slot::OpenAt { promise, vote } => promise_at(promise, vote, ballot),
     }
 }
 
@@ -233,22 +221,12 @@ fn promise_at(
     vote: Option<(Ballot, PutName)>,
     ballot: Ballot,
 ) -> Option<Option<(Ballot, PutName)>>
-    ensures { result ≡ slot_vote ballot (OpenAt promise vote) }
+    ensures { result ≡ promised_vote ballot (OpenAt promise vote) }
 {
     if promise == ballot && !is_cast_in(&vote, ballot) {
         Some(vote)
     } else {
         None
-    }
-}
-
-/// The ballot of a vote and the name of its value.
-fn cast_of(vote: &Option<Vote>) -> Option<(Ballot, PutName)>
-    ensures { result ≡ vote_pair vote.now }
-{
-    match vote {
-        None => None,
-        Some(vote) => Some((vote.ballot, vote.value.name())),
     }
 }
 

@@ -1,13 +1,11 @@
 //! The rounds of classic ballots: which one comes next, and when one leads no further.
-ghost use Rattle.std.specs.Prelude.{◌≡◌, ◌≤◌, ◌<◌, ◌+◌, ◌^◌, ◌&&◌, nat_lt, nat_le, max};
+ghost use Rattle.std.specs.Prelude.{◌≡◌, ◌≤◌, ◌<◌, ◌+◌, ◌^◌, max};
 ghost use Rattle.std.specs.List.{list_any, count_by};
-ghost use Rattle.gz_core.specs.Rows.{column_in};
-ghost use Rattle.gz_core.specs.Slots.{slots, slot_of};
-ghost use Rattle.gz_round.specs.Rounds.{round_known, above_known, promises_known, slot_round, promises_above, slot_promises_above, slot_promises};
+ghost use Rattle.gz_round.specs.Rounds.{round_known, above_known, promises_known, slot_round, slot_promises_above};
 ghost use Rattle.gz_round.specs.Acting.{round_in, is_overtaken, IsBallotAbove};
 
 use crate::run::{Run, Stage};
-use gz_core::{Ballot, Column, Row, Version, Vote};
+use gz_core::{Ballot, Row, Slot, Version};
 
 /// The greater of two rounds.
 pub fn later_of(a: u32, b: u32) -> u32
@@ -70,36 +68,18 @@ fn round_at(row: &Option<Row>, version: Version) -> u32
 {
     match row {
         None => 0,
-        Some(row) => round_of_row(row, version),
+        Some(row) => round_of(row.slot(version)),
     }
 }
 
-fn round_of_row(row: &Row, version: Version) -> u32
-    ensures { result ≡ slot_round (slots row.now version) }
+fn round_of(slot: Slot) -> u32
+    ensures { result ≡ slot_round slot }
 {
-    if is_collected(row, version) {
-        return 0;
+    match slot {
+        Slot::Gone => 0,
+        Slot::DecidedAs(_) => 0,
+        Slot::OpenAt { promise, .. } => promise.round,
     }
-    match row.column(version) {
-        None => 0,
-        Some(column) => round_of_column(column),
-    }
-}
-
-fn round_of_column(column: &Column) -> u32
-    ensures { result ≡ slot_round (slot_of (Some column.now)) }
-{
-    match column {
-        Column::Open { promise, .. } => promise.round,
-        Column::Decided { .. } => 0,
-    }
-}
-
-/// Whether a version of a row was collected.
-pub fn is_collected(row: &Row, version: Version) -> bool
-    ensures { result ≡ (nat_lt 0 row.now.floor && nat_le version row.now.floor) }
-{
-    row.floor() > Version::none() && version <= row.floor()
 }
 
 /// Whether some row promises a ballot above this one at a version.
@@ -119,27 +99,16 @@ fn is_above(row: &Option<Row>, version: Version, ballot: Ballot) -> bool
 {
     match row {
         None => false,
-        Some(row) => is_row_above(row, version, ballot),
+        Some(row) => is_slot_above(row.slot(version), ballot),
     }
 }
 
-fn is_row_above(row: &Row, version: Version, ballot: Ballot) -> bool
-    ensures { result ≡ promises_above row.now version ballot }
+fn is_slot_above(slot: Slot, ballot: Ballot) -> bool
+    ensures { result ≡ slot_promises_above slot ballot }
 {
-    if is_collected(row, version) {
-        return false;
-    }
-    match row.column(version) {
-        None => ballot.is_below(Ballot::fast()),
-        Some(column) => is_column_above(column, ballot),
-    }
-}
-
-fn is_column_above(column: &Column, ballot: Ballot) -> bool
-    ensures { result ≡ slot_promises_above (slot_of (Some column.now)) ballot }
-{
-    match column {
-        Column::Open { promise, .. } => ballot.is_below(*promise),
-        Column::Decided { .. } => false,
+    match slot {
+        Slot::Gone => false,
+        Slot::DecidedAs(_) => false,
+        Slot::OpenAt { promise, .. } => ballot.is_below(promise),
     }
 }

@@ -1,7 +1,7 @@
 //! What a row holds, and what it shows of a version.
 use crate::acts::{Act, FIRST, Of, SECOND, row_by, take_named};
-use crate::samples::{LOW, ONE, TWO};
-use gz_core::{Ballot, Column, PutName, Row, Version};
+use crate::samples::{FAST, LOW, ONE, TWO};
+use gz_core::{Ballot, PutName, Row, Slot, Version};
 use gz_pick::looks::later_of;
 use gz_pick::{decided_at, named_at, top_of, vote_at};
 use std::alloc::Global;
@@ -15,40 +15,25 @@ fn sample(alloc: Global) -> Option<Row> {
     Some(row)
 }
 
-/// What a column holds: its promise where it is open, and the name of its value.
-type Brief = (Option<Ballot>, Option<PutName>);
-
-fn brief_of(column: &Column) -> Brief {
-    match column {
-        Column::Open { promise, vote } => {
-            let name = match vote {
-                None => None,
-                Some(vote) => Some(vote.value.name()),
-            };
-            (Some(*promise), name)
-        },
-        Column::Decided { value } => (None, Some(value.name())),
-    }
-}
-
 /// The two columns of a row that has as many.
-fn columns_of(row: &Row) -> Option<[(Version, Brief); 2]> {
+fn columns_of(row: &Row) -> Option<[(Version, Slot); 2]> {
     match row.columns() {
-        [(v, first), (w, second)] => Some([(*v, brief_of(first)), (*w, brief_of(second))]),
+        [(v, first), (w, second)] => Some([(*v, first.slot()), (*w, second.slot())]),
         _ => None,
     }
 }
 
-fn column_at(row: &Row, v: Version) -> Option<Brief> {
+fn column_at(row: &Row, v: Version) -> Option<Slot> {
     match row.column(v) {
         None => None,
-        Some(column) => Some(brief_of(column)),
+        Some(column) => Some(column.slot()),
     }
 }
 
-/// Of a version its column, its vote, its decision and its value.
+/// Of a version its slot and its column, and their vote, decision and value.
 type Shown = (
-    Option<Brief>,
+    Slot,
+    Option<Slot>,
     Option<(Ballot, PutName)>,
     Option<PutName>,
     Option<PutName>,
@@ -56,6 +41,7 @@ type Shown = (
 
 fn shown_at(row: &Row, v: Version) -> Shown {
     (
+        row.slot(v),
         column_at(row, v),
         vote_at(row, v),
         decided_at(row, v),
@@ -64,7 +50,7 @@ fn shown_at(row: &Row, v: Version) -> Shown {
 }
 
 /// What the sample's two columns are.
-fn columns_of_sample(alloc: Global) -> Option<[(Version, Brief); 2]> {
+fn columns_of_sample(alloc: Global) -> Option<[(Version, Slot); 2]> {
     columns_of(&sample(alloc)?)
 }
 
@@ -73,14 +59,25 @@ fn shown_by_sample(alloc: Global, v: Version) -> Option<Shown> {
     Some(shown_at(&sample(alloc)?, v))
 }
 
-const VOTED: Brief = (Some(LOW), Some(TWO));
+const VOTED: Slot = Slot::OpenAt {
+    promise: LOW,
+    vote: Some((LOW, TWO)),
+};
 
-const DECIDED: Brief = (None, Some(ONE));
+const DECIDED: Slot = Slot::DecidedAs(ONE);
+
+const BLANK: Slot = Slot::OpenAt {
+    promise: FAST,
+    vote: None,
+};
 
 const SHOWN: [(Version, Shown); 3] = [
-    (FIRST, (Some(VOTED), Some((LOW, TWO)), None, Some(TWO))),
-    (SECOND, (Some(DECIDED), None, Some(ONE), Some(ONE))),
-    (THIRD, (None, None, None, None)),
+    (
+        FIRST,
+        (VOTED, Some(VOTED), Some((LOW, TWO)), None, Some(TWO)),
+    ),
+    (SECOND, (DECIDED, Some(DECIDED), None, Some(ONE), Some(ONE))),
+    (THIRD, (BLANK, None, None, None, None)),
 ];
 
 #[test]
@@ -90,6 +87,17 @@ fn a_row_shows_its_columns(rt: HostRuntime) {
     for (v, shown) in SHOWN {
         assert!(rt; shown_by_sample(rt.alloc(), v) == Some(shown));
     }
+}
+
+/// What a collection makes of the first version and the second.
+fn slots_by_trim(alloc: Global) -> Option<[Slot; 2]> {
+    let row = row_by(alloc, (Act::Trim, Of::One))?;
+    Some([row.slot(FIRST), row.slot(SECOND)])
+}
+
+#[test]
+fn a_version_up_to_the_floor_is_gone(rt: HostRuntime) {
+    assert!(rt; slots_by_trim(rt.alloc()) == Some([Slot::Gone, DECIDED]));
 }
 
 /// The floor, how many columns there are, and the latest version shown.
