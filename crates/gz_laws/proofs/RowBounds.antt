@@ -6,7 +6,8 @@ use Rattle.std.specs.Prelude.{Option, ◌==◌, ◌&&◌, max, nat_lt, nat_le, i
 use Rattle.std.specs.List.{list_all}
 use Rattle.gz_core.specs.Names.{Name, BallotAt}
 use Rattle.gz_core.specs.Rows.{RowAt, Rises, column_in}
-use Rattle.gz_core.specs.Slots.{Slot, slots, slot_of}
+use Rattle.gz_core.specs.Slots.{slots, slot_of}
+use Rattle.gz_core.specs.declared.slots.Slot.{Slot}
 use Rattle.gz_core.specs.declared.rows.Column.{Column}
 use Rattle.gz_core.specs.declared.rows.Column.TheVariants.{Open, Decided}
 use Rattle.gz_accept.specs.Steps.{with_column}
