@@ -2,15 +2,16 @@
 //! a code.
 #![tactic(auto)]
 
-use gz_cli::start::start;
-use gz_cli::status::Status;
+use gz_cli::run::run;
+use gz_cli::{Bench, FileShelf, Status, StdSink};
 use gz_core::Word;
+use std::alloc::AllocError;
 use std::process::ExitCode;
 use std::{env, io};
 
 fn main(rt: HostRuntime) -> ExitCode {
     let status = match arguments(&rt) {
-        Ok(words) => start(rt.alloc(), &rt, words.as_slice()),
+        Ok(words) => run_words(&rt, words.as_slice()),
         Err(error) => unread(&error),
     };
     if !matches!(&status, Status::Done) {
@@ -28,6 +29,20 @@ fn arguments(rt: &HostRuntime) -> io::Result<Vec<Word>> {
         words.push(Word(word))?;
     }
     Ok(words)
+}
+
+// Runs the words over the files of the folder and sixteen empty sites in memory, with the output on standard output.
+fn run_words(rt: &HostRuntime, words: &[Word]) -> Status {
+    match Bench::new(rt.alloc()) {
+        Ok(mut bench) => run(
+            rt.alloc(),
+            words,
+            &mut FileShelf::new(rt),
+            &mut StdSink::new(rt),
+            &mut bench,
+        ),
+        Err(AllocError) => Status::NoMemory,
+    }
 }
 
 // Words that are no text are of no form.

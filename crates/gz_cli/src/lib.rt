@@ -9,7 +9,6 @@ mod output;
 mod pieces;
 mod replay;
 pub mod run;
-pub mod start;
 pub mod status;
 mod words;
 
