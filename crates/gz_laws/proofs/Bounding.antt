@@ -43,7 +43,7 @@ use Rattle.gz_laws.proofs.Beginning.{some_needed}
 use Rattle.gz_laws.proofs.Growing.{allowed_base, clean_made}
 use Rattle.gz_laws.proofs.Hearing.{le_means}
 use Rattle.gz_laws.proofs.Overtaking.{row_sent}
-use Rattle.gz_laws.proofs.RowBounds.{row_wider, columns_with, top_within, vote_within, decision_within, round_within, greatest_within}
+use Rattle.gz_laws.proofs.RowBounds.{row_wider, columns_with, top_within, vote_within, vote_above, decision_within, decision_above, round_within, greatest_within}
 
 -- the rows that a call heard
 abbrev IsSeenWithin : ℕ → ℕ → Option Seen → Type 0
@@ -127,19 +127,23 @@ at_within : (versions rounds : ℕ) (c : Config) (p : RowAt → Bool) (ms : List
 at_within versions rounds c p ms h e = let f = count_found c.n (some_heard p ms) e in some_within versions rounds p ms f.0 h f.2
 
 -- the version of a value that is shown, and one at which a call may work
-pub shown_within : (versions rounds : ℕ) (c : Config) (ms : List Moment) (v : ℕ) (x : Name) → IsConfig c → AreHeardWithin versions rounds ms → IsShown c ms v x → v ≤ versions
+pub record IsVersionWithin (versions v : ℕ) : Type 0 where
+  pub above : 1 ≤ v
+  pub below : v ≤ versions
+
+pub shown_within : (versions rounds : ℕ) (c : Config) (ms : List Moment) (v : ℕ) (x : Name) → IsConfig c → AreHeardWithin versions rounds ms → IsShown c ms v x → IsVersionWithin versions v
 shown_within versions rounds c ms v x sizes h (inl k) =
     let some = some_needed c k.0 sizes in
     let enough = k.1 in
     let r = at_within versions rounds c (λ q. votes_for k.0 x v (Some q)) ms h (omega (arith, some, enough)) in
-    vote_within versions rounds r.0 v k.0 x r.1.1 r.1.0
+    record { above = vote_above versions rounds r.0 v k.0 x r.1.1 r.1.0; below = vote_within versions rounds r.0 v k.0 x r.1.1 r.1.0 }
 shown_within versions rounds c ms v x sizes h (inr k) =
     let r = at_within versions rounds c (λ q. decides x v (Some q)) ms h k in
-    decision_within versions rounds r.0 v x r.1.1 r.1.0
+    record { above = decision_above versions rounds r.0 v x r.1.1 r.1.0; below = decision_within versions rounds r.0 v x r.1.1 r.1.0 }
 
 pub next_within : (versions rounds : ℕ) (c : Config) (ms : List Moment) (v : ℕ) → IsConfig c → AreHeardWithin versions rounds ms → IsNext c ms v → v ≤ versions + 1
 next_within versions rounds c ms v sizes h (inl e) = omega (arith, e)
-next_within versions rounds c ms v sizes h (inr k) = let e = k.2 in let l = shown_within versions rounds c ms k.0 k.1 sizes h k.3 in omega (arith, e, l)
+next_within versions rounds c ms v sizes h (inr k) = let e = k.2 in let l = (shown_within versions rounds c ms k.0 k.1 sizes h k.3).below in omega (arith, e, l)
 
 pub grounded_within : (versions rounds : ℕ) (c : Config) (ms : List Moment) (v : ℕ) → IsConfig c → AreHeardWithin versions rounds ms → IsGrounded c ms v → v ≤ versions + 1
 grounded_within versions rounds c ms v sizes h (inl k) = next_within versions rounds c ms v sizes h k

@@ -9,9 +9,9 @@ use Rattle.gz_core.specs.Calls.{key_of}
 use Rattle.gz_core.specs.Configurations.{need}
 use Rattle.gz_core.specs.Counts.{count_sites}
 use Rattle.gz_core.specs.Rows.{RowAt, column_in}
-use Rattle.gz_core.specs.Slots.{vote_pair, Act, Promises, VotesClassic, slots, slot_of}
 use Rattle.gz_core.specs.declared.slots.Slot.{Slot}
 use Rattle.gz_core.specs.declared.slots.Slot.TheVariants.{Gone, DecidedAs, OpenAt}
+use Rattle.gz_core.specs.Slots.{Act, Promises, VotesClassic, slots, slot_of, slot_vote}
 use Rattle.gz_core.specs.declared.rows.Column.{Column}
 use Rattle.gz_core.specs.declared.rows.Column.TheVariants.{Open, Decided}
 use Rattle.gz_core.specs.declared.values.Value.{Value}
@@ -19,9 +19,9 @@ use Rattle.gz_core.proofs.Ballots.{same_means, same_refl, name_refl}
 use Rattle.gz_core.proofs.Counting.{count_within, count_found}
 use Rattle.gz_accept.specs.declared.answers.Step.{Step}
 use Rattle.gz_accept.specs.declared.answers.Step.TheVariants.{Done, Already, Below, Settled, Trimmed}
-use Rattle.gz_accept.specs.Steps.{column_or_blank, promise_column, classic_column, promise_answer, classic_answer}
+use Rattle.gz_accept.specs.Steps.{promise_at, classic_at, promise_answer, classic_answer}
 use Rattle.gz_pick.specs.Evidences.{is_in, is_for, votes_for}
-use Rattle.gz_pick.specs.Looks.{column_vote, row_top}
+use Rattle.gz_pick.specs.Looks.{row_top}
 use Rattle.gz_pick.specs.declared.heard.Heard.{Heard}
 use Rattle.gz_round.specs.declared.hearing.Seen.{Seen as SeenRow}
 use Rattle.gz_round.specs.Counting.{outs, IsGoing}
@@ -119,34 +119,25 @@ open_taken p b true h = refl
 open_taken p b false h =
     elim (is_below b p) as (λ k. (if k then Below p else Done) ≡ Already → false ≡ true) [ true ↦ λ e. cc | false ↦ λ e. cc ] h
 
-promise_taken_at : (o : Option Column) (b : BallotAt) → promise_column b (column_or_blank o) ≡ Already → (vote : Option (BallotAt × Name)) × (slot_of o ≡ OpenAt b vote)
-promise_taken_at None b h = (None, ap (λ (p : BallotAt). OpenAt p None) (same_means fast b (open_taken fast b (same_ballot fast b) h)))
-promise_taken_at (Some (Open p vote)) b h = (vote_pair vote, ap (λ (q : BallotAt). OpenAt q (vote_pair vote)) (same_means p b (open_taken p b (same_ballot p b) h)))
-promise_taken_at (Some (Decided x)) b h = cc
+promise_taken_at : (a : Slot) (floor : ℕ) (b : BallotAt) → promise_at b floor a ≡ Already → (vote : Option (BallotAt × Name)) × (a ≡ OpenAt b vote)
+promise_taken_at Gone floor b h = cc
+promise_taken_at (DecidedAs x) floor b h = cc
+promise_taken_at (OpenAt p vote) floor b h = (vote, ap (λ (q : BallotAt). OpenAt q vote) (same_means p b (open_taken p b (same_ballot p b) h)))
 
-classic_taken_at : (o : Option Column) (b : BallotAt) → classic_column b (column_or_blank o) ≡ Already → (y : Name) × ((p : BallotAt) × ((slot_of o ≡ OpenAt p (Some (b, y))) × (is_for b y (column_vote o) ≡ true)))
-classic_taken_at None b h = let bad = open_taken fast b false h in cc
-classic_taken_at (Some (Open p None)) b h = let bad = open_taken p b false h in cc
-classic_taken_at (Some (Open p (Some vote))) b h =
-    let t = open_taken p b (same_ballot vote.ballot b) h in
-    let is = same_means vote.ballot b t in
-    let y = name_of vote.value in
-    (y, (p, (ap (λ (q : BallotAt). OpenAt p (Some (q, y))) is, ap (λ k. k && same_name y y) t ∙ name_refl y)))
-classic_taken_at (Some (Decided x)) b h = cc
+classic_taken_at : (a : Slot) (floor : ℕ) (b : BallotAt) → classic_at b floor a ≡ Already → (y : Name) × ((p : BallotAt) × (a ≡ OpenAt p (Some (b, y))))
+classic_taken_at Gone floor b h = cc
+classic_taken_at (DecidedAs x) floor b h = cc
+classic_taken_at (OpenAt p None) floor b h = let bad = open_taken p b false h in cc
+classic_taken_at (OpenAt p (Some u)) floor b h = (u.1, (p, ap (λ (q : BallotAt). OpenAt p (Some (q, u.1))) (same_means u.0 b (open_taken p b (same_ballot u.0 b) h))))
 
-at_column : (row : RowAt) (v : ℕ) (f : Column → Step) → (if nat_le v row.floor then Trimmed row.floor else f (column_or_blank (column_in row.columns v))) ≡ Already → f (column_or_blank (column_in row.columns v)) ≡ Already
-at_column row v f h =
-    elim (nat_le v row.floor) as (λ t. (if t then Trimmed row.floor else f (column_or_blank (column_in row.columns v))) ≡ Already → f (column_or_blank (column_in row.columns v)) ≡ Already) [ true ↦ λ e. cc | false ↦ λ e. e ] h
-
-promise_taken : (row : RowAt) (v : ℕ) (b : BallotAt) → row.floor ≡ 0 → promise_answer row v b ≡ Already → (vote : Option (BallotAt × Name)) × (slots row v ≡ OpenAt b vote)
-promise_taken row v b clean h =
-    let k = promise_taken_at (column_in row.columns v) b (at_column row v (promise_column b) h) in
-    (k.0, slots_open row v clean ∙ k.1)
+promise_taken : (row : RowAt) (v : ℕ) (b : BallotAt) → promise_answer row v b ≡ Already → (vote : Option (BallotAt × Name)) × (slots row v ≡ OpenAt b vote)
+promise_taken row v b h = promise_taken_at (slots row v) row.floor b h
 
 classic_taken : (row : RowAt) (v : ℕ) (b : BallotAt) → row.floor ≡ 0 → classic_answer row v b ≡ Already → (y : Name) × ((p : BallotAt) × ((slots row v ≡ OpenAt p (Some (b, y))) × (votes_for b y v (Some row) ≡ true)))
 classic_taken row v b clean h =
-    let k = classic_taken_at (column_in row.columns v) b (at_column row v (classic_column b) h) in
-    (k.0, (k.1.0, (slots_open row v clean ∙ k.1.1.0, k.1.1.1)))
+    let k = classic_taken_at (slots row v) row.floor b h in
+    let y = k.0 in
+    (y, (k.1.0, (k.1.1, ap (λ (a : Slot). is_for b y (slot_vote a)) (sym (slots_open row v clean) ∙ k.1.1) ∙ ap (λ t. t && same_name y y) (same_refl b) ∙ name_refl y)))
 
 -- the promise of the ballot that the call promised last
 promise_of : (s : State) (w : Caller) (past : List Tale) (ms : List Moment) (v : ℕ) (b : BallotAt) → (k : IsKnownCall s w past ms) → has_promised_at ms v b ≡ true → IsPromised (sent_after unused k.deeds) w.name v b
@@ -184,7 +175,7 @@ no_promise s w past ms v b k going idle last taken uncast short =
     let all = count_within s.cfg.n (λ i. not (site_now ms i).out) (λ i. promises_known v b (rows_known ms i)) (λ i below h.
     let r = in_known s.cfg ms v i idle below h in
     let shown = known_shown s w past ms i r.0 k r.1 in
-    let p = promise_taken r.0 v b shown.0.floor (taken i r.0 below r.1) in
+    let p = promise_taken r.0 v b (taken i r.0 below r.1) in
     let none = unvoted s w past ms v b (record { site = i; row = slots r.0 }) p.0 k promised uncast shown.1 p.1 in
     ap (promises_known v b) r.1 ∙ ap (λ (x : Slot). slot_promises x b) p.1 ∙ ap (λ t. t && not (is_in b p.0)) (same_refl b) ∙ ap not none) in
     let enough = enough_in s.cfg ms going in

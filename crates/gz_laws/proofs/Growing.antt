@@ -1,17 +1,17 @@
 -- What a client sends at one event grows the store of its object by deeds of the machine of agreement.
-use Rattle.std.proofs.Common.{◌≡◌, ℕ, zero, suc, ◌+◌, ◌⊎◌, ◌≤◌, Bool, true, inl, inr, List, [], ◌∷◌, ◌++◌, Option, Some, None, refl, ap, sym, ◌∙◌, subst, arith, false}
-use Rattle.std.specs.Prelude.{slice_get, if◌then◌else◌}
+use Rattle.std.proofs.Common.{◌≡◌, ℕ, zero, suc, ◌+◌, ◌⊎◌, ◌≤◌, Bool, true, false, inl, inr, List, [], ◌∷◌, ◌++◌, Option, Some, None, refl, ap, sym, ◌∙◌, subst, arith}
+use Rattle.std.specs.Prelude.{if◌then◌else◌, slice_get}
 use Rattle.std.proofs.lemmas.Bool.{cases_lt, false≢true}
 use Rattle.gz_core.specs.Names.{Name, BallotAt, same_name}
 use Rattle.gz_core.specs.Values.{name_of}
 use Rattle.gz_core.specs.Rows.{RowAt, column_in}
 use Rattle.gz_core.specs.Slots.{Act, Promises, act_of, slots, slot_of, slot_vote, slot_decision}
 use Rattle.gz_core.specs.declared.rows.Column.{Column}
+use Rattle.gz_core.proofs.Ballots.{name_refl}
 use Rattle.gz_core.proofs.Columns.{none_below}
 use Rattle.gz_core.proofs.Counting.{count_found}
 use Rattle.gz_core.proofs.Quorums.{need_some}
 use Rattle.gz_pick.specs.Evidences.{votes_for, decides, is_for, is_named}
-use Rattle.gz_core.proofs.Ballots.{name_refl}
 use Rattle.gz_config.specs.declared.Config.{Config}
 use Rattle.gz_core.specs.declared.requests.RowStep.{RowStep}
 use Rattle.gz_core.specs.declared.requests.RowStep.TheVariants.{FastVote, Promise, ClassicVote, Decide, Trim}
@@ -50,7 +50,7 @@ pub only_then : (a b c : Store) → OnlyAsks a b → OnlyAsks b c → OnlyAsks a
 only_then a b c p q = record { stored = λ s. q.stored s ∙ p.stored s; used = λ s. q.used s ∙ p.used s; replies = q.replies ∙ p.replies; asked = λ k h. q.asked k (p.asked k h) }
 
 -- a version at which a clean row has a column is above 0
-first_seen : (row : RowAt) (v : ℕ) → IsClean row → (column_in row.columns v ≡ None → ⊥) → 1 ≤ v
+pub first_seen : (row : RowAt) (v : ℕ) → IsClean row → (column_in row.columns v ≡ None → ⊥) → 1 ≤ v
 first_seen row v clean there = elim (cases_lt 0 v) [ inl l ↦ omega arith | inr l ↦ absurd (there (none_below v 0 row.columns (omega arith) clean.rises)) ]
 
 vote_there : (b : BallotAt) (x : Name) (o : Option Column) → is_for b x (slot_vote (slot_of o)) ≡ true → o ≡ None → ⊥

@@ -6,16 +6,17 @@ use Rattle.std.specs.Prelude.{Option, ◌==◌, ◌&&◌, max, nat_lt, nat_le, i
 use Rattle.std.specs.List.{list_all}
 use Rattle.gz_core.specs.Names.{Name, BallotAt}
 use Rattle.gz_core.specs.Rows.{RowAt, Rises, column_in}
-use Rattle.gz_core.specs.Slots.{slots, slot_of}
+use Rattle.gz_core.specs.Slots.{slots, slot_of, slot_vote, slot_decision}
 use Rattle.gz_core.specs.declared.slots.Slot.{Slot}
 use Rattle.gz_core.specs.declared.rows.Column.{Column}
 use Rattle.gz_core.specs.declared.rows.Column.TheVariants.{Open, Decided}
 use Rattle.gz_accept.specs.Steps.{with_column}
 use Rattle.gz_pick.specs.Evidences.{is_for, is_named, votes_for, decides}
-use Rattle.gz_pick.specs.Looks.{shows_value, top_in, row_top, column_vote, column_decision}
+use Rattle.gz_pick.specs.Looks.{shows_value, top_in}
 use Rattle.gz_round.specs.Rounds.{slot_round, round_known, greatest}
 use Rattle.gz_round.specs.Sites.{column_stands, entry_stands, can_stand}
 use Rattle.gz_laws.specs.Bounded.{IsColumnWithin, AreColumnsWithin, IsRowWithin}
+use Rattle.gz_laws.proofs.Growing.{first_seen}
 use Rattle.gz_laws.proofs.Hearing.{slots_open}
 
 -- wider bounds
@@ -62,11 +63,11 @@ top_within versions rounds (c ∷ cs) h =
     elim (shows_value c.1) as (λ t. (if t then max c.0 (top_in cs) else top_in cs) ≤ versions) [ true ↦ omega (arith, l, r) | false ↦ r ]
 
 -- a vote or a decision that a row has
-vote_there : (o : Option Column) (b : BallotAt) (x : Name) → is_for b x (column_vote o) ≡ true → (column : Column) × (o ≡ Some column)
+vote_there : (o : Option Column) (b : BallotAt) (x : Name) → is_for b x (slot_vote (slot_of o)) ≡ true → (column : Column) × (o ≡ Some column)
 vote_there None b x h = cc
 vote_there (Some column) b x h = (column, refl)
 
-decision_there : (o : Option Column) (x : Name) → is_named x (column_decision o) ≡ true → (column : Column) × (o ≡ Some column)
+decision_there : (o : Option Column) (x : Name) → is_named x (slot_decision (slot_of o)) ≡ true → (column : Column) × (o ≡ Some column)
 decision_there None x h = cc
 decision_there (Some column) x h = (column, refl)
 
@@ -75,6 +76,13 @@ vote_within versions rounds row v b x h e = let k = vote_there (column_in row.co
 
 pub decision_within : (versions rounds : ℕ) (row : RowAt) (v : ℕ) (x : Name) → IsRowWithin versions rounds row → decides x v (Some row) ≡ true → v ≤ versions
 decision_within versions rounds row v x h e = let k = decision_there (column_in row.columns v) x e in (column_there versions rounds row.columns v k.0 h.columns k.1).0
+
+-- at a version above 0
+pub vote_above : (versions rounds : ℕ) (row : RowAt) (v : ℕ) (b : BallotAt) (x : Name) → IsRowWithin versions rounds row → votes_for b x v (Some row) ≡ true → 1 ≤ v
+vote_above versions rounds row v b x h e = let k = vote_there (column_in row.columns v) b x e in first_seen row v h.clean (λ none. let bad : None ≡ Some k.0 = sym none ∙ k.1 in cc)
+
+pub decision_above : (versions rounds : ℕ) (row : RowAt) (v : ℕ) (x : Name) → IsRowWithin versions rounds row → decides x v (Some row) ≡ true → 1 ≤ v
+decision_above versions rounds row v x h e = let k = decision_there (column_in row.columns v) x e in first_seen row v h.clean (λ none. let bad : None ≡ Some k.0 = sym none ∙ k.1 in cc)
 
 -- the round that a row promises
 slot_within : (rounds : ℕ) (o : Option Column) → ((column : Column) → o ≡ Some column → IsColumnWithin rounds column) → slot_round (slot_of o) ≤ rounds

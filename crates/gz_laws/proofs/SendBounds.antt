@@ -12,7 +12,7 @@ use Rattle.gz_core.specs.Rows.{RowAt, column_in}
 use Rattle.gz_core.specs.declared.rows.Column.{Column}
 use Rattle.gz_core.specs.declared.rows.Column.TheVariants.{Open, Decided}
 use Rattle.gz_core.specs.declared.rows.Vote.{Vote}
-use Rattle.gz_accept.specs.Steps.{column_or_blank, vote_in, with_column}
+use Rattle.gz_accept.specs.Steps.{vote_in, with_column}
 use Rattle.gz_core.specs.declared.values.Value.{Value}
 use Rattle.gz_core.specs.declared.requests.RowStep.{RowStep}
 use Rattle.gz_core.specs.declared.requests.RowStep.TheVariants.{FastVote, Promise, ClassicVote, Decide, Trim}
@@ -67,7 +67,7 @@ made_columns versions rounds used next c w past ms (Promise v b) before k le mor
     let a = k.above in
     let round = promise_next versions rounds used c w past ms v b k may in
     let up = more refl in
-    column_made versions rounds next v (Open b (vote_in (column_or_blank (column_in before.columns v)))) before h (omega (arith, a, le)) (grounded_within versions rounds c ms v k.sizes k.heard may.grounded) (omega (arith, round, up))
+    column_made versions rounds next v (Open b (vote_in (column_in before.columns v))) before h (omega (arith, a, le)) (grounded_within versions rounds c ms v k.sizes k.heard may.grounded) (omega (arith, round, up))
 made_columns versions rounds used next c w past ms (ClassicVote v b x) before k le more may h =
     let a = k.above in
     let vote : Vote = record { ballot = b; value = x } in
@@ -76,14 +76,14 @@ made_columns versions rounds used next c w past ms (ClassicVote v b x) before k 
     column_made versions rounds next v (Open b (Some vote)) before h (omega (arith, a, le)) (k.low v b may.promised) (omega (arith, round, now, le))
 made_columns versions rounds used next c w past ms (Decide v x) before k le more may h =
     let a = k.above in
-    let version = shown_within versions rounds c ms v (name_of x) k.sizes k.heard may.0 in
+    let version = (shown_within versions rounds c ms v (name_of x) k.sizes k.heard may.0).below in
     column_made versions rounds next v (Decided x) before h (omega (arith, a, le)) (omega (arith, version)) tt
 made_columns versions rounds used next c w past ms (Trim to x) before k le more may h = absurd may
 
 made_within : (versions rounds used next : ℕ) (c : Config) (w : Caller) (past : List Tale) (ms : List Moment) (step : RowStep) (before row : RowAt) → IsCallWithin versions rounds used c past ms → used ≤ next → (is_notice step ≡ false → used + 1 ≤ next)
     → MayMake c w past ms step → IsMade step before row → IsRowWithin versions rounds before → IsRowWithin (versions + 1) next row
 made_within versions rounds used next c w past ms step before row k le more may m h = record {
-  clean = clean_made c w past ms step before row may m h.clean;
+  clean = clean_made c w past ms step before row (λ v x shown. (shown_within versions rounds c ms v x k.sizes k.heard shown).above) may m h.clean;
   columns = subst (λ (r : RowAt). AreColumnsWithin (versions + 1) next r.columns) (sym m.1) (made_columns versions rounds used next c w past ms step before k le more may h);
 }
 
