@@ -58,14 +58,14 @@ number_equal m n h =
 
 same_means : (c d : Cast) → same_cast c d ≡ true → c ≡ d
 same_means c d h =
-    let p = then_equal (nat_cmp c.site d.site) _ h in
-    let q = then_equal _ _ p.1 in
+    let p = then_equal (ordering_then (nat_cmp c.name.session d.name.session) (nat_cmp c.name.seq d.name.seq)) _ h in
+    let q = then_equal (nat_cmp c.site d.site) _ p.1 in
     let r = then_equal (nat_cmp c.version d.version) _ q.1 in
     let b = then_equal _ _ r.1 in
+    let name = then_equal (nat_cmp c.name.session d.name.session) (nat_cmp c.name.seq d.name.seq) p.0 in
     let ballot = then_equal (nat_cmp c.ballot.round d.ballot.round) (nat_cmp c.ballot.session d.ballot.session) b.0 in
-    let name = then_equal (nat_cmp c.name.session d.name.session) (nat_cmp c.name.seq d.name.seq) b.1 in
-    let site = number_equal c.site d.site p.0 in
-    let key = same_key-eq c.key d.key q.0 in
+    let site = number_equal c.site d.site q.0 in
+    let key = same_key-eq c.key d.key b.1 in
     let version = number_equal c.version d.version r.0 in
     let round = number_equal c.ballot.round d.ballot.round ballot.0 in
     let drawn = number_equal c.ballot.session d.ballot.session ballot.1 in
