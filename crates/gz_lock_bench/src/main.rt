@@ -9,7 +9,9 @@ use anyhow::{Result, bail, ensure};
 use gz_lock::{Lock, Tally};
 use std::alloc::Global;
 use std::env;
-use std::time::Instant;
+use std::sync::Wait;
+use std::thread::Threads;
+use std::time::{Clock, Instant};
 use threads::take_turns_on;
 
 fn empty(alloc: Global) -> Tally
@@ -21,42 +23,48 @@ fn empty(alloc: Global) -> Tally
 }
 
 /// The time in nanoseconds that so many threads take for so many turns each.
-fn time_of_turns(rt: &HostRuntime, threads: u32, turns: u32) -> Result<u128> {
-    let Ok((lock, mut first)) = Lock::new(rt.alloc(), empty(rt.alloc()), 5) else {
+fn time_of_turns<R: Threads + Wait + Clock + Sync>(
+    rt: &R,
+    alloc: Global,
+    threads: u32,
+    turns: u32,
+) -> Result<u128> {
+    let Ok((lock, mut first)) = Lock::new(alloc, empty(alloc), 5) else {
         bail!("no memory");
     };
     let start = Instant::now(rt)?;
     take_turns_on(rt, &lock, &mut first, threads, turns);
     let taken = start.elapsed(rt)?.as_nanos();
-    let taken_before = u64::from(threads) * u64::from(turns);
+    let before = u64::from(threads) * u64::from(turns);
     ensure!(
-        lock.turn(rt, &mut first, 0)? == taken_before + 1,
+        lock.turn(rt, &mut first, 0)? == before + 1,
         "a turn is missing"
     );
     Ok(taken)
 }
 
-fn show_time(rt: &HostRuntime, threads: &str, turns: &str) -> Result<()> {
-    let (threads, turns) = (threads.parse()?, turns.parse()?);
+/// What two words ask for.
+fn parse(threads: &str, turns: &str) -> Result<(u32, u32)> {
+    let threads = threads.parse()?;
     ensure!(
-        turns <= 100_000_000 && (threads == 1 || threads == 2 || threads == 4),
-        "1, 2 or 4 threads, up to 100,000,000 turns"
+        threads == 1 || threads == 2 || threads == 4,
+        "1, 2 or 4 threads"
     );
-    println!(rt; "{}", time_of_turns(rt, threads, turns)?)?;
-    Ok(())
-}
-
-fn show_turns(rt: &HostRuntime) -> Result<()> {
-    time_of_turns(rt, 4, 1000)?;
-    println!(rt; "4 threads, 1000 turns each")?;
-    Ok(())
+    Ok((threads, turns.parse()?))
 }
 
 fn main(rt: HostRuntime) -> Result<()> {
     let words: Vec<String> = env::args(&rt)?.collect(rt.alloc())?;
     match words.as_slice() {
-        [_] => show_turns(&rt),
-        [_, threads, turns] => show_time(&rt, threads, turns),
+        [_] => {
+            time_of_turns(&rt, rt.alloc(), 4, 1000)?;
+            println!(rt; "4 threads, 1000 turns each")?;
+        }
+        [_, threads, turns] => {
+            let (threads, turns) = parse(threads, turns)?;
+            println!(rt; "{}", time_of_turns(&rt, rt.alloc(), threads, turns)?)?;
+        }
         _ => bail!("usage: gz_lock_bench [THREADS TURNS]"),
     }
+    Ok(())
 }

@@ -65,8 +65,12 @@ pub fn take_turns_on<R: Threads + Wait + Sync>(
             let (one, other) = (two_seats(lock, first), two_seats(lock, first));
             join(
                 rt,
-                move || on_two(rt, lock, one, turns),
-                move || on_two(rt, lock, other, turns),
+                move ||
+                    requires { (one.0.table_id ≡ lock.now.table.shared.table_id) × Rests one.0.me × (one.1.table_id ≡ lock.now.table.shared.table_id) × Rests one.1.me }
+                { on_two(rt, lock, one, turns) },
+                move ||
+                    requires { (other.0.table_id ≡ lock.now.table.shared.table_id) × Rests other.0.me × (other.1.table_id ≡ lock.now.table.shared.table_id) × Rests other.1.me }
+                { on_two(rt, lock, other, turns) },
             );
         }
     }
