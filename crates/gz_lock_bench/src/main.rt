@@ -33,7 +33,7 @@ fn time_of_turns<R: Threads + Wait + Clock + Sync>(
         bail!("no memory");
     };
     let start = Instant::now(rt)?;
-    take_turns_on(rt, &lock, &mut first, threads, turns);
+    take_turns_on(rt, &lock, &mut first, threads, 7, turns);
     let taken = start.elapsed(rt)?.as_nanos();
     let before = u64::from(threads) * u64::from(turns);
     ensure!(
