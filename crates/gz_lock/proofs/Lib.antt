@@ -6,3 +6,4 @@ pub mod TurnFacts
 pub mod SeatSteps
 pub mod Ends
 pub mod Tallies
+pub mod Crossing

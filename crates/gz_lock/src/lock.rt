@@ -25,8 +25,6 @@ pub struct Lock<V: Turned> {
     ghost sized: { IsSized table.shared.table_id },
 }
 
-unsafe impl<V: Turned + Send> Sync for Lock<V> {}
-
 /// There was no memory. The value comes back.
 #[derive(Drop)]
 pub struct NewRefused<V> {

@@ -92,6 +92,7 @@ fn turn_both<V: Turned + Send, R: Threads + Wait + Sync>(
 ) -> (Seat<V>, Seat<V>)
 where
     V::Entry: Send,
+    V::Reply: Send,
     requires first { (seats.0.table_id ≡ lock.now.table.shared.table_id) × Rests seats.0.me }
     requires second { (seats.1.table_id ≡ lock.now.table.shared.table_id) × Rests seats.1.me }
     requires fits { V.fits entries.0 × V.fits entries.1 }
