@@ -20,7 +20,7 @@ fn main(rt: HostRuntime) -> ExitCode {
     ExitCode::from(status.number())
 }
 
-// The words of the command line, without the program's own name.
+/// The words of the command line, without the program's own name.
 fn arguments(rt: &HostRuntime) -> io::Result<Vec<Word>> {
     let mut words = Vec::new(rt.alloc());
     let mut arguments = env::args(rt)?;
@@ -31,7 +31,7 @@ fn arguments(rt: &HostRuntime) -> io::Result<Vec<Word>> {
     Ok(words)
 }
 
-// Runs the words over the files of the folder and sixteen empty sites in memory, with the output on standard output.
+/// Runs the words over the files of the folder and sixteen empty sites in memory, with the output on standard output.
 fn run_words(rt: &HostRuntime, words: &[Word]) -> Status {
     match Bench::new(rt.alloc()) {
         Ok(mut bench) => run(
@@ -45,7 +45,7 @@ fn run_words(rt: &HostRuntime, words: &[Word]) -> Status {
     }
 }
 
-// Words that are no text are of no form.
+/// Words that are no text are of no form.
 fn unread(error: &io::Error) -> Status {
     if error.kind() == io::ErrorKind::OutOfMemory {
         Status::NoMemory

@@ -1,7 +1,7 @@
 //! Calls on many objects or on one, played over three sites in memory.
 ghost use Rattle.std.specs.Prelude.{◌≡◌, ◌<◌, ◌≤◌, IfOk, All};
 ghost use Rattle.gz_core.specs.Configurations.{IsConfig};
-ghost use Rattle.gz_lines.specs.Schedule.{IsBounded};
+ghost use Rattle.gz_lines.specs.Schedule.{IsBoundedLine};
 ghost use Rattle.gz_round.specs.Starting.{IsWithin};
 ghost use Rattle.gz_world.specs.Fits.{IsFitting};
 
@@ -43,7 +43,7 @@ pub fn play_calls(rt: &HostRuntime, load: Load, calls: u32, rounds: u32) -> Resu
 }
 
 fn play_once(rt: &HostRuntime, lines: &[Line]) -> Result<Played>
-    requires { All IsBounded lines.now }
+    requires { All IsBoundedLine lines.now }
 {
     let mut world = open(rt.alloc())?;
     let start = Instant::now(rt)?;
@@ -79,7 +79,7 @@ fn open(alloc: Global) -> Result<World<MemSite>>
 
 /// The lines of the calls of one session.
 fn lines_of(alloc: Global, load: Load, calls: u32) -> Result<Vec<Line>>
-    ensures { IfOk result (λ lines. All IsBounded lines.items) }
+    ensures { IfOk result (λ lines. All IsBoundedLine lines.items) }
 {
     let mut lines = Vec::new(alloc);
     lines.push(Line::OpenSession)?;
@@ -128,7 +128,7 @@ fn get_of(alloc: Global, object: u32) -> Result<Call>
 /// The line that begins a call.
 fn begin(call: Call) -> Line
     requires { IsWithin call }
-    ensures { IsBounded result }
+    ensures { IsBoundedLine result }
 {
     Line::Begin {
         session: Session(1),
@@ -137,7 +137,7 @@ fn begin(call: Call) -> Line
 }
 
 fn settle(alloc: Global) -> Line
-    ensures { IsBounded result }
+    ensures { IsBoundedLine result }
 {
     Line::Settle {
         session: Session(1),

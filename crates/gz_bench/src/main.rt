@@ -139,7 +139,9 @@ fn run(rt: &HostRuntime, words: &[String]) -> Result<()> {
         [_] => show_sums(rt),
         [_, task, calls, rounds] => show_growth(rt, load_of(task)?, calls, rounds),
         [_, task, k, m, len, rounds] => show_time(rt, task, &Job::parse(k, m, rounds)?, len),
-        _ => bail!("usage: gz_bench [TASK K M LENGTH ROUNDS | growth CALLS ROUNDS | rewrites PUTS ROUNDS]"),
+        _ => bail!(
+            "usage: gz_bench [TASK K M LENGTH ROUNDS | growth CALLS ROUNDS | rewrites PUTS ROUNDS]"
+        ),
     }
 }
 

@@ -1,5 +1,5 @@
 mod CodeLemmas
-mod TellLemmas
 mod PlayLemmas
-mod WorldLemmas
 mod RunLemmas
+mod TellLemmas
+mod WorldLemmas

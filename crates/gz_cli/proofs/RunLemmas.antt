@@ -7,7 +7,7 @@ use Rattle.gz_lines.specs.declared.faults.Fault.TheVariants as faults
 use Rattle.gz_lines.specs.Schedule.{readings, AreFaultless, IsFirstFault, fault_at}
 use Rattle.gz_cli.specs.declared.status.Status.{Status}
 use Rattle.gz_cli.specs.declared.status.Status.TheVariants.{Done, Usage, ShelfFault, NoFile, FileTooLarge, BadText, TooLong, Full, SinkFault, NoMemory}
-use Rattle.gz_cli.specs.Runs.{Files, Counts, FileIs, IsFaultAt, Cause, TellsBytes, IsPlayable, AreSteady, IsAnswered}
+use Rattle.gz_cli.specs.Runs.{Files, Counts, FileIs, IsFaultAt, Cause, TellsBytes, IsPlayable, AreSteady, IsPossibleEnd}
 
 not-absent : (files : Files) (name bytes : List ℕ) → TellsBytes files name bytes → FileIs files name (λ file. file ≡ None) → ⊥
 not-absent None name bytes tells absent = tells
@@ -38,7 +38,7 @@ not-faulty-in files name bytes line fault tells faultless faulty =
 
 -- a good file gives Done, or the world was full, or memory ran out
 pub replay-completes : (files : Files) (name : List ℕ) (old new : Counts) (status : Status) → Cause files name old new status
-    → IsPlayable files name → AreSteady old new → IsAnswered status
+    → IsPlayable files name → AreSteady old new → IsPossibleEnd status
 replay-completes files name old new Done cause good steady = tt
 replay-completes files name old new Usage cause good steady = cause
 replay-completes files name old new (ShelfFault n) cause good steady = steady.shelf cause.1

@@ -8,7 +8,7 @@ use Rattle.gz_site.specs.Told.{Told, Tells}
 use Rattle.gz_world.specs.Refusals.{refusal_of}
 use Rattle.gz_world.specs.Reached.{AllTell}
 use Rattle.gz_world.specs.States.{State, RequestAt}
-use Rattle.gz_world.specs.Steps.{SitesStay, Answers, DeliversBy, Does, Skips, Acts, Step}
+use Rattle.gz_world.specs.Steps.{SitesStay, Answers, DeliversBy, Does, Skips, HasEffect, WorldStep}
 use Rattle.gz_world.specs.declared.events.Effect.{Effect}
 use Rattle.gz_world.specs.declared.events.Event.{Event}
 use Rattle.gz_world.specs.declared.events.Event.TheVariants as events
@@ -43,7 +43,7 @@ does_tell old new (events.Reply n which) effect d = record { sites = stay_tell o
 does_tell old new (events.GiveUp n) effect d = record { sites = stay_tell old new d.1.1.sites; config = d.1.1.frame.cfg }
 does_tell old new (events.Crash session) effect d = record { sites = stay_tell old new d.sites; config = d.frame.cfg }
 
-acts_tell : (old new : State) (event : Event) (effect : Effect) → Acts old event effect new → StillTell old new
+acts_tell : (old new : State) (event : Event) (effect : Effect) → HasEffect old event effect new → StillTell old new
 acts_tell old new event effect acts =
     elim (refusal_of old event) as (λ o. MatchOption o (Does old event effect new) (λ why. Skips old event why effect new) → StillTell old new) [
       | None ↦ λ d. does_tell old new event effect d
@@ -51,7 +51,7 @@ acts_tell old new event effect acts =
     ] acts
 
 -- one event
-pub step_tell : (old new : State) (event : Event) → Step old event new → AllTell old → AllTell new
+pub step_tell : (old new : State) (event : Event) → WorldStep old event new → AllTell old → AllTell new
 step_tell old new event step tell =
     let mid = step.1.0 in
     let records = step.1.1.1.1 in

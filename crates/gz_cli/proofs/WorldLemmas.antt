@@ -3,7 +3,7 @@ use Rattle.std.proofs.Common.{ℕ, zero, suc, ◌≡◌, ◌≤◌, ◌<◌, Lis
 use Rattle.std.specs.Prelude.{Option, IfSome, IsSome, option_map, unwrap_or}
 use Rattle.gz_core.specs.Configurations.{IsConfig}
 use Rattle.gz_config.specs.declared.Config.{Config}
-use Rattle.gz_round.specs.History.{Tale}
+use Rattle.gz_round.specs.History.{Trace}
 use Rattle.gz_site.specs.Told.{Told, IsEmpty, nothing}
 use Rattle.gz_site.specs.Memory.{memory}
 use Rattle.gz_site.specs.declared.memory.MemSite.{MemSite}
@@ -21,7 +21,7 @@ use Rattle.gz_world.specs.declared.events.ApplyError.{ApplyError}
 use Rattle.gz_world.specs.declared.world.Member.{Member}
 use Rattle.gz_world.specs.declared.world.World.{World}
 use Rattle.gz_world.proofs.Members.{numbered_suc}
-use Rattle.gz_world.proofs.Opened.{no_tales_yet, fits_opened}
+use Rattle.gz_world.proofs.Opened.{no_traces_yet, fits_opened}
 use Rattle.gz_laws.proofs.Agreement.{agreement}
 use Rattle.gz_laws.proofs.Legality.{legal}
 use Rattle.gz_cli.specs.Worlds.{default, AreFresh, AllTellAt, PlaysSome, IsPlayed, IsFilled, AgreesBy}
@@ -48,13 +48,13 @@ none_crashed xs zero e = refl
 none_crashed xs (suc n) e = ap (λ ys. crashed_in ys (suc n)) e ∙ ap (λ o. unwrap_or (option_map (λ (k : Member). k.crashed) o) false) (numbered_suc [] n)
 
 -- the state of a world that was opened over fresh sites
-opening : {S : Type 0} (told : S → Option Told) (sites : List S) (w : World S) → IsOpened default sites w → AreFresh told sites → IsOpening (state_of told no_tales_yet w)
+opening : {S : Type 0} (told : S → Option Told) (sites : List S) (w : World S) → IsOpened default sites w → AreFresh told sites → IsOpening (state_of told no_traces_yet w)
 opening told sites w o fresh = record {
   config = subst IsConfig (sym o.cfg_is) default_is_config;
   sites = λ i. subst (λ xs. IfSome (told_at told xs i) IsEmpty) (sym o.sites_are) (fresh.empty i);
   sessions = ap length o.clients;
   crashed = λ n. none_crashed w.clients.items n o.clients;
-  tales = λ n. refl;
+  traces = λ n. refl;
   net = ap (map request_of) o.net;
   journal = o.journal;
   casts = o.casts;
@@ -67,51 +67,51 @@ pub played : {S : Type 0} (told : S → Option Told) (sites : List S) (Change : 
     → IsOpened default sites old → AreFresh told sites → ChangesBy told Change old new → IsPlayed told sites Change new
 played told sites Change old new o fresh changes =
     let many : 16 ≤ length sites = fresh.enough in
-    let k = changes no_tales_yet (fits_opened default sites old default_is_config (omega arith) o) in
+    let k = changes no_traces_yet (fits_opened default sites old default_is_config (omega arith) o) in
     record {
-      start = state_of told no_tales_yet old;
+      start = state_of told no_traces_yet old;
       opening = opening told sites old o fresh;
       config = o.cfg_is;
       sites_are = ap (told_at told) o.sites_are;
-      tales = k.0;
+      traces = k.0;
       fits = k.1.0;
       changes = k.1.1;
     }
 
 -- its state is reached
-reached_played : {S : Type 0} (told : S → Option Told) (sites : List S) (lines : List Line) (w : World S) (p : IsPlayed told sites (PlaysSome lines) w) → IsReached (state_of told p.tales w)
+reached_played : {S : Type 0} (told : S → Option Told) (sites : List S) (lines : List Line) (w : World S) (p : IsPlayed told sites (PlaysSome lines) w) → IsReached (state_of told p.traces w)
 reached_played told sites lines w p =
-    some_lines IsReached (λ old new event step h. stepped old new event h step) lines p.start (state_of told p.tales w) p.changes (opened p.start p.opening)
+    some_lines IsReached (λ old new event step h. stepped old new event h step) lines p.start (state_of told p.traces w) p.changes (opened p.start p.opening)
 
 -- its sites tell their state, where they did
-tells_played : {S : Type 0} (told : S → Option Told) (sites : List S) (lines : List Line) (w : World S) (p : IsPlayed told sites (PlaysSome lines) w) → AllTellAt told sites → AllTell (state_of told p.tales w)
+tells_played : {S : Type 0} (told : S → Option Told) (sites : List S) (lines : List Line) (w : World S) (p : IsPlayed told sites (PlaysSome lines) w) → AllTellAt told sites → AllTell (state_of told p.traces w)
 tells_played told sites lines w p tell =
     let start : AllTell p.start = λ i l.
     subst (λ (f : ℕ → Option Told). IsSome (f i)) (sym p.sites_are) (tell i (subst (λ (c : Config). i < c.n) p.config l)) in
-    some_lines AllTell step_tell lines p.start (state_of told p.tales w) p.changes start
+    some_lines AllTell step_tell lines p.start (state_of told p.traces w) p.changes start
 
 pub reached-by : {S : Type 0} (told : S → Option Told) (sites : List S) (lines : List Line) (w : World S) → IsPlayed told sites (PlaysSome lines) w → IsReachedBy told w
-reached-by told sites lines w p = (p.tales, (p.fits, reached_played told sites lines w p))
+reached-by told sites lines w p = (p.traces, (p.fits, reached_played told sites lines w p))
 
 -- its history is legal
 pub legal-by : {S : Type 0} (told : S → Option Told) (sites : List S) (lines : List Line) (w : World S) → IsPlayed told sites (PlaysSome lines) w → AllTellAt told sites → IsLegal w.calls.items
-legal-by told sites lines w p tell = legal (state_of told p.tales w) (reached_played told sites lines w p) (tells_played told sites lines w p tell)
+legal-by told sites lines w p tell = legal (state_of told p.traces w) (reached_played told sites lines w p) (tells_played told sites lines w p tell)
 
 -- there is agreement in it
 pub agrees-by : {S : Type 0} (told : S → Option Told) (sites : List S) (lines : List Line) (w : World S) → IsPlayed told sites (PlaysSome lines) w → AllTellAt told sites → AgreesBy told w
 agrees-by told sites lines w p tell =
     let reached = reached_played told sites lines w p in
-    (p.tales, (p.fits, (reached, λ key. agreement key (state_of told p.tales w) reached (tells_played told sites lines w p tell))))
+    (p.traces, (p.fits, (reached, λ key. agreement key (state_of told p.traces w) reached (tells_played told sites lines w p tell))))
 
 -- lines that were played to their end, and lines that were played in part
 pub some-whole : {S : Type 0} (told : S → Option Told) (lines : List Line) (old new : World S) → ChangesBy told (Plays lines) old new → ChangesBy told (PlaysSome lines) old new
-some-whole told lines old new changes = λ tales fits.
-    let k = changes tales fits in
+some-whole told lines old new changes = λ traces fits.
+    let k = changes traces fits in
     (k.0, (k.1.0, inl k.1.1))
 
 pub some-part : {S : Type 0} (told : S → Option Told) (error : ApplyError) (lines : List Line) (old new : World S) → ChangesBy told (PlaysInPart error lines) old new → ChangesBy told (PlaysSome lines) old new
-some-part told error lines old new changes = λ tales fits.
-    let k = changes tales fits in
+some-part told error lines old new changes = λ traces fits.
+    let k = changes traces fits in
     (k.0, (k.1.0, inr (error, k.1.1)))
 
 -- a world that takes no more events, by the status that tells it

@@ -1,5 +1,5 @@
-pub mod Words
 pub mod Codes
-pub mod Worlds
 pub mod Runs
 pub mod Statuses
+pub mod Words
+pub mod Worlds

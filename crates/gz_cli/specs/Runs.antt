@@ -175,10 +175,10 @@ abbrev pub Replays : {S : Type 0} → (S → Option Told) → (List Line → Sta
 Replays told Change files name sites left Holds = (lines : List Line) × (Loads files name lines × Leaves told sites (Change lines) left Holds)
 
 -- what the words ask for was done: the file was played and the log of its world written, or the text of the pieces was written
-abbrev pub Writes : {S : Type 0} → (S → Option Told) → Option Task → Files → List S → Option (World S) → (List ℕ → Type 0) → Type 0
-Writes told None files sites left Written = ⊥
-Writes told (Some (replay name)) files sites left Written = Replays told Plays files name sites left (λ w. Written (log_of_world w))
-Writes told (Some (code k m digits)) files sites left Written = Codes k m digits Written
+abbrev pub WritesOutput : {S : Type 0} → (S → Option Told) → Option Task → Files → List S → Option (World S) → (List ℕ → Type 0) → Type 0
+WritesOutput told None files sites left Written = ⊥
+WritesOutput told (Some (replay name)) files sites left Written = Replays told Plays files name sites left (λ w. Written (log_of_world w))
+WritesOutput told (Some (code k m digits)) files sites left Written = Codes k m digits Written
 
 -- the lines were played up to an event that the world that is left refused, since it was full
 abbrev pub FillsUp : {S : Type 0} → (S → Option Told) → Files → List ℕ → List S → Option (World S) → ℕ → ℕ → Type 0
@@ -199,10 +199,10 @@ IsCutShort told files name old new before after =
     ⊎ Replays told Plays files name old.sites.items new.world (λ w. IsSomePart before (log_of_world w) after))
 
 -- the same for what the words ask for
-abbrev pub IsCut : {S : Type 0} → (S → Option Told) → Option Task → Files → Bench S → Bench S → Option (List ℕ) → Option (List ℕ) → Type 0
-IsCut told None files old new before after = ⊥
-IsCut told (Some (replay name)) files old new before after = IsCutShort told files name old new before after
-IsCut told (Some (code k m digits)) files old new before after = (after ≡ before) ⊎ Codes k m digits (λ text. IsSomePart before text after)
+abbrev pub IsCodeCut : {S : Type 0} → (S → Option Told) → Option Task → Files → Bench S → Bench S → Option (List ℕ) → Option (List ℕ) → Type 0
+IsCodeCut told None files old new before after = ⊥
+IsCodeCut told (Some (replay name)) files old new before after = IsCutShort told files name old new before after
+IsCodeCut told (Some (code k m digits)) files old new before after = (after ≡ before) ⊎ Codes k m digits (λ text. IsSomePart before text after)
 
 -- the shelf tells that the file has these bytes
 abbrev pub TellsBytes : Files → List ℕ → List ℕ → Type 0
@@ -228,17 +228,17 @@ pub record AreSteady (old new : Counts) : Type 0 where
   pub sink : Rose old.sink new.sink → ⊥
 
 -- a run that can be done ends so: it was done, the world was full, or memory ran out
-abbrev pub IsAnswered : Status → Type 0
-IsAnswered Done = Unit {0}
-IsAnswered Usage = ⊥
-IsAnswered (ShelfFault name) = ⊥
-IsAnswered (NoFile name) = ⊥
-IsAnswered (FileTooLarge name) = ⊥
-IsAnswered (BadText line why) = ⊥
-IsAnswered (TooLong line) = ⊥
-IsAnswered (Full events held) = Unit {0}
-IsAnswered SinkFault = ⊥
-IsAnswered NoMemory = Unit {0}
+abbrev pub IsPossibleEnd : Status → Type 0
+IsPossibleEnd Done = Unit {0}
+IsPossibleEnd Usage = ⊥
+IsPossibleEnd (ShelfFault name) = ⊥
+IsPossibleEnd (NoFile name) = ⊥
+IsPossibleEnd (FileTooLarge name) = ⊥
+IsPossibleEnd (BadText line why) = ⊥
+IsPossibleEnd (TooLong line) = ⊥
+IsPossibleEnd (Full events held) = Unit {0}
+IsPossibleEnd SinkFault = ⊥
+IsPossibleEnd NoMemory = Unit {0}
 
 -- the cause of a status once the lines are known, over the sink's count of faults before and after
 abbrev pub PlayCause : ℕ → ℕ → Status → Type 0

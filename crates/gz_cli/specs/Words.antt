@@ -3,7 +3,7 @@ use Rattle.std.specs.Prelude.{ℕ, ◌≡◌, ◌+◌, ◌%◌, ◌≤◌, ◌==
 use Rattle.std.specs.Char.{is_ascii_hexdigit}
 use Rattle.std.specs.Cmp.Lexicographic.{pointwise}
 use Rattle.std.specs.List.{list_all}
-use Rattle.gz_lines.specs.Fields.{number_of}
+use Rattle.gz_lines.specs.Fields.{number_field}
 use Rattle.gz_cli.specs.declared.words.Command.{Command}
 use Rattle.gz_cli.specs.declared.words.Command.TheVariants.{Replay, Code}
 
@@ -44,7 +44,7 @@ code_of (Some k) None digits = None
 code_of (Some k) (Some m) digits = if is_shape k m && is_hex digits then Some (code k m digits) else None
 
 abbrev pub code_in : List ℕ → List ℕ → List ℕ → List ℕ → Option Task
-code_in verb k m digits = if is_code verb then code_of (number_of k) (number_of m) digits else None
+code_in verb k m digits = if is_code verb then code_of (number_field k) (number_field m) digits else None
 
 -- what the words ask for, none where they are of another form
 abbrev pub task_in : List (List ℕ) → Option Task
@@ -61,6 +61,6 @@ task_of (Replay schedule) = replay schedule.now
 task_of (Code k m digits) = code k m digits.now
 
 -- the numbers and the digits of a command are those of a code
-abbrev pub IsSound : Command → Type 0
-IsSound (Replay schedule) = Unit {0}
-IsSound (Code k m digits) = (1 ≤ k) × (k + m ≤ 256) × (is_hex digits.now ≡ true)
+abbrev pub IsWellFormed : Command → Type 0
+IsWellFormed (Replay schedule) = Unit {0}
+IsWellFormed (Code k m digits) = (1 ≤ k) × (k + m ≤ 256) × (is_hex digits.now ≡ true)

@@ -2,7 +2,7 @@
 use Rattle.std.specs.Prelude.{ℕ, ◌≡◌, ◌≤◌, ◌<◌, ◌⊎◌, Bool, true, false, List, length, count_by, Option, Some, IsSome}
 use Rattle.gz_config.specs.declared.Config.{Config}
 use Rattle.gz_config.specs.declared.Order.TheVariants.{Parallel}
-use Rattle.gz_round.specs.History.{Tale}
+use Rattle.gz_round.specs.History.{Trace}
 use Rattle.gz_site.specs.Told.{Told}
 use Rattle.gz_site.specs.Many.{told_at}
 use Rattle.gz_history.specs.Log.{log_of}
@@ -56,9 +56,9 @@ pub record IsPlayed {S : Type 0} (told : S → Option Told) (sites : List S) (Ch
   pub opening : IsOpening start
   pub config : start.cfg ≡ default
   pub sites_are : start.sites ≡ told_at told sites
-  pub tales : ℕ → List Tale
-  pub fits : Fits tales w
-  pub changes : Change start (state_of told tales w)
+  pub traces : ℕ → List Trace
+  pub fits : Fits traces w
+  pub changes : Change start (state_of told traces w)
 
 -- such a world is left, and this holds of it
 pub record Leaves {S : Type 0} (told : S → Option Told) (sites : List S) (Change : State → State → Type 0) (left : Option (World S)) (Holds : World S → Type 0) : Type 0 where
@@ -73,6 +73,6 @@ pub record IsFilled {S : Type 0} (events held : ℕ) (w : World S) : Type 0 wher
   pub events_are : events ≡ length w.journal.items
   pub held_is : held ≡ w.held
 
--- there is agreement on each object, by tales that the sessions' clients stand for and that the events of the run told
+-- there is agreement on each object, by traces that the sessions' clients stand for and that the events of the run told
 abbrev pub AgreesBy : {S : Type 0} → (S → Option Told) → World S → Type 0
-AgreesBy told w = (tales : ℕ → List Tale) × (Fits tales w × (IsReached (state_of told tales w) × ((key : List ℕ) → AreAgreed key (state_of told tales w))))
+AgreesBy told w = (traces : ℕ → List Trace) × (Fits traces w × (IsReached (state_of told traces w) × ((key : List ℕ) → AreAgreed key (state_of told traces w))))

@@ -1,6 +1,6 @@
 //! The trusted edge: files of the folder, and standard output.
 ghost use Rattle.std.specs.Prelude.{◌≡◌, ◌≤◌, ◌<◌, length, None, IfOk};
-ghost use Rattle.gz_core.specs.Causes.{Rose, HasCause};
+ghost use Rattle.gz_core.specs.Causes.{Rose, HasCountedFault};
 ghost use Rattle.gz_site.specs.Files.{refusal};
 
 use gz_site::{Shelf, ShelfError, Sink, SinkError};
@@ -30,12 +30,12 @@ impl<'a, R: Files> FileShelf<'a, R> {
         }
     }
 
-    // Counts an answer that is not the file.
+    /// Counts an answer that is not the file.
     fn count(&mut self, error: ShelfError) -> ShelfError
         ensures same { result ≡ error }
-        ensures failed { HasCause ShelfError.Failed self.old.faults self.new.faults (refusal error) }
-        ensures absent { HasCause ShelfError.NoSuch self.old.absences self.new.absences (refusal error) }
-        ensures excess { HasCause ShelfError.TooLarge self.old.excesses self.new.excesses (refusal error) }
+        ensures failed { HasCountedFault ShelfError.Failed self.old.faults self.new.faults (refusal error) }
+        ensures absent { HasCountedFault ShelfError.NoSuch self.old.absences self.new.absences (refusal error) }
+        ensures excess { HasCountedFault ShelfError.TooLarge self.old.excesses self.new.excesses (refusal error) }
     {
         match error {
             ShelfError::Failed => self.faults = self.faults.saturating_add(1),
@@ -64,7 +64,7 @@ impl<R: Files> Shelf for FileShelf<'_, R> {
     }
 }
 
-// The bytes of a file of at most `limit` bytes.
+/// The bytes of a file of at most `limit` bytes.
 fn file<R: Files>(rt: &R, alloc: Global, name: &str, limit: usize) -> Result<Vec<u8>, ShelfError>
     ensures { IfOk result (λ bytes. length bytes.items ≤ limit) }
 {
@@ -76,7 +76,7 @@ fn file<R: Files>(rt: &R, alloc: Global, name: &str, limit: usize) -> Result<Vec
     Ok(bytes)
 }
 
-// The first bytes of a reader, at most so many.
+/// The first bytes of a reader, at most so many.
 fn read_up_to<R: Read>(alloc: Global, from: &mut R, most: usize) -> Result<Vec<u8>, ShelfError> {
     let mut bytes = Vec::new(alloc);
     let mut chunk = [0u8; CHUNK];

@@ -21,7 +21,7 @@ pub fn write<O: Sink>(out: &mut O, bytes: &[u8]) -> Status
     }
 }
 
-// The status of an output that could not be written.
+/// The status of an output that could not be written.
 fn unwritten(error: SinkError) -> Status
     ensures { result ≡ sink_status error }
 {

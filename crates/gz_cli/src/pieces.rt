@@ -37,7 +37,7 @@ pub fn write_pieces<O: Sink>(
     }
 }
 
-// The lines of the pieces of the bytes that the digits spell.
+/// The lines of the pieces of the bytes that the digits spell.
 fn text(alloc: Global, k: usize, m: usize, digits: &[u8]) -> Result<String, AllocError>
     requires at_least_one { 1 ≤ k }
     requires within_field { k + m ≤ 256 }
@@ -49,7 +49,7 @@ fn text(alloc: Global, k: usize, m: usize, digits: &[u8]) -> Result<String, Allo
     lines(alloc, pieces.as_slice())
 }
 
-// The bytes that hexadecimal digits spell.
+/// The bytes that hexadecimal digits spell.
 fn object(alloc: Global, digits: &[u8]) -> Result<Vec<u8>, AllocError>
     requires { is_hex digits.now ≡ true }
     ensures { IfOk result (λ object. decode_of digits.now ≡ Ok object.items) }
@@ -69,7 +69,7 @@ fn no_memory(error: FromHexError) -> AllocError
     }
 }
 
-// The lines of pieces that are numbered from 0.
+/// The lines of pieces that are numbered from 0.
 fn lines(alloc: Global, pieces: &[Vec<u8>]) -> Result<String, AllocError>
     ensures { IfOk result (λ text. string_bytes text ≡ lines_from 0 (map (λ piece. piece.items) pieces.now)) }
 {
@@ -81,7 +81,7 @@ fn lines(alloc: Global, pieces: &[Vec<u8>]) -> Result<String, AllocError>
     Ok(text)
 }
 
-// The line of a piece.
+/// The line of a piece.
 fn line(alloc: Global, index: usize, piece: &[u8]) -> Result<String, AllocError>
     ensures { IfOk result (λ line. string_bytes line ≡ piece_line index piece.now) }
 {
@@ -93,7 +93,7 @@ fn line(alloc: Global, index: usize, piece: &[u8]) -> Result<String, AllocError>
     Ok(line)
 }
 
-// Bytes in hexadecimal, a dash where there are none.
+/// Bytes in hexadecimal, a dash where there are none.
 fn digits(alloc: Global, bytes: &[u8]) -> Result<String, AllocError>
     ensures { IfOk result (λ text. string_bytes text ≡ bytes_text bytes.now) }
 {

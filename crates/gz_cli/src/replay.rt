@@ -3,7 +3,7 @@ ghost use Rattle.std.specs.Prelude.{◌≡◌, ◌≤◌, ◌⊎◌, ℕ, length
 ghost use Rattle.gz_site.specs.Files.{IsSomePart};
 ghost use Rattle.gz_history.specs.Legal.{IsLegal};
 ghost use Rattle.gz_script.specs.Plays.{Plays, PlaysInPart, ChangesBy};
-ghost use Rattle.gz_lines.specs.Schedule.{IsBounded};
+ghost use Rattle.gz_lines.specs.Schedule.{IsBoundedLine};
 ghost use Rattle.gz_world.specs.Fits.{IsFitting};
 ghost use Rattle.gz_world.specs.Opening.{AreEmpty, IsOpened};
 ghost use Rattle.gz_world.specs.Told.{IsReachedBy};
@@ -29,7 +29,7 @@ pub fn replay_lines<O: Sink, S: Site>(
     bench: &mut Bench<S>,
 ) -> Status
     requires fresh { AreFresh S.told bench.old.sites.items }
-    requires bounded { All IsBounded lines.now }
+    requires bounded { All IsBoundedLine lines.now }
     ensures cause { PlayCause (O.faults out.old) (O.faults out.new) result }
     ensures done { result ≡ Status.Done → Leaves S.told bench.old.sites.items (Plays lines.now) bench.new.world (λ w. Whole (O.written out.old) (log_of_world w) (O.written out.new)) }
     ensures unwritten { result ≡ Status.SinkFault → Leaves S.told bench.old.sites.items (Plays lines.now) bench.new.world (λ w. IsSomePart (O.written out.old) (log_of_world w) (O.written out.new)) }
@@ -45,7 +45,7 @@ pub fn replay_lines<O: Sink, S: Site>(
     status
 }
 
-// A world over the sites of the bench, of which there are enough.
+/// A world over the sites of the bench, of which there are enough.
 fn open<S: Site>(alloc: Global, bench: &mut Bench<S>) -> World<S>
     requires { AreFresh S.told bench.old.sites.items }
     ensures opened { IsOpened default bench.old.sites.items result }
@@ -58,7 +58,7 @@ fn open<S: Site>(alloc: Global, bench: &mut Bench<S>) -> World<S>
     }
 }
 
-// Plays the lines, and writes the log of the world.
+/// Plays the lines, and writes the log of the world.
 fn play_and_write<O: Sink, S: Site>(
     alloc: Global,
     lines: &[Line],
@@ -66,7 +66,7 @@ fn play_and_write<O: Sink, S: Site>(
     world: &mut World<S>,
 ) -> Status
     requires fits { IsFitting world.old }
-    requires bounded { All IsBounded lines.now }
+    requires bounded { All IsBoundedLine lines.now }
     ensures cause { PlayCause (O.faults out.old) (O.faults out.new) result }
     ensures plays { HasPlayed result → ChangesBy S.told (Plays lines.now) world.old world.new }
     ensures some { ChangesBy S.told (PlaysSome lines.now) world.old world.new }
@@ -82,7 +82,7 @@ fn play_and_write<O: Sink, S: Site>(
     }
 }
 
-// The status of a world that takes no more events.
+/// The status of a world that takes no more events.
 fn filled<S: Site>(world: &World<S>) -> Status
     requires { IsFitting world.now }
     ensures { result ≡ Status.Full (length world.now.journal.items) world.now.held }
@@ -93,7 +93,7 @@ fn filled<S: Site>(world: &World<S>) -> Status
     }
 }
 
-// Writes the log of a world.
+/// Writes the log of a world.
 fn write_log<O: Sink, S: Site>(alloc: Global, world: &World<S>, out: &mut O) -> Status
     requires { IsFitting world.now }
     ensures cause { WriteCause (O.faults out.old) (O.faults out.new) result }
@@ -108,7 +108,7 @@ fn write_log<O: Sink, S: Site>(alloc: Global, world: &World<S>, out: &mut O) -> 
     }
 }
 
-// How many events there were.
+/// How many events there were.
 fn events<S: Site>(world: &World<S>) -> u32
     requires { IsFitting world.now }
     ensures exact { result ≡ length world.now.journal.items }
@@ -117,7 +117,7 @@ fn events<S: Site>(world: &World<S>) -> u32
     world.journal.len() as u32
 }
 
-// How many events were skipped.
+/// How many events were skipped.
 fn skipped(journal: &[Entry]) -> u32
     requires { length journal.now ≤ 4000000 }
     ensures { result ≡ count_by is_skipped journal.now }

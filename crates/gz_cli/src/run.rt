@@ -6,7 +6,7 @@ ghost use Rattle.gz_site.specs.Files.{IsSomePart};
 ghost use Rattle.gz_world.specs.Told.{IsReachedBy};
 ghost use Rattle.gz_cli.specs.Words.{task_in};
 ghost use Rattle.gz_cli.specs.Worlds.{AreFresh, AllTellAt, AgreesBy, log_of_world};
-ghost use Rattle.gz_cli.specs.Runs.{Cause, RunCause, Replays, Writes, FillsUp, Fills, IsCutShort, IsCut, IsFeasible, AreSteady, IsAnswered, IsCode, IsRefusal, Whole};
+ghost use Rattle.gz_cli.specs.Runs.{Cause, RunCause, Replays, WritesOutput, FillsUp, Fills, IsCutShort, IsCodeCut, IsFeasible, AreSteady, IsPossibleEnd, IsCode, IsRefusal, Whole};
 
 use crate::bench::Bench;
 use crate::load::load;
@@ -36,10 +36,10 @@ pub fn run<F: Shelf, O: Sink, S: Site>(
     // Each status has its cause, and comes nowhere else.
     ensures usage { (result ≡ Status.Usage) ↔ (task_in words.now ≡ None) }
     ensures cause { RunCause (task_in words.now) (F.files shelf.old) (record { faults = F.faults shelf.old; absences = F.absences shelf.old; excesses = F.excesses shelf.old; sink = O.faults out.old }) (record { faults = F.faults shelf.new; absences = F.absences shelf.new; excesses = F.excesses shelf.new; sink = O.faults out.new }) result }
-    ensures complete { IsFeasible (task_in words.now) (F.files shelf.old) → AreSteady (record { faults = F.faults shelf.old; absences = F.absences shelf.old; excesses = F.excesses shelf.old; sink = O.faults out.old }) (record { faults = F.faults shelf.new; absences = F.absences shelf.new; excesses = F.excesses shelf.new; sink = O.faults out.new }) → IsAnswered result }
+    ensures complete { IsFeasible (task_in words.now) (F.files shelf.old) → AreSteady (record { faults = F.faults shelf.old; absences = F.absences shelf.old; excesses = F.excesses shelf.old; sink = O.faults out.old }) (record { faults = F.faults shelf.new; absences = F.absences shelf.new; excesses = F.excesses shelf.new; sink = O.faults out.new }) → IsPossibleEnd result }
 
     // What Done means: the lines were played and the whole log of their world written, or the whole text of the pieces.
-    ensures done { result ≡ Status.Done → Writes S.told (task_in words.now) (F.files shelf.old) bench.old.sites.items bench.new.world (λ text. Whole (O.written out.old) text (O.written out.new)) }
+    ensures done { result ≡ Status.Done → WritesOutput S.told (task_in words.now) (F.files shelf.old) bench.old.sites.items bench.new.world (λ text. Whole (O.written out.old) text (O.written out.new)) }
 
     // What holds of the world that is left, whatever the status.
     ensures reached { IfSome bench.new.world (λ w. IsReachedBy S.told w) }
@@ -52,8 +52,8 @@ pub fn run<F: Shelf, O: Sink, S: Site>(
     // What stands after another status.
     ensures refused { IsRefusal result → (bench.new ≡ bench.old) × (O.written out.new ≡ O.written out.old) }
     ensures full { (events held : ℕ) → result ≡ Status.Full events held → Fills S.told (task_in words.now) (F.files shelf.old) bench.old.sites.items bench.new.world events held × (O.written out.new ≡ O.written out.old) }
-    ensures unwritten { result ≡ Status.SinkFault → Writes S.told (task_in words.now) (F.files shelf.old) bench.old.sites.items bench.new.world (λ text. IsSomePart (O.written out.old) text (O.written out.new)) }
-    ensures memory { result ≡ Status.NoMemory → IsCut S.told (task_in words.now) (F.files shelf.old) bench.old bench.new (O.written out.old) (O.written out.new) }
+    ensures unwritten { result ≡ Status.SinkFault → WritesOutput S.told (task_in words.now) (F.files shelf.old) bench.old.sites.items bench.new.world (λ text. IsSomePart (O.written out.old) text (O.written out.new)) }
+    ensures memory { result ≡ Status.NoMemory → IsCodeCut S.told (task_in words.now) (F.files shelf.old) bench.old bench.new (O.written out.old) (O.written out.new) }
 {
     match command_of(words) {
         None => Status::Usage,
@@ -62,7 +62,7 @@ pub fn run<F: Shelf, O: Sink, S: Site>(
     }
 }
 
-// Replays the schedule of a name, and writes the log of its calls.
+/// Replays the schedule of a name, and writes the log of its calls.
 fn replay<F: Shelf, O: Sink, S: Site>(
     alloc: Global,
     schedule: &Word,

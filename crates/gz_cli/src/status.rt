@@ -92,7 +92,7 @@ impl fmt::Display for Status {
     }
 }
 
-// The word of a fault.
+/// The word of a fault.
 fn word(why: Why) -> &'static str {
     match why {
         Why::Unbuilt => "unbuilt",

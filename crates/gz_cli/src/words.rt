@@ -2,7 +2,7 @@
 ghost use Rattle.std.specs.Prelude.{◌≡◌, ◌&&◌, IfSome, option_map};
 ghost use Rattle.std.specs.Char.{is_ascii_hexdigit};
 ghost use Rattle.std.specs.List.{list_all};
-ghost use Rattle.gz_cli.specs.Words.{task_in, task_of, replay_in, code_in, is_replay, is_code, is_option, is_shape, is_hex, IsSound};
+ghost use Rattle.gz_cli.specs.Words.{task_in, task_of, replay_in, code_in, is_replay, is_code, is_option, is_shape, is_hex, IsWellFormed};
 
 use gz_core::Word;
 use gz_script::fields::number;
@@ -26,7 +26,7 @@ pub enum Command<'a> {
 /// begins with a dash is of no form.
 pub fn command_of(words: &[Word]) -> Option<Command<'_>>
     ensures exact { option_map task_of result ≡ task_in words.now }
-    ensures sound { IfSome result IsSound }
+    ensures sound { IfSome result IsWellFormed }
 {
     match words {
         [verb, schedule] => replay(verb, schedule),
@@ -35,10 +35,10 @@ pub fn command_of(words: &[Word]) -> Option<Command<'_>>
     }
 }
 
-// `replay SCHEDULE`.
+/// `replay SCHEDULE`.
 fn replay<'a>(verb: &Word, schedule: &'a Word) -> Option<Command<'a>>
     ensures exact { option_map task_of result ≡ replay_in verb.now schedule.now }
-    ensures sound { IfSome result IsSound }
+    ensures sound { IfSome result IsWellFormed }
 {
     if is_replay(verb) && !is_option(schedule) {
         Some(Command::Replay { schedule })
@@ -47,10 +47,10 @@ fn replay<'a>(verb: &Word, schedule: &'a Word) -> Option<Command<'a>>
     }
 }
 
-// `code K M HEX`.
+/// `code K M HEX`.
 fn code<'a>(verb: &Word, k: &Word, m: &Word, digits: &'a Word) -> Option<Command<'a>>
     ensures exact { option_map task_of result ≡ code_in verb.now k.now m.now digits.now }
-    ensures sound { IfSome result IsSound }
+    ensures sound { IfSome result IsWellFormed }
 {
     if !is_code(verb) {
         return None;
@@ -90,14 +90,14 @@ fn is_option(word: &Word) -> bool
     }
 }
 
-// Whether there is at least one data piece, and there are at most 256 pieces.
+/// Whether there is at least one data piece, and there are at most 256 pieces.
 fn is_shape(k: u32, m: u32) -> bool
     ensures { result ≡ is_shape k m }
 {
     k >= 1 && k as u64 + m as u64 <= 256
 }
 
-// Whether these are an even number of hexadecimal digits.
+/// Whether these are an even number of hexadecimal digits.
 fn is_hex(digits: &[u8]) -> bool
     ensures { result ≡ is_hex digits.now }
 {

@@ -1,4 +1,4 @@
--- The client stands for its session's tales after an event.
+-- The client stands for its session's traces after an event.
 use Rattle.std.proofs.Common.{◌≡◌, ◌==◌, ℕ, ◌+◌, ◌<◌, ◌≤◌, ◌^◌, max, true, false, List, [], ◌∷◌, ◌++◌, length, Option, Some, None, IsSome, option_map, refl, sym, ap, ◌∙◌, subst, inl, arith}
 use Rattle.std.proofs.lemmas.Bool.{eqb-true, eq-eqb, false≢true}
 use Rattle.std.proofs.lemmas.Option.{same_Some, none-some, slice_get_within}
@@ -13,7 +13,7 @@ use Rattle.gz_core.specs.declared.requests.Out.{Out}
 use Rattle.gz_core.specs.declared.requests.Turn.{Turn}
 use Rattle.gz_round.specs.declared.run.Mark.{Mark}
 use Rattle.gz_round.specs.declared.run.Run.{Run}
-use Rattle.gz_round.specs.History.{Asked, Moment, Sent, Caller, Tale, IsClosing, begun, turned, sent_from}
+use Rattle.gz_round.specs.History.{Asked, Action, Sent, Caller, Trace, IsClosing, begun, turned, sent_from}
 use Rattle.gz_round.specs.Sites.{site_now}
 use Rattle.gz_round.specs.Standing.{Knows, Runs, mark_of, awaited_of}
 use Rattle.gz_round.specs.Numbering.{AreNumbered}
@@ -24,14 +24,14 @@ use Rattle.gz_round.specs.Following.{Ready, Turned, HasTurned}
 use Rattle.gz_round.proofs.Numbers.{numbered_sent, numbered_none, numbered_closed}
 use Rattle.gz_round.proofs.Bounds.{turned_below}
 use Rattle.gz_client.specs.declared.client.Client.{Client}
-use Rattle.gz_client.specs.Tales.{Holds, HoldsRun, AreTold, AreOver, IsAwaited, CanBeTold, HasActed, IsLive, IsLiveAtIn, IsLiveAtWhile, going_on}
+use Rattle.gz_client.specs.Traces.{Holds, HoldsRun, AllKeepRules, AreOver, IsAwaited, CanLearn, HasActed, IsLive, IsLiveAtIn, IsLiveAtWhile, going_on}
 
 rounds_newest : (round past now : ℕ) → round ≡ max past now → round ≡ max now past
 rounds_newest round past now e = omega (arith, e)
 
 -- after an event of the newest call
-pub turned_holds : (c : Config) (session : ℕ) (w : Caller) (ts : List Tale) (run : Run) (ms : List Moment) (answer : Option Answer) (calls next : ℕ) → IsConfig c → calls ≡ length ts + 1 → w.name ≡ record { session = session; seq = length ts + 1 } → AreTold c session ts → AreOver ts →
-    AreNumbered c ms next → rounds_used ts ms < 2 ^ 31 + next → Turned c w ts run ms answer → Holds (record { config = c; session = session; calls = calls; round = run.round; run = going_on run answer }) next (record { caller = w; moments = ms; answer = answer } ∷ ts)
+pub turned_holds : (c : Config) (session : ℕ) (w : Caller) (ts : List Trace) (run : Run) (ms : List Action) (answer : Option Answer) (calls next : ℕ) → IsConfig c → calls ≡ length ts + 1 → w.name ≡ record { session = session; seq = length ts + 1 } → AllKeepRules c session ts → AreOver ts →
+    AreNumbered c ms next → rounds_used ts ms < 2 ^ 31 + next → Turned c w ts run ms answer → Holds (record { config = c; session = session; calls = calls; round = run.round; run = going_on run answer }) next (record { caller = w; actions = ms; answer = answer } ∷ ts)
 turned_holds c session w ts run ms None calls next sizes count named told over numbered low runs = record {
   sizes = sizes;
   calls_are = count ∙ omega arith;
@@ -49,11 +49,11 @@ turned_holds c session w ts run ms (Some answer) calls next sizes count named to
   run_is = ((answer, refl), over);
 }
 
-pub idle_over : (c : Config) (next : ℕ) (run : Option Run) (ts : List Tale) → run ≡ None → HoldsRun c next run ts → AreOver ts
+pub idle_over : (c : Config) (next : ℕ) (run : Option Run) (ts : List Trace) → run ≡ None → HoldsRun c next run ts → AreOver ts
 idle_over c next run ts e h = subst (λ r. HoldsRun c next r ts) e h
 
 -- a call that begins
-pub begun_holds : (client : Client) (call : Call) (first : ℕ) (send : List Out) (next : ℕ) (ts : List Tale) (run : Run) → Holds client next ts → next ≤ first → client.run ≡ None →
+pub begun_holds : (client : Client) (call : Call) (first : ℕ) (send : List Out) (next : ℕ) (ts : List Trace) (run : Run) → Holds client next ts → next ≤ first → client.run ≡ None →
     Runs client.config (record { name = record { session = client.session; seq = length ts + 1 }; call = call }) ts run (sent_from first send []) →
     Holds (record { config = client.config; session = client.session; calls = client.calls + 1; round = run.round; run = Some run }) (first + length send) (begun client.session call first (record { send = send; answer = None }) ts ∷ ts)
 begun_holds client call first send next ts run h l idle runs =
@@ -66,13 +66,13 @@ begun_holds client call first send next ts run h l idle runs =
     turned_holds client.config client.session w ts run (sent_from first send []) None (client.calls + 1) (first + length send) h.sizes (ap (λ n. n + 1) h.calls_are) refl h.told over numbered low runs
 
 -- what is held of the running call
-pub record HasRun (client : Client) (next : ℕ) (t : Tale) (ts : List Tale) (run : Run) : Type 0 where
+pub record HasRun (client : Client) (next : ℕ) (t : Trace) (ts : List Trace) (run : Run) : Type 0 where
   pub waits : t.answer ≡ None
-  pub runs : Runs client.config t.caller ts run t.moments
-  pub numbered : AreNumbered client.config t.moments next
+  pub runs : Runs client.config t.caller ts run t.actions
+  pub numbered : AreNumbered client.config t.actions next
   pub over : AreOver ts
 
-pub run_held : (client : Client) (next : ℕ) (t : Tale) (ts : List Tale) (run : Run) → client.run ≡ Some run → Holds client next (t ∷ ts) → HasRun client next t ts run
+pub run_held : (client : Client) (next : ℕ) (t : Trace) (ts : List Trace) (run : Run) → client.run ≡ Some run → Holds client next (t ∷ ts) → HasRun client next t ts run
 run_held client next t ts run e h =
     let k : HoldsRun client.config next (Some run) (t ∷ ts) = subst (λ r. HoldsRun client.config next r (t ∷ ts)) e h.run_is in
     record { waits = k.0; runs = k.1; numbered = k.2; over = k.3 }
@@ -82,67 +82,67 @@ number_from None n h = absurd (false≢true h)
 number_from (Some a) n h = (a, refl, eqb-true a.number n h)
 
 -- the site of an awaited number is the one that its request was sent to
-pub site_awaits : (c : Config) (run : Run) (t : Tale) (a : Asked) (n next at : ℕ) → Knows c run t.moments → AreNumbered c t.moments next → IsAwaited c t a n → IsSiteOf run.marks n at → (at < c.n) × ((site_now t.moments at).awaits ≡ Some a)
+pub site_awaits : (c : Config) (run : Run) (t : Trace) (a : Asked) (n next at : ℕ) → Knows c run t.actions → AreNumbered c t.actions next → IsAwaited c t a n → IsSiteOf run.marks n at → (at < c.n) × ((site_now t.actions at).awaits ≡ Some a)
 site_awaits c run t a n next at k numbered awaited site =
     let len = k.marks_len in
     let inside : at < c.n = omega (arith, slice_get_within run.marks at site.0 site.1) in
-    let same : site.0 ≡ mark_of (site_now t.moments at) = same_Some site.0 (mark_of (site_now t.moments at)) (sym site.1 ∙ k.marks at inside) in
-    let found = number_from (site_now t.moments at).awaits n (subst (λ (m : Mark). has_number n m ≡ true) same site.2) in
+    let same : site.0 ≡ mark_of (site_now t.actions at) = same_Some site.0 (mark_of (site_now t.actions at)) (sym site.1 ∙ k.marks at inside) in
+    let found = number_from (site_now t.actions at).awaits n (subst (λ (m : Mark). has_number n m ≡ true) same site.2) in
     let here : at ≡ a.site = numbered.apart at a.site found.0 a inside awaited.inside found.1 awaited.awaits (found.2 ∙ sym awaited.number_is) in
-    (inside, subst (λ (s : ℕ). (site_now t.moments s).awaits ≡ Some a) (sym here) awaited.awaits)
+    (inside, subst (λ (s : ℕ). (site_now t.actions s).awaits ≡ Some a) (sym here) awaited.awaits)
 
 -- a number that is awaited has a site
-pub awaited_site : (c : Config) (run : Run) (t : Tale) (a : Asked) (n : ℕ) → Knows c run t.moments → IsAwaited c t a n → IsSiteOf run.marks n a.site
+pub awaited_site : (c : Config) (run : Run) (t : Trace) (a : Asked) (n : ℕ) → Knows c run t.actions → IsAwaited c t a n → IsSiteOf run.marks n a.site
 awaited_site c run t a n k awaited = (
-  mark_of (site_now t.moments a.site),
+  mark_of (site_now t.actions a.site),
   k.marks a.site awaited.inside,
   subst (λ (o : Option Asked). is_numbered (λ m. m == n) (option_map awaited_of o) ≡ true) (sym awaited.awaits) (eq-eqb a.number n awaited.number_is),
 )
 
-ready_of : (c : Config) (w : Caller) (past : List Tale) (run : Run) (ms : List Moment) → Runs c w past run ms → Ready c w past run ms
+ready_of : (c : Config) (w : Caller) (past : List Trace) (run : Run) (ms : List Action) → Runs c w past run ms → Ready c w past run ms
 ready_of c w past run ms r = record { stands = r.stands; stage = r.stage }
 
--- what the client may be told, with the site that it is about
-pub record IsAbout (client : Client) (run : Run) (n first at : ℕ) (t : Tale) (ts : List Tale) (a : Asked) : Type 0 where
+-- what the client may learn, with the site that it is about
+pub record IsAbout (client : Client) (run : Run) (n first at : ℕ) (t : Trace) (ts : List Trace) (a : Asked) : Type 0 where
   pub inside : at < client.config.n
-  pub awaits : (site_now t.moments at).awaits ≡ Some a
-  pub ready : Ready client.config t.caller ts run t.moments
+  pub awaits : (site_now t.actions at).awaits ≡ Some a
+  pub ready : Ready client.config t.caller ts run t.actions
 
-pub about : (client : Client) (run : Run) (n first at next : ℕ) (t : Tale) (ts : List Tale) (a : Asked) → client.run ≡ Some run → IsSiteOf run.marks n at → Holds client next (t ∷ ts) → IsAwaited client.config t a n → IsAbout client run n first at t ts a
+pub about : (client : Client) (run : Run) (n first at next : ℕ) (t : Trace) (ts : List Trace) (a : Asked) → client.run ≡ Some run → IsSiteOf run.marks n at → Holds client next (t ∷ ts) → IsAwaited client.config t a n → IsAbout client run n first at t ts a
 about client run n first at next t ts a e site h awaited =
     let k = run_held client next t ts run e h in
     let s = site_awaits client.config run t a n next at k.runs.stands.knows k.numbered awaited site in
-    record { inside = s.0; awaits = s.1; ready = ready_of client.config t.caller ts run t.moments k.runs }
+    record { inside = s.0; awaits = s.1; ready = ready_of client.config t.caller ts run t.actions k.runs }
 
--- one more moment of the running call, after which the client acted
-pub acted_extends : (client after : Client) (run told : Run) (first : ℕ) (turn : Turn) (moment : Moment) (next : ℕ) (t : Tale) (ts : List Tale) → client.run ≡ Some run → HasActed client after told first turn → Holds client next (t ∷ ts) → next ≤ first → rounds_used ts (moment ∷ t.moments) ≡ rounds_used ts t.moments →
-    AreNumbered client.config (moment ∷ t.moments) first → Ready client.config t.caller ts told (moment ∷ t.moments) →
-    (closing : List Moment) × IsClosing closing × Holds after (first + length turn.send) (turned first turn moment closing t ∷ ts)
-acted_extends client after run told first turn moment next t ts e acted h l same numbered ready =
+-- one more action of the running call, after which the client acted
+pub acted_extends : (client after : Client) (run told : Run) (first : ℕ) (turn : Turn) (action : Action) (next : ℕ) (t : Trace) (ts : List Trace) → client.run ≡ Some run → HasActed client after told first turn → Holds client next (t ∷ ts) → next ≤ first → rounds_used ts (action ∷ t.actions) ≡ rounds_used ts t.actions →
+    AreNumbered client.config (action ∷ t.actions) first → Ready client.config t.caller ts told (action ∷ t.actions) →
+    (closing : List Action) × IsClosing closing × Holds after (first + length turn.send) (turned first turn action closing t ∷ ts)
+acted_extends client after run told first turn action next t ts e acted h l same numbered ready =
     let k = run_held client next t ts run e h in
     let tells = h.told in
     let calls = h.calls_are in
-    let ended : HasTurned client.config t.caller ts acted.0 (sent_from first turn.send (moment ∷ t.moments)) turn.answer = acted.2 t.caller ts (moment ∷ t.moments) ready in
+    let ended : HasTurned client.config t.caller ts acted.0 (sent_from first turn.send (action ∷ t.actions)) turn.answer = acted.2 t.caller ts (action ∷ t.actions) ready in
     let round = h.round_is in
-    let used : rounds_used ts (moment ∷ t.moments) < 2 ^ 31 + first = omega (arith, h.round_low) in
-    let low : rounds_used ts (ended.0 ++ sent_from first turn.send (moment ∷ t.moments)) < 2 ^ 31 + (first + length turn.send) = turned_below client.config t.caller ts acted.0 ended.0 first turn.send (moment ∷ t.moments) turn.answer ended.1 used ended.2 in
-    let sent : AreNumbered client.config (sent_from first turn.send (moment ∷ t.moments)) (first + length turn.send) = numbered_sent client.config first turn.send (moment ∷ t.moments) numbered in
-    let later : AreNumbered client.config (ended.0 ++ sent_from first turn.send (moment ∷ t.moments)) (first + length turn.send) = numbered_closed client.config (sent_from first turn.send (moment ∷ t.moments)) ended.0 (first + length turn.send) ended.1 sent in (
+    let used : rounds_used ts (action ∷ t.actions) < 2 ^ 31 + first = omega (arith, h.round_low) in
+    let low : rounds_used ts (ended.0 ++ sent_from first turn.send (action ∷ t.actions)) < 2 ^ 31 + (first + length turn.send) = turned_below client.config t.caller ts acted.0 ended.0 first turn.send (action ∷ t.actions) turn.answer ended.1 used ended.2 in
+    let sent : AreNumbered client.config (sent_from first turn.send (action ∷ t.actions)) (first + length turn.send) = numbered_sent client.config first turn.send (action ∷ t.actions) numbered in
+    let later : AreNumbered client.config (ended.0 ++ sent_from first turn.send (action ∷ t.actions)) (first + length turn.send) = numbered_closed client.config (sent_from first turn.send (action ∷ t.actions)) ended.0 (first + length turn.send) ended.1 sent in (
       ended.0,
       ended.1,
-      subst (λ (new : Client). Holds new (first + length turn.send) (turned first turn moment ended.0 t ∷ ts)) (sym acted.1)
-          (turned_holds client.config client.session t.caller ts acted.0 (ended.0 ++ sent_from first turn.send (moment ∷ t.moments)) turn.answer client.calls (first + length turn.send) h.sizes (omega arith) tells.1 tells.2 k.over later low ended.2),
+      subst (λ (new : Client). Holds new (first + length turn.send) (turned first turn action ended.0 t ∷ ts)) (sym acted.1)
+          (turned_holds client.config client.session t.caller ts acted.0 (ended.0 ++ sent_from first turn.send (action ∷ t.actions)) turn.answer client.calls (first + length turn.send) h.sizes (omega arith) tells.1 tells.2 k.over later low ended.2),
     )
 
--- a client that may be told of a request has a call that runs, which awaits it from a site
-has_run : (c : Config) (next : ℕ) (run : Option Run) (t : Tale) (ts : List Tale) → t.answer ≡ None → HoldsRun c next run (t ∷ ts) → IsSome run
+-- a client that may learn of a request has a call that runs, which awaits it from a site
+has_run : (c : Config) (next : ℕ) (run : Option Run) (t : Trace) (ts : List Trace) → t.answer ≡ None → HoldsRun c next run (t ∷ ts) → IsSome run
 has_run c next None t ts e h = absurd (none-some h.0.0 (sym e ∙ h.0.1))
 has_run c next (Some run) t ts e h = refl
 
-pub told_runs : (client : Client) (n first : ℕ) → CanBeTold client n first → IsSome client.run
+pub told_runs : (client : Client) (n first : ℕ) → CanLearn client n first → IsSome client.run
 told_runs client n first k = has_run client.config k.0 client.run k.1 k.2 k.5.running k.4.run_is
 
-pub told_site : (client : Client) (run : Run) (n first : ℕ) → client.run ≡ Some run → CanBeTold client n first → (s : ℕ) × IsSiteOf run.marks n s
+pub told_site : (client : Client) (run : Run) (n first : ℕ) → client.run ≡ Some run → CanLearn client n first → (s : ℕ) × IsSiteOf run.marks n s
 told_site client run n first e k = (k.3.site, awaited_site client.config run k.1 k.3 n (run_held client k.0 k.1 k.2 run e k.4).runs.stands.knows k.5)
 
 -- the call can hear of the site
@@ -151,7 +151,7 @@ pub record CanHear (run : Run) (at : ℕ) : Type 0 where
   pub marks : at < length run.marks
   pub met : run.met + 1 < 2 ^ 32
 
-pub can_hear : (client : Client) (run : Run) (n first at : ℕ) → client.run ≡ Some run → IsSiteOf run.marks n at → CanBeTold client n first → CanHear run at
+pub can_hear : (client : Client) (run : Run) (n first at : ℕ) → client.run ≡ Some run → IsSiteOf run.marks n at → CanLearn client n first → CanHear run at
 can_hear client run n first at e site k =
     let held = run_held client k.0 k.1 k.2 run e k.4 in
     let inside = (about client run n first at k.0 k.1 k.2 k.3 e site k.4 k.5).inside in
@@ -163,34 +163,34 @@ can_hear client run n first at e site k =
     record { rows = omega arith; marks = omega arith; met = omega arith }
 
 -- the rounds of a call that was told something are those of its client
-pub told_round : (client : Client) (told : Run) (n first : ℕ) (moment : Moment) (k : CanBeTold client n first) → Ready client.config k.1.caller k.2 told (moment ∷ k.1.moments) → rounds_used k.2 (moment ∷ k.1.moments) ≡ rounds_used k.2 k.1.moments → told.round < 2 ^ 31 + first
-told_round client told n first moment k ready same =
+pub told_round : (client : Client) (told : Run) (n first : ℕ) (action : Action) (k : CanLearn client n first) → Ready client.config k.1.caller k.2 told (action ∷ k.1.actions) → rounds_used k.2 (action ∷ k.1.actions) ≡ rounds_used k.2 k.1.actions → told.round < 2 ^ 31 + first
+told_round client told n first action k ready same =
     let used = ready.stands.round_is in
     let round = k.4.round_is in
     omega (arith, k.4.round_low, k.6)
 
 -- a session may have used any round
-pub tale_of : Caller → ℕ → Tale
-tale_of w round = record {
+pub trace_of : Caller → ℕ → Trace
+trace_of w round = record {
   caller = w;
-  moments = Sent (record { number = 0; site = 0; op = WriteRow [] None (Promise 0 (record { round = round; session = 0 })) empty_row; awaited = false }) ∷ [];
+  actions = Sent (record { number = 0; site = 0; op = WriteRow [] None (Promise 0 (record { round = round; session = 0 })) empty_row; awaited = false }) ∷ [];
   answer = None;
 }
 
-pub tale_round : (w : Caller) (round : ℕ) → top_rounds (tale_of w round ∷ []) ≡ round
-unfolding tale_of
-tale_round w round = omega arith
+pub trace_round : (w : Caller) (round : ℕ) → top_rounds (trace_of w round ∷ []) ≡ round
+unfolding trace_of
+trace_round w round = omega arith
 
--- a client may be told of a request that its running call awaits
-pub can_be_told : (client : Client) (n first next : ℕ) (ts : List Tale) → Holds client next ts → IsLive client.config ts n → next ≤ first → CanBeTold client n first
+-- a client may learn of a request that its running call awaits
+pub can_be_told : (client : Client) (n first next : ℕ) (ts : List Trace) → Holds client next ts → IsLive client.config ts n → next ≤ first → CanLearn client n first
 can_be_told client n first next [] h live l = absurd live
 can_be_told client n first next (t ∷ ts) h live l = (next, t, ts, live.0, h, live.1, l)
 
-is_live_at : (c : Config) (t : Tale) (ts : List Tale) (i n : ℕ) (answer : Option Answer) → t.answer ≡ answer → IsLiveAtWhile c t i (Some n) answer → IsLive c (t ∷ ts) n
+is_live_at : (c : Config) (t : Trace) (ts : List Trace) (i n : ℕ) (answer : Option Answer) → t.answer ≡ answer → IsLiveAtWhile c t i (Some n) answer → IsLive c (t ∷ ts) n
 is_live_at c t ts i n None e h = (h.0.0, record { running = e; inside = h.0.1; awaits = h.0.2; number_is = h.0.3 })
 is_live_at c t ts i n (Some answer) e h = absurd (none-some n (sym h))
 
--- a number that is told is awaited
-pub live_at_means : (c : Config) (ts : List Tale) (i n : ℕ) → IsLiveAtIn c ts i (Some n) → IsLive c ts n
+-- a number that is answered for is awaited
+pub live_at_means : (c : Config) (ts : List Trace) (i n : ℕ) → IsLiveAtIn c ts i (Some n) → IsLive c ts n
 live_at_means c [] i n h = absurd (none-some n (sym h))
 live_at_means c (t ∷ ts) i n h = is_live_at c t ts i n t.answer refl h

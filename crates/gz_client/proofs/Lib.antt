@@ -1,4 +1,4 @@
+pub mod Exactly
 pub mod Holding
 pub mod Live
-pub mod Exactly
 mod LiveRequests

@@ -1,4 +1,4 @@
--- The marks of the sites tell which requests are live, and which of them is the lowest.
+-- The marks of the sites show which requests are live, and which of them is the lowest.
 use Rattle.std.proofs.Common.{◌≡◌, ◌==◌, ℕ, zero, suc, ◌<◌, ◌≤◌, Bool, true, false, cond, List, [], ◌∷◌, Option, Some, None, option_map, refl, sym, ap, ◌∙◌, subst, inl, inr, arith}
 use Rattle.std.specs.Prelude.{nat_lt}
 use Rattle.std.specs.List.{list_any}
@@ -10,13 +10,13 @@ use Rattle.gz_core.specs.declared.calls.Answer.{Answer}
 use Rattle.gz_config.specs.declared.Config.{Config}
 use Rattle.gz_core.proofs.Counting.{count_found}
 use Rattle.gz_round.specs.declared.run.Run.{Run}
-use Rattle.gz_round.specs.History.{Asked, Moment, Tale}
+use Rattle.gz_round.specs.History.{Asked, Action, Trace}
 use Rattle.gz_round.specs.Sites.{site_now}
 use Rattle.gz_round.specs.Standing.{Knows, awaited_of, mark_of}
 use Rattle.gz_round.specs.Numbering.{awaits_number, live_where}
 use Rattle.gz_round.specs.Awaiting.{is_numbered, has_number}
 use Rattle.gz_round.proofs.Lists.{any_told, any_found}
-use Rattle.gz_client.specs.Tales.{HoldsRun, AreOver, IsAwaited, IsLiveAtIn, IsLiveAtWhile, live, live_in, IsLive}
+use Rattle.gz_client.specs.Traces.{HoldsRun, AreOver, IsAwaited, IsLiveAtIn, IsLiveAtWhile, live, live_in, IsLive}
 use Rattle.gz_client.specs.Lowest.{IsLowestLive}
 use Rattle.gz_client.proofs.Holding.{live_at_means}
 
@@ -50,7 +50,7 @@ numbered_by p None = refl
 numbered_by p (Some a) = refl
 
 -- whether some mark has a number is whether some site is awaited under it
-marks_tell : (c : Config) (run : Run) (ms : List Moment) (n : ℕ) → Knows c run ms → list_any (has_number n) run.marks ≡ nat_lt 0 (live_where c (λ m. m == n) ms)
+marks_tell : (c : Config) (run : Run) (ms : List Action) (n : ℕ) → Knows c run ms → list_any (has_number n) run.marks ≡ nat_lt 0 (live_where c (λ m. m == n) ms)
 marks_tell c run ms n k =
     let len = k.marks_len in
     test_is (list_any (has_number n) run.marks) (live_where c (λ m. m == n) ms)
@@ -65,34 +65,34 @@ marks_tell c run ms n k =
     any_told (has_number n) run.marks found.0 (mark_of (site_now ms found.0)) (k.marks found.0 found.1)
     (numbered_by (λ m. m == n) (site_now ms found.0).awaits ∙ found.2))
 
-over_none : (c : Config) (p : ℕ → Bool) (ts : List Tale) → AreOver ts → live c p ts ≡ 0
+over_none : (c : Config) (p : ℕ → Bool) (ts : List Trace) → AreOver ts → live c p ts ≡ 0
 over_none c p [] h = refl
 over_none c p (t ∷ ts) h = ap (live_in c p t) h.0.1
 
 -- whether the call awaits a request, by the marks
-pub awaits_running : (c : Config) (next : ℕ) (run : Run) (ts : List Tale) (n : ℕ) → HoldsRun c next (Some run) ts → list_any (has_number n) run.marks ≡ nat_lt 0 (live c (λ m. m == n) ts)
+pub awaits_running : (c : Config) (next : ℕ) (run : Run) (ts : List Trace) (n : ℕ) → HoldsRun c next (Some run) ts → list_any (has_number n) run.marks ≡ nat_lt 0 (live c (λ m. m == n) ts)
 awaits_running c next run [] n h = absurd h
-awaits_running c next run (t ∷ ts) n h = marks_tell c run t.moments n h.1.stands.knows ∙ sym (ap (λ o. nat_lt 0 (live_in c (λ m. m == n) t o)) h.0)
+awaits_running c next run (t ∷ ts) n h = marks_tell c run t.actions n h.1.stands.knows ∙ sym (ap (λ o. nat_lt 0 (live_in c (λ m. m == n) t o)) h.0)
 
-pub awaits_idle : (c : Config) (next n : ℕ) (ts : List Tale) → HoldsRun c next None ts → false ≡ nat_lt 0 (live c (λ m. m == n) ts)
+pub awaits_idle : (c : Config) (next n : ℕ) (ts : List Trace) → HoldsRun c next None ts → false ≡ nat_lt 0 (live c (λ m. m == n) ts)
 awaits_idle c next n ts h = sym (ap (nat_lt 0) (over_none c (λ m. m == n) ts h))
 
 below_is : (m n : ℕ) → m < n → nat_lt m n ≡ true
 below_is m n l = grind (arith, nat_tests)
 
 -- a request that is awaited isn't below one below which none is
-not_below : (c : Config) (t : Tale) (n m : ℕ) → live_where c (λ k. nat_lt k n) t.moments ≡ 0 → (a : Asked) → IsAwaited c t a m → n ≤ m
+not_below : (c : Config) (t : Trace) (n m : ℕ) → live_where c (λ k. nat_lt k n) t.actions ≡ 0 → (a : Asked) → IsAwaited c t a m → n ≤ m
 not_below c t n m none a is =
     elim (cases_lt m n) [
       | inl l ↦ (
           let number = is.number_is in
-          let test : awaits_number (λ k. nat_lt k n) (site_now t.moments a.site).awaits ≡ true = ap (awaits_number (λ k. nat_lt k n)) is.awaits ∙ below_is a.number n (omega arith) in
-          let some : 0 < live_where c (λ k. nat_lt k n) t.moments = count_some c.n (λ s. awaits_number (λ k. nat_lt k n) (site_now t.moments s).awaits) a.site is.inside test in
+          let test : awaits_number (λ k. nat_lt k n) (site_now t.actions a.site).awaits ≡ true = ap (awaits_number (λ k. nat_lt k n)) is.awaits ∙ below_is a.number n (omega arith) in
+          let some : 0 < live_where c (λ k. nat_lt k n) t.actions = count_some c.n (λ s. awaits_number (λ k. nat_lt k n) (site_now t.actions s).awaits) a.site is.inside test in
           absurd (omega arith))
       | inr l ↦ l
     ]
 
-lowest_while : (c : Config) (t : Tale) (ts : List Tale) (n : Option ℕ) (answer : Option Answer) → t.answer ≡ answer → IsLiveAtWhile c t 0 n answer → IsLowestLive c (t ∷ ts) n
+lowest_while : (c : Config) (t : Trace) (ts : List Trace) (n : Option ℕ) (answer : Option Answer) → t.answer ≡ answer → IsLiveAtWhile c t 0 n answer → IsLowestLive c (t ∷ ts) n
 lowest_while c t ts None None e h = ap (live_in c (λ m. true) t) e ∙ omega arith
 lowest_while c t ts None (Some answer) e h = ap (live_in c (λ m. true) t) e
 lowest_while c t ts (Some n) None e h = (
@@ -102,7 +102,7 @@ lowest_while c t ts (Some n) None e h = (
 lowest_while c t ts (Some n) (Some answer) e h = absurd (none-some n (sym h))
 
 -- the lowest number is the first of those that are awaited
-pub lowest_is : (c : Config) (ts : List Tale) (n : Option ℕ) → IsLiveAtIn c ts 0 n → IsLowestLive c ts n
+pub lowest_is : (c : Config) (ts : List Trace) (n : Option ℕ) → IsLiveAtIn c ts 0 n → IsLowestLive c ts n
 lowest_is c [] None h = refl
 lowest_is c [] (Some n) h = absurd (none-some n (sym h))
 lowest_is c (t ∷ ts) n h = lowest_while c t ts n t.answer refl h

@@ -4,26 +4,26 @@ use Rattle.gz_core.specs.declared.calls.Answer.{Answer}
 use Rattle.gz_core.specs.declared.calls.Answer.TheVariants.{NoQuorum, Contended, Unsure}
 use Rattle.gz_core.specs.declared.calls.UnsureWhy.TheVariants.{NoQuorum as UnsureNoQuorum, Contended as UnsureContended}
 use Rattle.gz_config.specs.declared.Config.{Config}
-use Rattle.gz_round.specs.History.{Moment, Tale}
+use Rattle.gz_round.specs.History.{Action, Trace}
 use Rattle.gz_round.specs.Sent.{met, voted, phase_of}
 use Rattle.gz_round.specs.Counting.{outs, known_count}
-use Rattle.gz_client.specs.Tales.{IsTold}
+use Rattle.gz_client.specs.Traces.{KeepsRules}
 
 -- too few sites are left, and the call was overtaken less often than it tries
-abbrev pub LacksSites : Config → List Moment → Type 0
+abbrev pub LacksSites : Config → List Action → Type 0
 LacksSites c ms = (met ms < c.tries) × (c.n < outs c ms + c.qc)
 
 -- the answer for want of sites, by whether the call voted
-abbrev pub lacking : Config → List Moment → Bool → Answer
+abbrev pub lacking : Config → List Action → Bool → Answer
 lacking c ms true = Unsure (UnsureNoQuorum (phase_of ms) (known_count c ms))
 lacking c ms false = NoQuorum (phase_of ms) (known_count c ms)
 
 -- the answer of a call that was overtaken too often, by whether it voted
-abbrev pub contending : List Moment → Bool → Answer
+abbrev pub contending : List Action → Bool → Answer
 contending ms true = Unsure (UnsureContended (met ms))
 contending ms false = Contended (met ms)
 
 abbrev pub EndsExactly : Type 0
-EndsExactly = (c : Config) (past : List Tale) (t : Tale) → IsTold c past t →
-    ((t.answer ≡ Some (lacking c t.moments (voted t.caller.name t.moments))) ↔ LacksSites c t.moments)
-    × ((t.answer ≡ Some (contending t.moments (voted t.caller.name t.moments))) ↔ (c.tries ≤ met t.moments))
+EndsExactly = (c : Config) (past : List Trace) (t : Trace) → KeepsRules c past t →
+    ((t.answer ≡ Some (lacking c t.actions (voted t.caller.name t.actions))) ↔ LacksSites c t.actions)
+    × ((t.answer ≡ Some (contending t.actions (voted t.caller.name t.actions))) ↔ (c.tries ≤ met t.actions))

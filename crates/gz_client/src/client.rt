@@ -1,10 +1,10 @@
 //! A session's client.
 ghost use Rattle.std.specs.Prelude.{◌≡◌, ℕ, ◌<◌, ◌+◌, ◌^◌, ◌↔◌, List, [], true, IsTrue, Some, IsSome, IfOk, OnErr};
 ghost use Rattle.gz_core.specs.Configurations.{IsConfig};
-ghost use Rattle.gz_round.specs.History.{Tale, Handed, GaveUp};
+ghost use Rattle.gz_round.specs.History.{Trace, Handed, GaveUp};
 ghost use Rattle.gz_round.specs.Starting.{IsWithin};
 ghost use Rattle.gz_round.specs.Following.{IsReady};
-ghost use Rattle.gz_client.specs.Tales.{Holds, CanBegin, CanBeTold, IsSameClient, HasActed, IsRunning, Begins, Extends, going_on, live_count, IsLiveAtIn};
+ghost use Rattle.gz_client.specs.Traces.{Holds, CanBegin, CanLearn, IsSameClient, HasActed, IsRunning, Begins, Extends, going_on, live_count, IsLiveAtIn};
 
 mod live;
 
@@ -74,7 +74,7 @@ impl Client {
         answer: &Reply,
         first: u32,
     ) -> Result<Turn, AllocError>
-        requires told { CanBeTold self.old n first }
+        requires told { CanLearn self.old n first }
         requires first { first < 2 ^ 31 }
 
         ensures ok { IfOk result (λ turn. Extends self.old self.new n first (λ a. Handed a answer.now) turn) }
@@ -86,10 +86,10 @@ impl Client {
         Ok(turn)
     }
 
-    /// Tells the client that request `n`, which it awaits, won't be answered. What it sends at this goes out
+    /// Notifies the client that request `n`, which it awaits, won't be answered. What it sends at this goes out
     /// under the numbers from `first` on, in their order.
     pub fn give_up(&mut self, alloc: Global, n: u32, first: u32) -> Result<Turn, AllocError>
-        requires told { CanBeTold self.old n first }
+        requires told { CanLearn self.old n first }
         requires first { first < 2 ^ 31 }
 
         ensures ok { IfOk result (λ turn. Extends self.old self.new n first (λ a. GaveUp a) turn) }
@@ -129,7 +129,7 @@ impl Client {
         answer: &Reply,
         first: u32,
     ) -> Result<(Client, Turn), AllocError>
-        requires told { CanBeTold self.now n first }
+        requires told { CanLearn self.now n first }
         requires first { first < 2 ^ 31 }
 
         ensures ok { IfOk result (λ after. Extends self.now after.0 n first (λ a. Handed a answer.now) after.1) }
@@ -138,13 +138,13 @@ impl Client {
         let mut run = self.copy_run()?;
         let at = run.site_of(n);
         run.note_reply(alloc, at, answer)?;
-        self.act(alloc, run, first)
+        self.take_turn(alloc, run, first)
     }
 
     /// The client once it was told that request `n`, which it awaits, won't be answered, and its turn, for a caller that
     /// has more memory to take before it changes.
     pub fn gave_up(&self, alloc: Global, n: u32, first: u32) -> Result<(Client, Turn), AllocError>
-        requires told { CanBeTold self.now n first }
+        requires told { CanLearn self.now n first }
         requires first { first < 2 ^ 31 }
 
         ensures ok { IfOk result (λ after. Extends self.now after.0 n first (λ a. GaveUp a) after.1) }
@@ -153,11 +153,11 @@ impl Client {
         let mut run = self.copy_run()?;
         let at = run.site_of(n);
         run.note_give_up(at);
-        self.act(alloc, run, first)
+        self.take_turn(alloc, run, first)
     }
 
     /// The client once its running call has acted, and its turn: `run` is the call with what it was told.
-    fn act(&self, alloc: Global, run: Run, first: u32) -> Result<(Client, Turn), AllocError>
+    fn take_turn(&self, alloc: Global, run: Run, first: u32) -> Result<(Client, Turn), AllocError>
         requires config { IsConfig self.now.config }
         requires first { first < 2 ^ 31 }
         requires round { run.round < 2 ^ 31 + first }
@@ -167,7 +167,7 @@ impl Client {
         ensures same { IfOk result (λ after. IsSameClient self.now after.0) }
     {
         let mut run = run;
-        let turn = run.act(alloc, &self.config, first)?;
+        let turn = run.take_turn(alloc, &self.config, first)?;
         Ok((
             self.with_run(self.calls, run.round, going_on(run, &turn)),
             turn,
@@ -200,14 +200,14 @@ impl Client {
 
     /// Whether a call runs. Takes no memory.
     pub fn runs(&self) -> bool
-        ensures { (next : ℕ) (ts : List Tale) → Holds self.now next ts → (IsTrue result ↔ IsRunning ts) }
+        ensures { (next : ℕ) (ts : List Trace) → Holds self.now next ts → (IsTrue result ↔ IsRunning ts) }
     {
         self.run.is_some()
     }
 
     /// How many requests are awaited. Takes no memory.
     pub fn live_count(&self) -> u32
-        ensures { (next : ℕ) (ts : List Tale) → Holds self.now next ts → result ≡ live_count self.now.config ts }
+        ensures { (next : ℕ) (ts : List Trace) → Holds self.now next ts → result ≡ live_count self.now.config ts }
     {
         match &self.run {
             None => 0,
@@ -217,7 +217,7 @@ impl Client {
 
     /// The `i`-th lowest number of the requests that are awaited, counted from 0. Takes no memory.
     pub fn live_at(&self, i: u32) -> Option<u32>
-        ensures { (next : ℕ) (ts : List Tale) → Holds self.now next ts → IsLiveAtIn self.now.config ts i result }
+        ensures { (next : ℕ) (ts : List Trace) → Holds self.now next ts → IsLiveAtIn self.now.config ts i result }
     {
         match &self.run {
             None => None,

@@ -1,7 +1,7 @@
 //! A client driven by hand over three sites: its requests have the numbers from 1 on, in the order in which they go out.
 ghost use Rattle.std.specs.Prelude.{◌≡◌, ◌+◌, ◌≤◌, ◌<◌, length, IfOk, OnOk};
 ghost use Rattle.gz_round.specs.Starting.{IsWithin};
-ghost use Rattle.gz_client.specs.Tales.{CanBeTold};
+ghost use Rattle.gz_client.specs.Traces.{CanLearn};
 ghost use Rattle.gz_client_tests.specs.Holding.{IsHeld};
 
 use crate::answers::Answered;
@@ -62,7 +62,7 @@ impl Driver {
         Ok(answered)
     }
 
-    /// Plays a move, and tells the answer of the call where it ends.
+    /// Plays a move, and returns the answer of the call where it ends.
     fn play(&mut self, alloc: Global, next: Move) -> Result<Answered, Stuck>
         requires { IsHeld self.old.client self.old.calls self.old.first }
         ensures { OnOk result (IsHeld self.new.client self.new.calls self.new.first) }
@@ -93,7 +93,7 @@ impl Driver {
         Ok(turn)
     }
 
-    /// Tells the client of a request.
+    /// Notifies the client of a request.
     fn tell(&mut self, alloc: Global, told: &Told) -> Result<Turn, Stuck>
         requires { IsHeld self.old.client self.old.calls self.old.first }
         ensures { OnOk result (IsHeld self.new.client self.new.calls self.new.first) }
@@ -113,7 +113,7 @@ impl Driver {
     /// Hands a reply of a request.
     fn reply(&mut self, alloc: Global, n: u32, answer: &Reply) -> Result<Turn, Stuck>
         requires held { IsHeld self.old.client self.old.calls self.old.first }
-        requires told { CanBeTold self.old.client n self.old.first }
+        requires told { CanLearn self.old.client n self.old.first }
         requires first { self.old.first < 1000 }
         ensures { OnOk result (IsHeld self.new.client self.new.calls self.new.first) }
     {
@@ -125,7 +125,7 @@ impl Driver {
     /// Gives a request up.
     fn give_up(&mut self, alloc: Global, n: u32) -> Result<Turn, Stuck>
         requires held { IsHeld self.old.client self.old.calls self.old.first }
-        requires told { CanBeTold self.old.client n self.old.first }
+        requires told { CanLearn self.old.client n self.old.first }
         requires first { self.old.first < 1000 }
         ensures { OnOk result (IsHeld self.new.client self.new.calls self.new.first) }
     {

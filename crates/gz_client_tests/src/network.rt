@@ -19,7 +19,7 @@ impl From<AllocError> for Stuck {
 }
 
 /// What happens next: a request is delivered to its site, a reply of one is handed to the client, both, the client
-/// is told that one failed, one is given up, or another session votes or promises a ballot at a site.
+/// learns that one failed, one is given up, or another session votes or promises a ballot at a site.
 #[derive(Clone, Copy)]
 pub enum Move {
     Deliver(u32),
@@ -31,7 +31,7 @@ pub enum Move {
     Promise(usize),
 }
 
-/// What the client is told of a request: a reply, or that none comes.
+/// What the client learns of a request: a reply, or that none comes.
 #[derive(Drop)]
 pub struct Told {
     pub number: u32,
@@ -77,7 +77,7 @@ impl Network {
         self.sent.len()
     }
 
-    /// Sends the requests of an event, and tells how its call is answered at it.
+    /// Sends the requests of an event, and returns how its call is answered at it.
     pub fn send(&mut self, alloc: Global, turn: Turn) -> Result<Answered, AllocError> {
         let Turn { send, answer } = turn;
         let answered = answered_of(&answer);
@@ -90,7 +90,7 @@ impl Network {
         Ok(answered)
     }
 
-    /// Makes a move, and says what the client is told at it.
+    /// Makes a move, and says what the client learns at it.
     pub fn make(&mut self, alloc: Global, next: Move) -> Result<Option<Told>, Stuck> {
         match next {
             Move::Deliver(number) => self.deliver(number)?,

@@ -325,7 +325,7 @@ fn then_get(alloc: Global, kind: Kind) -> Result<[Answered; 2], Stuck> {
     driver.write_and_read(alloc, kind)
 }
 
-/// What a client tells of the requests that it awaits: whether a call runs, how many they are, the first two, and
+/// What a client shows of the requests that it awaits: whether a call runs, how many they are, the first two, and
 /// which of the first three they are.
 type Awaited = (bool, u32, [Option<u32>; 2], [bool; 3]);
 
@@ -341,7 +341,7 @@ fn awaited(alloc: Global) -> Result<Awaited, Stuck> {
     driver.awaited_by_a_get(alloc)
 }
 
-/// A get after a put reads its bytes, and after a delete tells that the object is gone. An answered request isn't awaited
+/// A get after a put reads its bytes, and after a delete answers that the object is gone. An answered request isn't awaited
 /// any more.
 #[test]
 fn gets_after_writes_and_what_a_get_awaits(rt: HostRuntime) {

@@ -1,6 +1,6 @@
 pub mod CodeWord
-pub mod Interpolation
-pub mod Polynomial
-pub mod Encoding
 pub mod Decoding
+pub mod Encoding
+pub mod Interpolation
 pub mod Laws
+pub mod Polynomial

@@ -6,7 +6,7 @@ ghost use Rattle.gz_code.specs.Interpolation.{apart, HasInverses, AreWeights, Ar
 
 use gz_field::{add, inv, mul};
 use gz_lanes::plain::combine;
-use gz_lanes::{Row, combine_rows, copy_and_combine};
+use gz_lanes::{CoefficientRow, combine_rows, copy_and_combine};
 use std::alloc::{AllocError, Global};
 
 /// The product of the differences of `y` from all points but the one at the place that is left out.
@@ -82,7 +82,7 @@ fn piece_at(
 }
 
 /// The weights for each target, in rows that multiply by them. With no target it does nothing.
-fn rows_of(alloc: Global, points: &[u8], targets: &[u8]) -> Result<Vec<Row>, AllocError>
+fn rows_of(alloc: Global, points: &[u8], targets: &[u8]) -> Result<Vec<CoefficientRow>, AllocError>
     requires few { length points.now ≤ 256 }
     requires points { ArePoints (length points.now) (slice_index points.now) }
     requires elsewhere { (t j : ℕ) → t < length targets.now → j < length points.now → slice_index targets.now t ≢ slice_index points.now j }
@@ -95,7 +95,7 @@ fn rows_of(alloc: Global, points: &[u8], targets: &[u8]) -> Result<Vec<Row>, All
     let mut rows = Vec::with_capacity(alloc, targets.len())?;
     for target in targets {
         let weights = weights_of(alloc, points, &inverses, *target)?;
-        rows.push(Row::new(alloc, weights)?)?;
+        rows.push(CoefficientRow::new(alloc, weights)?)?;
     }
     Ok(rows)
 }

@@ -2,7 +2,7 @@
 ghost use Rattle.std.specs.Prelude.{◌≡◌, length, All, IfSome};
 
 use gz_lanes::plain::combine;
-use gz_lanes::{Row, combine_rows, copy_and_combine};
+use gz_lanes::{CoefficientRow, combine_rows, copy_and_combine};
 use std::alloc::Global;
 
 /// The sum of 3 times the first source and 2 times the second, at two columns.
@@ -13,16 +13,16 @@ fn two_columns() -> [u8; 2] {
 }
 
 /// The row of 3 and 2, alone.
-fn rows(alloc: Global) -> Option<Vec<Row>>
+fn rows(alloc: Global) -> Option<Vec<CoefficientRow>>
     ensures { IfSome result (λ rows. All (λ row. length row ≡ 2) rows.items) }
 {
     let coefficients = vec![in alloc; 3, 2].ok()?;
-    let row = Row::new(alloc, coefficients).ok()?;
+    let row = CoefficientRow::new(alloc, coefficients).ok()?;
     vec![in alloc; row].ok()
 }
 
 /// Whether there is one row, of 3 and 2.
-fn is_row(rows: &[Row]) -> bool {
+fn is_row(rows: &[CoefficientRow]) -> bool {
     match rows {
         [row] => row.coefficients() == [3, 2].as_slice(),
         _ => false,

@@ -57,7 +57,7 @@ impl Config {
         order: Order::Parallel,
     };
 
-    /// Tells the first rule that the configuration breaks. Takes no memory.
+    /// Returns the first rule that the configuration breaks. Takes no memory.
     pub fn check(&self) -> Result<(), ConfigError>
         ensures exact { result ≡ check_of self.now }
         ensures config { IfOk result (λ _. IsConfig self.now) }

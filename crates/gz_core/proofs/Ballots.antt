@@ -14,7 +14,7 @@ pub names_equal : (a b : Name) → a.session ≡ b.session → a.seq ≡ b.seq �
 names_equal a b p q =
     ap (λ k. let r : Name = record { session = k; seq = a.seq } in r) p ∙ ap (λ k. let r : Name = record { session = b.session; seq = k } in r) q
 
--- the test on ballots tells that they are equal
+-- the test on ballots shows that they are equal
 pub same_means : (a b : BallotAt) → same_ballot a b ≡ true → a ≡ b
 same_means a b h =
     let both : ((a.round == b.round) ≡ true) × ((a.session == b.session) ≡ true) = and_parts (a.round == b.round) (a.session == b.session) h in
@@ -28,7 +28,7 @@ same_refl a = grind (arith, nat_tests)
 pub same_from : (a b : BallotAt) → a ≡ b → same_ballot a b ≡ true
 same_from a b e = subst (λ (c : BallotAt). same_ballot a c ≡ true) e (same_refl a)
 
--- the test on names tells that they are equal
+-- the test on names shows that they are equal
 pub name_means : (x y : Name) → same_name x y ≡ true → x ≡ y
 name_means x y h =
     let both : ((x.session == y.session) ≡ true) × ((x.seq == y.seq) ≡ true) = and_parts (x.session == y.session) (x.seq == y.seq) h in

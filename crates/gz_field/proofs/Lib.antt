@@ -1,7 +1,7 @@
 pub mod Additive
+pub mod Algebra
 pub mod Basis
 pub mod Computed
-pub mod Algebra
 pub mod Entries
 pub mod Inverse
 pub mod Powers

@@ -1,4 +1,4 @@
 pub mod Bytes
-pub mod Keys
 pub mod Fields
+pub mod Keys
 pub mod Records

@@ -6,7 +6,7 @@ use Rattle.std.specs.Int.{w32, to_be_bytes, div_ceil}
 use Rattle.gz_core.specs.Keys.{IsKey}
 use Rattle.gz_fragfmt.specs.declared.errors.FragError.{FragError}
 use Rattle.gz_fragfmt.specs.declared.fragments.Parts.{Parts}
-use Rattle.gz_fragfmt.specs.Fragments.{FragmentAt, IsPiece, IsFragment, parts_at}
+use Rattle.gz_fragfmt.specs.Fragments.{FragmentAt, IsFragmentPiece, IsFragment, parts_at}
 use Rattle.gz_fragfmt.specs.Spelling.{magic, string, name_bytes, shape_bytes, spelling}
 use Rattle.gz_fragfmt.specs.Reading.{Gives, byte_at, magic_at, key_at, name_at, k_at, m_at, length_at, piece_at, rest_at, fragment_in}
 use Rattle.gz_fragfmt.proofs.Bytes.{IsBytes, bind_ok, bind_again, ok_is, byte_takes}
@@ -21,7 +21,7 @@ after_key f = name_bytes f.name ++ (shape_bytes f.index f.k f.m f.length ++ f.pi
 record IsRest (key bytes : List ℕ) (f : FragmentAt) : Type 0 where
   key_is : f.key ≡ key
   numbers : AreNumbers (f.name.session, f.name.seq)
-  is_piece : IsPiece f.index f.k f.m f.length f.piece
+  is_piece : IsFragmentPiece f.index f.k f.m f.length f.piece
   spelled : bytes ≡ after_key f
 
 rest_takes : (key : List ℕ) (at : ℕ) (bytes : List ℕ) (f : FragmentAt) → IsBytes bytes → rest_at key at bytes ≡ Ok f → IsRest key bytes f
@@ -48,7 +48,7 @@ rest_takes key at bytes f fits e =
     subst (λ (g : FragmentAt). IsRest key bytes g) (ok_is made f piece.2)
     (record { key_is = refl; numbers = t0.1; is_piece = record { some = t2.1; few = t3.1.0; within = t3.1.1; bounded = t4.1; width = t5.1 }; spelled = whole })
 
-rest_again : (f : FragmentAt) (at : ℕ) → AreNumbers (f.name.session, f.name.seq) → IsPiece f.index f.k f.m f.length f.piece → rest_at f.key at (after_key f) ≡ Ok f
+rest_again : (f : FragmentAt) (at : ℕ) → AreNumbers (f.name.session, f.name.seq) → IsFragmentPiece f.index f.k f.m f.length f.piece → rest_at f.key at (after_key f) ≡ Ok f
 unfolding rest_at
 rest_again f at numbers is_piece =
     bind_again (name_at at (after_key f)) ((f.name.session, f.name.seq), shape_bytes f.index f.k f.m f.length ++ f.piece) _ (Ok f)

@@ -18,7 +18,7 @@ pub record FragmentAt : Type 0 where
   pub piece : List ℕ
 
 -- the rules on the numbers of a fragment, and the width of its piece
-pub record IsPiece (index k m len : ℕ) (piece : List ℕ) : Type 0 where
+pub record IsFragmentPiece (index k m len : ℕ) (piece : List ℕ) : Type 0 where
   pub some : 1 ≤ k
   pub few : k + m ≤ 16
   pub within : index < k + m
@@ -32,7 +32,7 @@ pub record IsFragment (f : FragmentAt) : Type 0 where
   pub session_fits : f.name.session < 2 ^ 32
   pub counted : 1 ≤ f.name.seq
   pub seq_fits : f.name.seq < 2 ^ 32
-  pub is_piece : IsPiece f.index f.k f.m f.length f.piece
+  pub is_piece : IsFragmentPiece f.index f.k f.m f.length f.piece
 
 -- the fragment of these parts
 abbrev pub fragment_of : List ℕ → Name → Shape → List ℕ → FragmentAt

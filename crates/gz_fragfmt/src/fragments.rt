@@ -25,13 +25,13 @@ pub struct Fragment {
 }
 
 impl Model for Fragment {
-    ghost use Rattle.gz_fragfmt.specs.Fragments.{FragmentAt, IsPiece};
+    ghost use Rattle.gz_fragfmt.specs.Fragments.{FragmentAt, IsFragmentPiece};
 
     ghost Value = { FragmentAt };
 
     ghost view = { λ f. record { key = f.key; name = f.name; index = f.index; k = f.k; m = f.m; length = f.length; piece = f.piece } };
 
-    ghost invariant = { λ f. IsPiece f.index f.k f.m f.length f.piece };
+    ghost invariant = { λ f. IsFragmentPiece f.index f.k f.m f.length f.piece };
 
     ghost inverse = { λ f. record { key = f.key; name = f.name; index = f.index; k = f.k; m = f.m; length = f.length; piece = f.piece } };
 }

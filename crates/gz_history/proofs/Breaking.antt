@@ -26,7 +26,7 @@ returned_more calls i n a b h p q kept =
 abbrev told_of : ℕ → Name → Name → Broken
 told_of clause a b = record { clause = clause; a = a; b = b }
 
--- two calls that break a relation, and are told
+-- two calls that break a relation, and are answered
 pub broken_at : (R : CallRec → CallRec → Type 0) (clause told : ℕ) (calls : List CallRec) (i j : ℕ) (a b : CallRec) → slice_get calls i ≡ Some a → slice_get calls j ≡ Some b → Broke R a b → told ≡ clause → AreBroken R clause calls i j (record { clause = told; a = a.name; b = b.name })
 broken_at R clause told calls i j a b p q broke e = record {
   a = a;

@@ -74,7 +74,7 @@ KeptWith R calls i end = (j : ℕ) → i < j → j < end → KeptAt R calls i j
 abbrev pub KeptBefore : (CallRec → CallRec → Type 0) → List CallRec → ℕ → Type 0
 KeptBefore R calls end = (i : ℕ) → i < end → KeptWith R calls i (length calls)
 
--- the calls at two places break the relation, and this is told
+-- the calls at two places break the relation, and this is the answer
 pub record AreBroken (R : CallRec → CallRec → Type 0) (clause : ℕ) (calls : List CallRec) (i j : ℕ) (broken : Broken) : Type 0 where
   pub a : CallRec
   pub b : CallRec
@@ -125,14 +125,14 @@ abbrev pub ReturnsOtherFirst : List CallRec → Broken → Type 0
 ReturnsOtherFirst calls broken = (i : ℕ) × (ReturnedBefore calls i × ReturnsOther calls i broken)
 
 -- a rule that all calls keep
-abbrev pub IsKept : Rule → List CallRec → Type 0
-IsKept rule calls = KeptBefore (relation_of rule) calls (length calls)
+abbrev pub IsRuleKept : Rule → List CallRec → Type 0
+IsRuleKept rule calls = KeptBefore (relation_of rule) calls (length calls)
 
 -- the first rule that is broken, and where it first is
 abbrev pub IsFirstBroken : List CallRec → Broken → Type 0
 IsFirstBroken calls broken =
     BreaksFirst Agree 1 calls broken
-    ⊎ (IsKept Agreement calls × BreaksFirst TakeEffectOnce 2 calls broken)
-    ⊎ (IsKept Agreement calls × IsKept Once calls × BreaksFirst KeepOrder 3 calls broken)
-    ⊎ (IsKept Agreement calls × IsKept Once calls × IsKept Order calls × LacksSource calls broken)
-    ⊎ (IsKept Agreement calls × IsKept Once calls × IsKept Order calls × HaveSources calls (length calls) × ReturnsOtherFirst calls broken)
+    ⊎ (IsRuleKept Agreement calls × BreaksFirst TakeEffectOnce 2 calls broken)
+    ⊎ (IsRuleKept Agreement calls × IsRuleKept Once calls × BreaksFirst KeepOrder 3 calls broken)
+    ⊎ (IsRuleKept Agreement calls × IsRuleKept Once calls × IsRuleKept Order calls × LacksSource calls broken)
+    ⊎ (IsRuleKept Agreement calls × IsRuleKept Once calls × IsRuleKept Order calls × HaveSources calls (length calls) × ReturnsOtherFirst calls broken)

@@ -22,7 +22,7 @@ pub fn log_text(
     Ok(text.into_bytes())
 }
 
-// The lines of the calls.
+/// The lines of the calls.
 fn put_lines(alloc: Global, text: &mut Text, calls: &[CallRec]) -> Result<(), AllocError>
     ensures { OnOk result (text.new ≡ text.old ++ flat_map line_text calls.now) }
 {
@@ -32,7 +32,7 @@ fn put_lines(alloc: Global, text: &mut Text, calls: &[CallRec]) -> Result<(), Al
     Ok(())
 }
 
-// The last line, with the counts.
+/// The last line, with the counts.
 fn put_last_line(
     alloc: Global,
     text: &mut Text,
@@ -48,7 +48,7 @@ fn put_last_line(
     text.put(b"\n")
 }
 
-// The line of a call.
+/// The line of a call.
 fn put_line(alloc: Global, text: &mut Text, call: &CallRec) -> Result<(), AllocError>
     ensures { OnOk result (text.new ≡ text.old ++ line_text call.now) }
 {
@@ -60,7 +60,7 @@ fn put_line(alloc: Global, text: &mut Text, call: &CallRec) -> Result<(), AllocE
     text.put(b"\n")
 }
 
-// What was asked: the name, the kind, the key and the argument of a call.
+/// What was asked: the name, the kind, the key and the argument of a call.
 fn put_asked(alloc: Global, text: &mut Text, name: PutName, call: &Call) -> Result<(), AllocError>
     ensures { OnOk result (text.new ≡ text.old ++ asked_text name call.now) }
 {
@@ -97,7 +97,7 @@ fn put_argument(alloc: Global, text: &mut Text, call: &Call) -> Result<(), Alloc
     }
 }
 
-// The tick of a call's end, after a space.
+/// The tick of a call's end, after a space.
 fn put_end(alloc: Global, text: &mut Text, end: Option<u32>) -> Result<(), AllocError>
     ensures { OnOk result (text.new ≡ text.old ++ (codes " " ++ tick_text end)) }
 {

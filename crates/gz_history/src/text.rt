@@ -47,7 +47,7 @@ impl Text {
         self.bytes.extend_from_slice(digits.as_bytes())
     }
 
-    // A word and a number after it.
+    /// A word and a number after it.
     pub fn counted(&mut self, alloc: Global, word: &[u8], n: u64) -> Result<(), AllocError>
         ensures { OnOk result (self.new ≡ self.old ++ (word.now ++ decimal n)) }
     {
@@ -55,7 +55,7 @@ impl Text {
         self.number(alloc, n)
     }
 
-    // A space and a word after it.
+    /// A space and a word after it.
     pub fn word(&mut self, word: &[u8]) -> Result<(), AllocError>
         ensures { OnOk result (self.new ≡ self.old ++ (codes " " ++ word.now)) }
     {
@@ -63,7 +63,7 @@ impl Text {
         self.put(word)
     }
 
-    // The bytes in hexadecimal, or a dash where there are none.
+    /// The bytes in hexadecimal, or a dash where there are none.
     pub fn bytes(&mut self, alloc: Global, bytes: &[u8]) -> Result<(), AllocError>
         ensures { OnOk result (self.new ≡ self.old ++ bytes_text bytes.now) }
     {

@@ -9,4 +9,4 @@ mod rows;
 mod vector;
 
 pub use pieces::{combine_rows, copy_and_combine};
-pub use rows::Row;
+pub use rows::CoefficientRow;

@@ -7,7 +7,7 @@ ghost use Rattle.gz_lanes.specs.Quads.{AreQuads};
 
 use crate::plain;
 use crate::quads::quads_of;
-use crate::rows::Row;
+use crate::rows::CoefficientRow;
 use crate::vector::{Blocks, four_blocks, one_block, one_sum, put, sums_of_four};
 use std::alloc::{AllocError, Global};
 use std::simd::prelude::*;
@@ -21,7 +21,7 @@ fn append(
     sums: &[u8],
     at: usize,
     piece: &mut Vec<u8>,
-    row: &Row,
+    row: &CoefficientRow,
     sources: &[&[u8]],
 ) -> Result<(), AllocError>
     requires end { at ≡ length piece.old.items }
@@ -39,7 +39,7 @@ fn append_vector(
     sums: u8x16,
     at: usize,
     piece: &mut Vec<u8>,
-    row: &Row,
+    row: &CoefficientRow,
     sources: &[&[u8]],
 ) -> Result<(), AllocError>
     requires begun { at ≤ length piece.old.items }
@@ -56,7 +56,7 @@ fn append_vector(
 
 /// Adds the sums of one row to a piece, 64 at a time, so that fewer than 64 are left to the given end.
 fn extend_by_blocks(
-    row: &Row,
+    row: &CoefficientRow,
     sources: &[&[u8]],
     end: usize,
     piece: &mut Vec<u8>,
@@ -78,7 +78,7 @@ fn extend_by_blocks(
 
 /// Adds the sums of one row to a piece up to the given end. The last block of 16 ends there, so that it may sum some places again.
 fn extend_to(
-    row: &Row,
+    row: &CoefficientRow,
     sources: &[&[u8]],
     end: usize,
     piece: &mut Vec<u8>,
@@ -151,7 +151,12 @@ fn append_four(
     blocks: &Blocks,
     at: usize,
     pieces: &mut Four,
-    rows: (&Row, &Row, &Row, &Row),
+    rows: (
+        &CoefficientRow,
+        &CoefficientRow,
+        &CoefficientRow,
+        &CoefficientRow,
+    ),
     sources: &[&[u8]],
 ) -> Result<(), AllocError>
     requires first { HasSums rows.0.now (contents sources.now) at 64 blocks.now.a }
@@ -173,7 +178,12 @@ fn append_four_vectors(
     sums: (u8x16, u8x16, u8x16, u8x16),
     at: usize,
     pieces: &mut Four,
-    rows: (&Row, &Row, &Row, &Row),
+    rows: (
+        &CoefficientRow,
+        &CoefficientRow,
+        &CoefficientRow,
+        &CoefficientRow,
+    ),
     sources: &[&[u8]],
 ) -> Result<(), AllocError>
     requires begun { at ≤ length pieces.old.a.items }
@@ -193,8 +203,13 @@ fn append_four_vectors(
 
 /// Adds the sums of four rows to their pieces, 64 at a time, so that fewer than 64 are left to the given end.
 fn extend_four_by_blocks(
-    constants: &Option<Row>,
-    rows: (&Row, &Row, &Row, &Row),
+    constants: &Option<CoefficientRow>,
+    rows: (
+        &CoefficientRow,
+        &CoefficientRow,
+        &CoefficientRow,
+        &CoefficientRow,
+    ),
     sources: &[&[u8]],
     end: usize,
     pieces: &mut Four,
@@ -216,8 +231,13 @@ fn extend_four_by_blocks(
 
 /// Adds the sums of four rows to their pieces up to the given end. The last block of 16 ends there, as with one row.
 fn extend_four_to(
-    constants: &Option<Row>,
-    rows: (&Row, &Row, &Row, &Row),
+    constants: &Option<CoefficientRow>,
+    rows: (
+        &CoefficientRow,
+        &CoefficientRow,
+        &CoefficientRow,
+        &CoefficientRow,
+    ),
     sources: &[&[u8]],
     end: usize,
     pieces: &mut Four,
@@ -289,7 +309,7 @@ fn copy_to(sources: &[&[u8]], end: usize, copies: &mut Copies) -> Result<(), All
 /// A piece of the width that holds the combinations of one row. The copies go on beside it.
 fn combined(
     alloc: Global,
-    row: &Row,
+    row: &CoefficientRow,
     sources: &[&[u8]],
     width: usize,
     copies: &mut Copies,
@@ -316,7 +336,7 @@ fn combined(
 /// The same by the plain bodies, with no copies.
 fn combined_plainly(
     alloc: Global,
-    row: &Row,
+    row: &CoefficientRow,
     sources: &[&[u8]],
     width: usize,
 ) -> Result<Vec<u8>, AllocError>
@@ -331,8 +351,13 @@ fn combined_plainly(
 
 /// Sums the rows into four empty pieces. The copies go on beside them.
 fn fill_four(
-    constants: &Option<Row>,
-    rows: (&Row, &Row, &Row, &Row),
+    constants: &Option<CoefficientRow>,
+    rows: (
+        &CoefficientRow,
+        &CoefficientRow,
+        &CoefficientRow,
+        &CoefficientRow,
+    ),
     sources: &[&[u8]],
     width: usize,
     pieces: &mut Four,
@@ -360,7 +385,12 @@ fn fill_four(
 /// The pieces of four rows. The copies go on beside them.
 fn combined_four(
     alloc: Global,
-    rows: (&Row, &Row, &Row, &Row),
+    rows: (
+        &CoefficientRow,
+        &CoefficientRow,
+        &CoefficientRow,
+        &CoefficientRow,
+    ),
     sources: &[&[u8]],
     width: usize,
     copies: &mut Copies,
@@ -383,7 +413,7 @@ fn combined_four(
 /// The pieces of all rows by the plain bodies.
 fn combined_rows_plainly(
     alloc: Global,
-    rows: &[Row],
+    rows: &[CoefficientRow],
     sources: &[&[u8]],
     width: usize,
 ) -> Result<Vec<Vec<u8>>, AllocError>
@@ -401,7 +431,7 @@ fn combined_rows_plainly(
 /// Adds the pieces of the four rows from `at` on to those before them. The copies go on beside them.
 fn add_four(
     alloc: Global,
-    rows: &[Row],
+    rows: &[CoefficientRow],
     at: usize,
     sources: &[&[u8]],
     width: usize,
@@ -428,7 +458,7 @@ fn add_four(
 /// The pieces of the rows that stand in whole groups of four. The copies go on beside them.
 fn combined_fours(
     alloc: Global,
-    rows: &[Row],
+    rows: &[CoefficientRow],
     sources: &[&[u8]],
     width: usize,
     copies: &mut Copies,
@@ -452,7 +482,7 @@ fn combined_fours(
 /// The pieces of all rows, four at a time while there are four. The copies go on beside them.
 fn combined_rows(
     alloc: Global,
-    rows: &[Row],
+    rows: &[CoefficientRow],
     sources: &[&[u8]],
     width: usize,
     copies: &mut Copies,
@@ -477,7 +507,7 @@ fn combined_rows(
 /// The pieces of all rows, by the plain bodies where the width is below 16. The copies go on beside them.
 fn combined_any(
     alloc: Global,
-    rows: &[Row],
+    rows: &[CoefficientRow],
     sources: &[&[u8]],
     width: usize,
     copies: &mut Copies,
@@ -499,7 +529,7 @@ fn combined_any(
 /// Copies of the first `count` sources, and a piece of the width for each row, with the combinations of the sources' bytes at each place.
 pub fn copy_and_combine(
     alloc: Global,
-    rows: &[Row],
+    rows: &[CoefficientRow],
     sources: &[&[u8]],
     count: usize,
     width: usize,
@@ -519,7 +549,7 @@ pub fn copy_and_combine(
 /// A piece of the width for each row, with the combinations of the sources' bytes at each place.
 pub fn combine_rows(
     alloc: Global,
-    rows: &[Row],
+    rows: &[CoefficientRow],
     sources: &[&[u8]],
     width: usize,
 ) -> Result<Vec<Vec<u8>>, AllocError>

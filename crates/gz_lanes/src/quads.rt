@@ -6,7 +6,7 @@ ghost use Rattle.gz_lanes.specs.Lanes.{HasLanes};
 ghost use Rattle.gz_lanes.specs.Quads.{lifted, first_part, second_part, third_part, fourth_part, unit, in_first, in_second, in_third, in_fourth, second_weight, third_weight, fourth_weight, AreQuads};
 
 use crate::lanes::{load, product_by, sum, zeros};
-use crate::rows::Row;
+use crate::rows::CoefficientRow;
 use gz_field::{add, inv, mul};
 use std::alloc::{AllocError, Global};
 use std::simd::prelude::*;
@@ -96,8 +96,13 @@ fn constants_of(alloc: Global, a: &[u8], b: &[u8]) -> Result<Vec<u8>, AllocError
 /// The constants that give the four rows, if there are any.
 pub(crate) fn quads_of(
     alloc: Global,
-    rows: (&Row, &Row, &Row, &Row),
-) -> Result<Option<Row>, AllocError>
+    rows: (
+        &CoefficientRow,
+        &CoefficientRow,
+        &CoefficientRow,
+        &CoefficientRow,
+    ),
+) -> Result<Option<CoefficientRow>, AllocError>
     requires same { (length rows.1.now ≡ length rows.0.now) × (length rows.2.now ≡ length rows.0.now) × (length rows.3.now ≡ length rows.0.now) }
     ensures { IfOk result (λ found. IfSome found (λ constants. AreQuads constants rows.entry.0.now rows.entry.1.now rows.entry.2.now rows.entry.3.now)) }
 {
@@ -112,13 +117,13 @@ pub(crate) fn quads_of(
     if !are_quads(&constants, a, b, c, d) {
         return Ok(None);
     }
-    let row = Row::new(alloc, constants)?;
+    let row = CoefficientRow::new(alloc, constants)?;
     Ok(Some(row))
 }
 
 /// The first of each pair, lifted by a constant, and the sum of both.
 #[inline(always)]
-fn pair(constants: &Row, j: usize, a: u8x16, b: u8x16) -> (u8x16, u8x16)
+fn pair(constants: &CoefficientRow, j: usize, a: u8x16, b: u8x16) -> (u8x16, u8x16)
     requires within { j < length constants.now }
     ensures first { HasLanes result.0 (λ k. lifted (slice_index constants.now j) (slice_index a k) (slice_index b k)) }
     ensures second { HasLanes result.1 (λ k. bit_xor (slice_index a k) (slice_index b k)) }
@@ -130,7 +135,12 @@ fn pair(constants: &Row, j: usize, a: u8x16, b: u8x16) -> (u8x16, u8x16)
 
 /// The four parts of quad q, at the 16 places from `at` on.
 #[inline(always)]
-fn parts(constants: &Row, q: usize, sources: &[&[u8]], at: usize) -> (u8x16, u8x16, u8x16, u8x16)
+fn parts(
+    constants: &CoefficientRow,
+    q: usize,
+    sources: &[&[u8]],
+    at: usize,
+) -> (u8x16, u8x16, u8x16, u8x16)
     requires constants_within { q * 3 + 2 < length constants.now }
     requires sources_within { q * 4 + 3 < length sources.now }
     requires inside { All (λ source. at + 16 ≤ length source) (contents sources.now) }
@@ -154,7 +164,11 @@ fn parts(constants: &Row, q: usize, sources: &[&[u8]], at: usize) -> (u8x16, u8x
 
 /// The sums of each part over all quads, at the 16 places from `at` on.
 #[inline(always)]
-fn sums_of_parts(constants: &Row, sources: &[&[u8]], at: usize) -> (u8x16, u8x16, u8x16, u8x16)
+fn sums_of_parts(
+    constants: &CoefficientRow,
+    sources: &[&[u8]],
+    at: usize,
+) -> (u8x16, u8x16, u8x16, u8x16)
     requires quads { length sources.now / 4 * 4 ≡ length sources.now }
     requires triples { length constants.now ≡ length sources.now / 4 * 3 }
     requires inside { All (λ source. at + 16 ≤ length source) (contents sources.now) }
@@ -181,7 +195,7 @@ fn sums_of_parts(constants: &Row, sources: &[&[u8]], at: usize) -> (u8x16, u8x16
 /// The four combinations over all sources, at the 16 places from `at` on.
 #[inline(always)]
 pub(crate) fn quad_sums(
-    constants: &Row,
+    constants: &CoefficientRow,
     sources: &[&[u8]],
     at: usize,
 ) -> (u8x16, u8x16, u8x16, u8x16)

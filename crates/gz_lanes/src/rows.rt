@@ -12,13 +12,13 @@ use std::simd::prelude::*;
 
 /// A row of coefficients, one for each source, with their sum, and 32 bytes of tables for each. A contract sees the coefficients.
 #[derive(Drop)]
-pub struct Row {
+pub struct CoefficientRow {
     coefficients: Vec<u8>,
     total: u8,
     pub(crate) tables: Vec<u8>,
 }
 
-impl Model for Row {
+impl Model for CoefficientRow {
     ghost use Rattle.std.specs.Prelude.{◌≡◌, ℕ, List, length, slice_index};
     ghost use Rattle.gz_lanes.specs.Combination.{sum_below};
     ghost use Rattle.gz_lanes.specs.Lanes.{AreTables};
@@ -30,13 +30,13 @@ impl Model for Row {
     ghost invariant = { λ row. AreTables row.coefficients.items row.tables.items (length row.coefficients.items) × (row.total ≡ sum_below (length row.coefficients.items) (slice_index row.coefficients.items)) };
 }
 
-impl Row {
-    pub fn new(alloc: Global, coefficients: Vec<u8>) -> Result<Row, AllocError>
+impl CoefficientRow {
+    pub fn new(alloc: Global, coefficients: Vec<u8>) -> Result<CoefficientRow, AllocError>
         ensures { IfOk result (λ row. row ≡ coefficients.items) }
     {
         let tables = tables_of(alloc, &coefficients)?;
         let total = total_of(&coefficients);
-        Ok(Row {
+        Ok(CoefficientRow {
             coefficients,
             total,
             tables,

@@ -6,14 +6,14 @@ ghost use Rattle.gz_lanes.specs.Quads.{AreQuads};
 
 use crate::lanes::{high_halves, load, look_up, low_halves, store, sum, zeros};
 use crate::quads::quad_sums;
-use crate::rows::Row;
+use crate::rows::CoefficientRow;
 use std::simd::prelude::*;
 
 /// Adds the products of the row's coefficient j with 16 bytes, which are given by their halves: those of source j from `at`
 /// on. `sources` and `at` are for the contract alone.
 #[inline(always)]
 fn add_products(
-    row: &Row,
+    row: &CoefficientRow,
     j: usize,
     low: u8x16,
     high: u8x16,
@@ -36,7 +36,7 @@ fn add_products(
 /// Begins the sums of one row: as if all sources held the first one's bytes, which are given. `sources` and `at` are for the contract
 /// alone.
 #[inline(always)]
-fn begin(row: &Row, base: u8x16, sources: &[&[u8]], at: usize) -> u8x16
+fn begin(row: &CoefficientRow, base: u8x16, sources: &[&[u8]], at: usize) -> u8x16
     requires some { 0 < length row.now }
     requires base_is { HasLanes base (λ k. column (contents sources.now) (at + k) 0) }
     ensures { HasLanes result (λ k. combined_below 1 row.now (column (contents sources.now) (at + k))) }
@@ -47,7 +47,7 @@ fn begin(row: &Row, base: u8x16, sources: &[&[u8]], at: usize) -> u8x16
 /// Adds the products of the row's coefficient j with the differences of source j from the first one.
 #[inline(always)]
 fn add_difference(
-    row: &Row,
+    row: &CoefficientRow,
     j: usize,
     base: u8x16,
     below: u8x16,
@@ -67,7 +67,7 @@ fn add_difference(
 
 /// The sums of one row over all sources, at the 16 places from `at` on.
 #[inline(always)]
-pub(crate) fn one_sum(row: &Row, sources: &[&[u8]], at: usize) -> u8x16
+pub(crate) fn one_sum(row: &CoefficientRow, sources: &[&[u8]], at: usize) -> u8x16
     requires paired { length row.now ≡ length sources.now }
     requires some { 0 < length sources.now }
     requires inside { All (λ source. at + 16 ≤ length source) (contents sources.now) }
@@ -84,10 +84,10 @@ pub(crate) fn one_sum(row: &Row, sources: &[&[u8]], at: usize) -> u8x16
 /// The sums of four rows over all sources, at the 16 places from `at` on.
 #[inline(always)]
 fn four_sums(
-    a: &Row,
-    b: &Row,
-    c: &Row,
-    d: &Row,
+    a: &CoefficientRow,
+    b: &CoefficientRow,
+    c: &CoefficientRow,
+    d: &CoefficientRow,
     sources: &[&[u8]],
     at: usize,
 ) -> (u8x16, u8x16, u8x16, u8x16)
@@ -117,8 +117,13 @@ fn four_sums(
 /// The sums of four rows over all sources, at the 16 places from `at` on, by their constants where they have some.
 #[inline(always)]
 pub(crate) fn sums_of_four(
-    constants: &Option<Row>,
-    rows: (&Row, &Row, &Row, &Row),
+    constants: &Option<CoefficientRow>,
+    rows: (
+        &CoefficientRow,
+        &CoefficientRow,
+        &CoefficientRow,
+        &CoefficientRow,
+    ),
     sources: &[&[u8]],
     at: usize,
 ) -> (u8x16, u8x16, u8x16, u8x16)
@@ -144,7 +149,7 @@ pub(crate) fn put(
     block: &mut [u8],
     offset: usize,
     at: usize,
-    row: &Row,
+    row: &CoefficientRow,
     sources: &[&[u8]],
 )
     requires inside { offset + 16 ≤ length block.old }
@@ -156,7 +161,7 @@ pub(crate) fn put(
 
 /// The sums of one row over all sources, at the 64 places from `at` on.
 #[inline(always)]
-fn four_places(row: &Row, sources: &[&[u8]], at: usize) -> (u8x16, u8x16, u8x16, u8x16)
+fn four_places(row: &CoefficientRow, sources: &[&[u8]], at: usize) -> (u8x16, u8x16, u8x16, u8x16)
     requires paired { length row.now ≡ length sources.now }
     requires some { 0 < length sources.now }
     requires inside { All (λ source. at + 64 ≤ length source) (contents sources.now) }
@@ -187,7 +192,7 @@ fn four_places(row: &Row, sources: &[&[u8]], at: usize) -> (u8x16, u8x16, u8x16,
 
 /// The same, as bytes.
 #[inline(always)]
-pub(crate) fn one_block(row: &Row, sources: &[&[u8]], at: usize) -> [u8; 64]
+pub(crate) fn one_block(row: &CoefficientRow, sources: &[&[u8]], at: usize) -> [u8; 64]
     requires paired { length row.now ≡ length sources.now }
     requires some { 0 < length sources.now }
     requires inside { All (λ source. at + 64 ≤ length source) (contents sources.now) }
@@ -215,8 +220,13 @@ pub(crate) struct Blocks {
 /// The sums of four rows over all sources, at the 64 places from `at` on.
 #[inline(always)]
 pub(crate) fn four_blocks(
-    constants: &Option<Row>,
-    rows: (&Row, &Row, &Row, &Row),
+    constants: &Option<CoefficientRow>,
+    rows: (
+        &CoefficientRow,
+        &CoefficientRow,
+        &CoefficientRow,
+        &CoefficientRow,
+    ),
     sources: &[&[u8]],
     at: usize,
 ) -> Blocks

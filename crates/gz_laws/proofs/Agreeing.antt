@@ -19,33 +19,33 @@ use Rattle.gz_core.specs.declared.requests.RowStep.TheVariants.{FastVote, Promis
 use Rattle.gz_core.specs.declared.requests.Op.{Op}
 use Rattle.gz_core.specs.declared.requests.Op.TheVariants.{ReadRow, WriteRow}
 use Rattle.gz_pick.specs.Looks.{row_top}
-use Rattle.gz_round.specs.History.{Moment, Sent, Handed, GaveUp, Rested, GaveIn, Caller, Tale}
+use Rattle.gz_round.specs.History.{Action, Sent, Handed, GaveUp, Rested, GaveIn, Caller, Trace}
 use Rattle.gz_round.specs.Sites.{SiteNow, site_now}
 use Rattle.gz_round.specs.Causes.{is_blank, IsLearnt}
-use Rattle.gz_round.specs.Shown.{heard_at, IsShown as IsShownTo}
+use Rattle.gz_round.specs.Shown.{heard_at, IsShown}
 use Rattle.gz_round.specs.Sending.{AreAllowed, MayAsk, MayMake}
-use Rattle.gz_client.specs.Tales.{IsAnswered, AreTold}
+use Rattle.gz_client.specs.Traces.{IsAnswered, AllKeepRules}
 use Rattle.gz_history.specs.Answers.{shows, stands, names, IsWrite}
 use Rattle.gz_history.specs.Legal.{IsBefore}
 use Rattle.gz_history.specs.declared.record.CallRec.{CallRec}
-use Rattle.gz_ledger.specs.Histories.{Seen, Write, IsIn, IsShown, IsCurrent, VotesFor}
+use Rattle.gz_ledger.specs.Histories.{RowSeen, Write, IsIn, IsShownByRows, IsCurrentByRows, VotesFor}
 use Rattle.gz_ledger.specs.Agreements.{HasQuorums, IsAgreed}
-use Rattle.gz_ledger.specs.Deeds.{Deed, after_deeds, AreDeeds, ledger_of, late_rows, seen_after, sent_after, AreCurrentDeeds}
+use Rattle.gz_ledger.specs.Transitions.{Transition, after_transitions, AreTransitions, ledger_of, late_rows, seen_after, sent_after, AreCurrentTransitions}
 use Rattle.gz_ledger.proofs.Shown.{current_more}
 use Rattle.gz_ledger.proofs.Stores.{store_agreed, store_latest, store_above}
-use Rattle.gz_laws.specs.Heard.{unused, heard_of, MomentsStand, IsStepOf, SentStep}
-use Rattle.gz_laws.specs.Listed.{AreListed}
+use Rattle.gz_laws.specs.Heard.{unused, heard_of, ActionsStand, IsStepSent, SentStep}
+use Rattle.gz_laws.specs.Listed.{AreCallsListed}
 use Rattle.gz_laws.specs.Carried.{AreCarried}
 use Rattle.gz_laws.specs.Placed.{ArePlaced}
 use Rattle.gz_laws.specs.Runs.{IsSentBy, IsShownAt, IsRun}
 use Rattle.gz_world.specs.States.{State}
 use Rattle.gz_laws.proofs.Currents.{current_heard}
-use Rattle.gz_laws.proofs.RunAnswers.{call_tale, tale_shown, IsTold, same_version}
+use Rattle.gz_laws.proofs.RunAnswers.{call_trace, trace_shown, IsTold, same_version}
 use Rattle.gz_laws.proofs.RunSends.{heard_in_rows}
 
 -- the run of an object agrees
-pub agreed : (key : List ℕ) (s : State) (ds : List Deed) → ArePlaced s → IsRun key s ds → IsAgreed s.cfg (ledger_of (after_deeds unused ds))
-agreed key s ds placed run = store_agreed s.cfg unused ds placed.config.quorums run.deeds
+pub agreed : (key : List ℕ) (s : State) (ds : List Transition) → ArePlaced s → IsRun key s ds → IsAgreed s.cfg (ledger_of (after_transitions unused ds))
+agreed key s ds placed run = store_agreed s.cfg unused ds placed.config.quorums run.transitions
 
 pub same_name_of : (o : Option Name) (x y : Name) → o ≡ Some x → o ≡ Some y → x ≡ y
 same_name_of o x y e h = let k : Some x ≡ Some y = sym e ∙ h in cc
@@ -53,54 +53,54 @@ same_name_of o x y e h = let k : Some x ≡ Some y = sym e ∙ h in cc
 pub no_name_of : (o : Option Name) (x : Name) → o ≡ None → o ≡ Some x → ⊥
 no_name_of o x e h = let k : None ≡ Some x = sym e ∙ h in cc
 
--- an answer that shows a version and names a call tells that the call's value is shown there
-pub named_shown : (c : Config) (ds : List Deed) (a : CallRec) (v : ℕ) (x : Name) → IsTold c ds a v → names a.name a.answer ≡ Some x → IsShown c (seen_after unused ds) v x
+-- an answer that shows a version and names a call says that the call's value is shown there
+pub named_shown : (c : Config) (ds : List Transition) (a : CallRec) (v : ℕ) (x : Name) → IsTold c ds a v → names a.name a.answer ≡ Some x → IsShownByRows c (seen_after unused ds) v x
 named_shown c ds a v x (inl k) named = absurd (no_name_of (names a.name a.answer) x k.1 named)
-named_shown c ds a v x (inr k) named = subst (IsShown c (seen_after unused ds) v) (same_name_of (names a.name a.answer) k.0 x k.1.1 named) k.1.0
+named_shown c ds a v x (inr k) named = subst (IsShownByRows c (seen_after unused ds) v) (same_name_of (names a.name a.answer) k.0 x k.1.1 named) k.1.0
 
 -- votes are cast at versions from 1 on
-step_positive : (c : Config) (w : Caller) (past : List Tale) (ms : List Moment) (step : RowStep) (v : ℕ) (x : Name) → MayMake c w past ms step → VotesFor (act_of step) v x → 1 ≤ v
+step_positive : (c : Config) (w : Caller) (past : List Trace) (ms : List Action) (step : RowStep) (v : ℕ) (x : Name) → MayMake c w past ms step → VotesFor (act_of step) v x → 1 ≤ v
 step_positive c w past ms (FastVote u y) v x may votes = subst (λ k. 1 ≤ k) votes.0 may.1.above
 step_positive c w past ms (Promise u b) v x may votes = absurd votes
 step_positive c w past ms (ClassicVote u b y) v x may votes = subst (λ k. 1 ≤ k) votes.0 may.above
 step_positive c w past ms (Decide u y) v x may votes = absurd votes
 step_positive c w past ms (Trim to y) v x may votes = absurd votes
 
-op_positive : (c : Config) (w : Caller) (past : List Tale) (ms : List Moment) (now : SiteNow) (op : Op) (act : Act) (v : ℕ) (x : Name) → MayAsk c w past ms now op → IsStepOf op act → VotesFor act v x → 1 ≤ v
+op_positive : (c : Config) (w : Caller) (past : List Trace) (ms : List Action) (now : SiteNow) (op : Op) (act : Act) (v : ℕ) (x : Name) → MayAsk c w past ms now op → IsStepSent op act → VotesFor act v x → 1 ≤ v
 op_positive c w past ms now (ReadRow key) act v x may is votes = absurd is
 op_positive c w past ms now (WriteRow key expect step row) act v x may is votes = step_positive c w past ms step v x may.1.guard (subst (λ a. VotesFor a v x) (sym is) votes)
 
-moments_positive : (c : Config) (w : Caller) (past : List Tale) (ms : List Moment) (act : Act) (v : ℕ) (x : Name) → AreAllowed c w past ms → SentStep ms act → VotesFor act v x → 1 ≤ v
-moments_positive c w past [] act v x allowed h votes = absurd h
-moments_positive c w past (Sent a ∷ ms) act v x allowed (inl h) votes = op_positive c w past ms (site_now ms a.site) a.op act v x allowed.0.asks h votes
-moments_positive c w past (Sent a ∷ ms) act v x allowed (inr h) votes = moments_positive c w past ms act v x allowed.1 h votes
-moments_positive c w past (Handed a reply ∷ ms) act v x allowed (inl h) votes = absurd h
-moments_positive c w past (Handed a reply ∷ ms) act v x allowed (inr h) votes = moments_positive c w past ms act v x allowed.1 h votes
-moments_positive c w past (GaveUp a ∷ ms) act v x allowed (inl h) votes = absurd h
-moments_positive c w past (GaveUp a ∷ ms) act v x allowed (inr h) votes = moments_positive c w past ms act v x allowed.1 h votes
-moments_positive c w past (Rested ∷ ms) act v x allowed (inl h) votes = absurd h
-moments_positive c w past (Rested ∷ ms) act v x allowed (inr h) votes = moments_positive c w past ms act v x allowed.1 h votes
-moments_positive c w past (GaveIn ∷ ms) act v x allowed (inl h) votes = absurd h
-moments_positive c w past (GaveIn ∷ ms) act v x allowed (inr h) votes = moments_positive c w past ms act v x allowed.1 h votes
+actions_positive : (c : Config) (w : Caller) (past : List Trace) (ms : List Action) (act : Act) (v : ℕ) (x : Name) → AreAllowed c w past ms → SentStep ms act → VotesFor act v x → 1 ≤ v
+actions_positive c w past [] act v x allowed h votes = absurd h
+actions_positive c w past (Sent a ∷ ms) act v x allowed (inl h) votes = op_positive c w past ms (site_now ms a.site) a.op act v x allowed.0.asks h votes
+actions_positive c w past (Sent a ∷ ms) act v x allowed (inr h) votes = actions_positive c w past ms act v x allowed.1 h votes
+actions_positive c w past (Handed a reply ∷ ms) act v x allowed (inl h) votes = absurd h
+actions_positive c w past (Handed a reply ∷ ms) act v x allowed (inr h) votes = actions_positive c w past ms act v x allowed.1 h votes
+actions_positive c w past (GaveUp a ∷ ms) act v x allowed (inl h) votes = absurd h
+actions_positive c w past (GaveUp a ∷ ms) act v x allowed (inr h) votes = actions_positive c w past ms act v x allowed.1 h votes
+actions_positive c w past (Rested ∷ ms) act v x allowed (inl h) votes = absurd h
+actions_positive c w past (Rested ∷ ms) act v x allowed (inr h) votes = actions_positive c w past ms act v x allowed.1 h votes
+actions_positive c w past (GaveIn ∷ ms) act v x allowed (inl h) votes = absurd h
+actions_positive c w past (GaveIn ∷ ms) act v x allowed (inr h) votes = actions_positive c w past ms act v x allowed.1 h votes
 
-sent_positive : (c : Config) (session : ℕ) (key : List ℕ) (name : Name) (act : Act) (v : ℕ) (x : Name) (ts : List Tale) → AreTold c session ts → IsSentBy key name act ts → VotesFor act v x → 1 ≤ v
+sent_positive : (c : Config) (session : ℕ) (key : List ℕ) (name : Name) (act : Act) (v : ℕ) (x : Name) (ts : List Trace) → AllKeepRules c session ts → IsSentBy key name act ts → VotesFor act v x → 1 ≤ v
 sent_positive c session key name act v x [] told h votes = absurd h
-sent_positive c session key name act v x (t ∷ ts) told (inl h) votes = moments_positive c t.caller ts t.moments act v x told.0.allowed h.sent votes
+sent_positive c session key name act v x (t ∷ ts) told (inl h) votes = actions_positive c t.caller ts t.actions act v x told.0.allowed h.sent votes
 sent_positive c session key name act v x (t ∷ ts) told (inr h) votes = sent_positive c session key name act v x ts told.2 h votes
 
 -- what is shown is shown at a version from 1 on
-pub shown_positive : (key : List ℕ) (s : State) (ds : List Deed) (v : ℕ) (x : Name) → AreListed s → ArePlaced s → IsRun key s ds → IsShown s.cfg (seen_after unused ds) v x → 1 ≤ v
+pub shown_positive : (key : List ℕ) (s : State) (ds : List Transition) (v : ℕ) (x : Name) → AreCallsListed s → ArePlaced s → IsRun key s ds → IsShownByRows s.cfg (seen_after unused ds) v x → 1 ≤ v
 shown_positive key s ds v x listed placed run h =
     let p = ((agreed key s ds placed run).chosen v x h).1 in
-    sent_positive s.cfg p.write.call.session key p.write.call p.write.act v x (s.tales p.write.call.session) (listed.told p.write.call.session) (run.sent p.write p.found) p.votes
+    sent_positive s.cfg p.write.call.session key p.write.call p.write.act v x (s.traces p.write.call.session) (listed.told p.write.call.session) (run.sent p.write p.found) p.votes
 
 -- what a call shows or writes at a version, after what was shown at another one
-own_above : (c : Config) (name : Name) (early late : List Deed) (v w : ℕ) → HasQuorums c → AreDeeds c unused (late ++ early) → ((q : Write) → IsIn q (sent_after unused early) → q.call ≡ name → ⊥) → AreCurrentDeeds c unused name late early → 1 ≤ w
-    → IsShownAt c early v → IsShown c (seen_after unused (late ++ early)) w name → v < w
+own_above : (c : Config) (name : Name) (early late : List Transition) (v w : ℕ) → HasQuorums c → AreTransitions c unused (late ++ early) → ((q : Write) → IsIn q (sent_after unused early) → q.call ≡ name → ⊥) → AreCurrentTransitions c unused name late early → 1 ≤ w
+    → IsShownAt c early v → IsShownByRows c (seen_after unused (late ++ early)) w name → v < w
 own_above c name early late v w q are unsent current positive (inl z) h = omega (arith, z, positive)
 own_above c name early late v w q are unsent current positive (inr k) h = store_above c unused name late early v w k.0 q are unsent current k.1 h
 
-read_above : (c : Config) (early late : List Deed) (v w : ℕ) → HasQuorums c → AreDeeds c unused (late ++ early) → IsShownAt c early v → IsCurrent c (late_rows unused late early) w → v ≤ w
+read_above : (c : Config) (early late : List Transition) (v w : ℕ) → HasQuorums c → AreTransitions c unused (late ++ early) → IsShownAt c early v → IsCurrentByRows c (late_rows unused late early) w → v ≤ w
 read_above c early late v w q are (inl z) h = omega (arith, z)
 read_above c early late v w q are (inr k) h = store_latest c unused late early v w k.0 q are k.1 h
 
@@ -129,49 +129,49 @@ abbrev IsPlacedAbove : Call → ℕ → ℕ → Type 0
 IsPlacedAbove call v w = (v ≤ w) × (IsWrite call → v < w)
 
 -- what a call learnt is at the version that it shows, or above
-learnt_above : (c : Config) (t : Tale) (early late : List Deed) (v w u : ℕ) (x : Value) → HasQuorums c → AreDeeds c unused (late ++ early) → MomentsStand (after_deeds unused (late ++ early)) t.moments → ((e : Seen) → IsIn e (heard_of t.moments) → IsIn e (late_rows unused late early))
-    → IsShownAt c early v → IsLearnt c t.caller t.moments u x → u ≡ w → IsPlacedAbove t.caller.call v w
+learnt_above : (c : Config) (t : Trace) (early late : List Transition) (v w u : ℕ) (x : Value) → HasQuorums c → AreTransitions c unused (late ++ early) → ActionsStand (after_transitions unused (late ++ early)) t.actions → ((e : RowSeen) → IsIn e (heard_of t.actions) → IsIn e (late_rows unused late early))
+    → IsShownAt c early v → IsLearnt c t.caller t.actions u x → u ≡ w → IsPlacedAbove t.caller.call v w
 learnt_above c t early late v w u x q are stands heard shown learnt at =
-    let fresh = current_heard c (after_deeds unused (late ++ early)) t.moments w (λ r. nat_le (row_top r) w) stands (λ r k. le_means (row_top r) w k) (subst (λ k. c.qc ≤ heard_at c (λ r. nat_le (row_top r) k) t.moments) at learnt.current) in
-    (read_above c early late v w q are shown (current_more c (heard_of t.moments) (late_rows unused late early) w heard fresh), λ k. absurd (no_write t.caller.name t.caller.call learnt.reads k))
+    let fresh = current_heard c (after_transitions unused (late ++ early)) t.actions w (λ r. nat_le (row_top r) w) stands (λ r k. le_means (row_top r) w k) (subst (λ k. c.qc ≤ heard_at c (λ r. nat_le (row_top r) k) t.actions) at learnt.current) in
+    (read_above c early late v w q are shown (current_more c (heard_of t.actions) (late_rows unused late early) w heard fresh), λ k. absurd (no_write t.caller.name t.caller.call learnt.reads k))
 
-answer_above : (c : Config) (t : Tale) (early late : List Deed) (v w : ℕ) (answer : Option Answer) → HasQuorums c → AreDeeds c unused (late ++ early) → ((q : Write) → IsIn q (sent_after unused early) → q.call ≡ t.caller.name → ⊥) → AreCurrentDeeds c unused t.caller.name late early
-    → MomentsStand (after_deeds unused (late ++ early)) t.moments → ((e : Seen) → IsIn e (heard_of t.moments) → IsIn e (late_rows unused late early)) → ((x : Name) → IsShown c (seen_after unused (late ++ early)) w x → 1 ≤ w)
+answer_above : (c : Config) (t : Trace) (early late : List Transition) (v w : ℕ) (answer : Option Answer) → HasQuorums c → AreTransitions c unused (late ++ early) → ((q : Write) → IsIn q (sent_after unused early) → q.call ≡ t.caller.name → ⊥) → AreCurrentTransitions c unused t.caller.name late early
+    → ActionsStand (after_transitions unused (late ++ early)) t.actions → ((e : RowSeen) → IsIn e (heard_of t.actions) → IsIn e (late_rows unused late early)) → ((x : Name) → IsShownByRows c (seen_after unused (late ++ early)) w x → 1 ≤ w)
     → IsShownAt c early v → IsAnswered c t answer → shows answer ≡ Some w → IsPlacedAbove t.caller.call v w
 answer_above c t early late v w None q are unsent current stands heard positive shown h e = cc
 answer_above c t early late v w (Some (Ok u)) q are unsent current stands heard positive shown h e =
-    let now = tale_shown c (late ++ early) t.moments w t.caller.name stands (subst (λ k. IsShownTo c t.moments k t.caller.name) (same_version u w e) h.1.2) in
+    let now = trace_shown c (late ++ early) t.actions w t.caller.name stands (subst (λ k. IsShown c t.actions k t.caller.name) (same_version u w e) h.1.2) in
     let above = own_above c t.caller.name early late v w q are unsent current (positive t.caller.name now) shown now in
     (omega (arith, above), λ _. above)
 answer_above c t early late v w (Some (Bytes u y bytes)) q are unsent current stands heard positive shown h e = learnt_above c t early late v w u (PutOf (record { name = y; bytes = bytes })) q are stands heard shown h.1 (same_version u w e)
 answer_above c t early late v w (Some (Gone u y)) q are unsent current stands heard positive shown h e = learnt_above c t early late v w u (Tomb y) q are stands heard shown h.1 (same_version u w e)
 answer_above c t early late v w (Some Absent) q are unsent current stands heard positive shown h e =
     let at = same_version 0 w e in
-    let fresh = current_heard c (after_deeds unused (late ++ early)) t.moments 0 is_blank stands blank_low h.1.1 in
-    let low = read_above c early late v 0 q are shown (current_more c (heard_of t.moments) (late_rows unused late early) 0 heard fresh) in
+    let fresh = current_heard c (after_transitions unused (late ++ early)) t.actions 0 is_blank stands blank_low h.1.1 in
+    let low = read_above c early late v 0 q are shown (current_more c (heard_of t.actions) (late_rows unused late early) 0 heard fresh) in
     (omega (arith, low, at), λ k. absurd (no_write t.caller.name t.caller.call h.1.0 k))
 answer_above c t early late v w (Some (NoQuorum phase n)) q are unsent current stands heard positive shown h e = cc
 answer_above c t early late v w (Some (Contended met)) q are unsent current stands heard positive shown h e = cc
 answer_above c t early late v w (Some (Unsure why)) q are unsent current stands heard positive shown h e = cc
 
 -- a call that began after another one had ended stands above it
-pub keeps_order : (key : List ℕ) (s : State) (ds : List Deed) (i j : ℕ) (a b : CallRec) → IsRun key s ds → AreListed s → AreCarried s → ArePlaced s → slice_get s.calls i ≡ Some a → slice_get s.calls j ≡ Some b → key_of a.call ≡ key → key_of b.call ≡ key
+pub keeps_order : (key : List ℕ) (s : State) (ds : List Transition) (i j : ℕ) (a b : CallRec) → IsRun key s ds → AreCallsListed s → AreCarried s → ArePlaced s → slice_get s.calls i ≡ Some a → slice_get s.calls j ≡ Some b → key_of a.call ≡ key → key_of b.call ≡ key
     → (v w : ℕ) → IsBefore a.end b.begin → shows a.answer ≡ Some v → stands b.call b.answer ≡ Some w → (v ≤ w) × (IsWrite b.call → v < w)
 keeps_order key s ds i j a b run listed carries placed ga gb ka kb v w before sa sb =
     let since = run.calls j b gb kb in
     let early = since.early in
     let late = since.late in
-    let h = call_tale key s ds j b run listed carries gb kb in
-    let t = h.tale in
+    let h = call_trace key s ds j b run listed carries gb kb in
+    let t = h.trace in
     let is = h.is in
     let name : t.caller.name ≡ b.name = ap (λ (w : Caller). w.name) is.caller in
     let call : t.caller.call ≡ b.call = ap (λ (w : Caller). w.call) is.caller in
     let told : IsAnswered s.cfg t b.answer = subst (IsAnswered s.cfg t) is.answer is.told.answered in
-    let heard : (e : Seen) → IsIn e (heard_of t.moments) → IsIn e (late_rows unused late early)
-    = heard_in_rows s.cfg key s.net t.caller h.past t.moments (late_rows unused late early) (ap key_of call ∙ kb) is.told.allowed h.carried (λ n k tick r reply at own named e. since.heard n k tick r reply at own (named ∙ name) e) in
-    let k = answer_above s.cfg t early late v w b.answer placed.config.quorums (subst (λ xs. AreDeeds s.cfg unused xs) since.split run.deeds)
-    (λ q found same. since.unsent q found (same ∙ name)) (subst (λ x. AreCurrentDeeds s.cfg unused x late early) (sym name) since.current)
-    (subst (λ (xs : List Deed). MomentsStand (after_deeds unused xs) t.moments) since.split h.stands) heard
-    (λ x shown. shown_positive key s ds w x listed placed run (subst (λ (xs : List Deed). IsShown s.cfg (seen_after unused xs) w x) (sym since.split) shown))
+    let heard : (e : RowSeen) → IsIn e (heard_of t.actions) → IsIn e (late_rows unused late early)
+    = heard_in_rows s.cfg key s.net t.caller h.past t.actions (late_rows unused late early) (ap key_of call ∙ kb) is.told.allowed h.carried (λ n k tick r reply at own named e. since.heard n k tick r reply at own (named ∙ name) e) in
+    let k = answer_above s.cfg t early late v w b.answer placed.config.quorums (subst (λ xs. AreTransitions s.cfg unused xs) since.split run.transitions)
+    (λ q found same. since.unsent q found (same ∙ name)) (subst (λ x. AreCurrentTransitions s.cfg unused x late early) (sym name) since.current)
+    (subst (λ (xs : List Transition). ActionsStand (after_transitions unused xs) t.actions) since.split h.stands) heard
+    (λ x shown. shown_positive key s ds w x listed placed run (subst (λ (xs : List Transition). IsShownByRows s.cfg (seen_after unused xs) w x) (sym since.split) shown))
     (since.ended i v a ga ka before sa) told (sym (stands_shows b.call b.answer) ∙ sb) in
     (k.0, λ write. k.1 (subst IsWrite (sym call) write))

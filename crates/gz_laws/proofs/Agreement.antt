@@ -8,9 +8,9 @@ use Rattle.gz_core.specs.Slots.{Act, VotesClassic}
 use Rattle.gz_config.specs.declared.Config.{Config}
 use Rattle.gz_core.proofs.Ballots.{name_refl}
 use Rattle.gz_core.proofs.Counting.{count_within, count_weaker}
-use Rattle.gz_round.specs.History.{Caller, Tale}
-use Rattle.gz_round.specs.Shown.{IsShown as IsShownToMoments}
-use Rattle.gz_client.specs.Tales.{AreTold, IsAnswered}
+use Rattle.gz_round.specs.History.{Caller, Trace}
+use Rattle.gz_round.specs.Shown.{IsShown}
+use Rattle.gz_client.specs.Traces.{AllKeepRules, IsAnswered}
 use Rattle.gz_site.specs.Told.{Told}
 use Rattle.gz_history.specs.Answers.{shows, names}
 use Rattle.gz_history.specs.declared.record.CallRec.{CallRec}
@@ -18,24 +18,24 @@ use Rattle.gz_model.specs.Casts.{is_at, is_vote, has_cast, IsChosen}
 use Rattle.gz_model.specs.Choosing.{IsSafe}
 use Rattle.gz_model.specs.declared.casts.Cast.{Cast}
 use Rattle.gz_ledger.specs.Acceptors.{Acceptor, HasValue, slot_votes, slot_voted, slot_lets, slot_backs}
-use Rattle.gz_ledger.specs.Histories.{Seen, Write, IsIn, cast, cast_in, IsShown, IsChosenAt}
-use Rattle.gz_ledger.specs.Ledgers.{votes, voted, stands, backs}
-use Rattle.gz_ledger.specs.Deeds.{Deed, acceptor_of, after_deeds, ledger_of, seen_after, sent_after}
+use Rattle.gz_ledger.specs.Histories.{RowSeen, Write, IsIn, cast, cast_in, IsShownByRows, IsChosenAt}
+use Rattle.gz_ledger.specs.Ledgers.{votes, site_voted, standing_votes, backs}
+use Rattle.gz_ledger.specs.Transitions.{Transition, acceptor_of, after_transitions, ledger_of, seen_after, sent_after}
 use Rattle.gz_ledger.proofs.Shown.{cast_found, cast_from, cast_in_found, cast_in_from}
 use Rattle.gz_laws.specs.Agreed.{acceptor_kept, acceptor_told, acceptor_at, has_ballot, has_voted, has_voted_in, stands_for, IsShownTo, IsShownToCall, IsSentIn, AreAgreed}
-use Rattle.gz_laws.specs.Carried.{TalesCarried, AreCarried}
+use Rattle.gz_laws.specs.Carried.{TracesCarried, AreCarried}
 use Rattle.gz_laws.specs.Heard.{unused}
-use Rattle.gz_laws.specs.Listed.{IsAmong, AreListed}
+use Rattle.gz_laws.specs.Listed.{IsAmong, AreCallsListed}
 use Rattle.gz_laws.specs.Placed.{ArePlaced}
 use Rattle.gz_world.specs.Reached.{IsReached, AllTell}
 use Rattle.gz_laws.specs.Runs.{stored_of, IsRun}
 use Rattle.gz_world.specs.States.{State}
 use Rattle.gz_laws.proofs.Agreeing.{agreed, same_name_of, no_name_of, named_shown}
 use Rattle.gz_laws.proofs.Carrying.{carried}
-use Rattle.gz_laws.proofs.Keeping.{moments_stand, sent_asked}
+use Rattle.gz_laws.proofs.Keeping.{actions_stand, sent_asked}
 use Rattle.gz_laws.proofs.Listing.{listed}
 use Rattle.gz_laws.proofs.Placing.{placed}
-use Rattle.gz_laws.proofs.RunAnswers.{call_tale, call_told, answer_tells, tale_shown}
+use Rattle.gz_laws.proofs.RunAnswers.{call_trace, call_told, answer_tells, trace_shown}
 use Rattle.gz_laws.proofs.Running.{runs}
 
 -- the row of a site, as the store has it
@@ -43,7 +43,7 @@ pub kept_same : (o : Option (ℕ × RowAt)) → acceptor_of (stored_of o) ≡ ac
 kept_same None = refl
 kept_same (Some kept) = refl
 
-acceptor_same : (key : List ℕ) (s : State) (ds : List Deed) (i : ℕ) (o : Option Told) → IsRun key s ds → s.sites i ≡ o → IsSome o → acceptor_at s key i ≡ acceptor_of ((after_deeds unused ds).stored i)
+acceptor_same : (key : List ℕ) (s : State) (ds : List Transition) (i : ℕ) (o : Option Told) → IsRun key s ds → s.sites i ≡ o → IsSome o → acceptor_at s key i ≡ acceptor_of ((after_transitions unused ds).stored i)
 acceptor_same key s ds i None run is tells = cc
 acceptor_same key s ds i (Some told) run is tells =
     let here : acceptor_at s key i ≡ acceptor_kept (told.rows key) = ap (λ (o : Option Told). acceptor_told o key) is in
@@ -78,98 +78,98 @@ ballot_from (c ∷ casts) key v b x i h = elim (or_cases ((c.site == i) && is_vo
   | inr e ↦ or_right ((c.site == i) && (is_at c key v && same_ballot c.ballot b)) (has_ballot casts key v b i) (ballot_from casts key v b x i e)
 ]
 
-seen_ballot : (seen : List Seen) (v : ℕ) (b : BallotAt) (x : Name) (i : ℕ) → cast seen v b x i ≡ true → cast_in seen v b i ≡ true
+seen_ballot : (seen : List RowSeen) (v : ℕ) (b : BallotAt) (x : Name) (i : ℕ) → cast seen v b x i ≡ true → cast_in seen v b i ≡ true
 seen_ballot seen v b x i h = let c = cast_found seen v b x i h in subst (λ k. cast_in seen v b k ≡ true) c.site (cast_in_from seen v b x c.entry c.found c.vote)
 
-ballot_seen : (seen : List Seen) (v : ℕ) (b : BallotAt) (i : ℕ) → cast_in seen v b i ≡ true → (x : Name) × (cast seen v b x i ≡ true)
+ballot_seen : (seen : List RowSeen) (v : ℕ) (b : BallotAt) (i : ℕ) → cast_in seen v b i ≡ true → (x : Name) × (cast seen v b x i ≡ true)
 ballot_seen seen v b i h =
     let k = cast_in_found seen v b i h in
     let c = k.1 in
     (k.0, subst (λ j. cast seen v b k.0 j ≡ true) c.site (cast_from seen v b k.0 c.entry c.found c.vote))
 
-ballot_same : (key : List ℕ) (s : State) (ds : List Deed) (v : ℕ) (b : BallotAt) (i : ℕ) → IsRun key s ds → has_ballot s.casts key v b i ≡ cast_in (seen_after unused ds) v b i
+ballot_same : (key : List ℕ) (s : State) (ds : List Transition) (v : ℕ) (b : BallotAt) (i : ℕ) → IsRun key s ds → has_ballot s.casts key v b i ≡ cast_in (seen_after unused ds) v b i
 ballot_same key s ds v b i run = both_ways (has_ballot s.casts key v b i) (cast_in (seen_after unused ds) v b i)
     (λ h. let k = ballot_found s.casts key v b i h in seen_ballot (seen_after unused ds) v b k.0 i (sym (run.casts v b k.0 i) ∙ k.1))
     (λ h. let k = ballot_seen (seen_after unused ds) v b i h in ballot_from s.casts key v b k.0 i (run.casts v b k.0 i ∙ k.1))
 
 -- what is known of an object's run in a world whose sites tell
-pub record IsToldRun (key : List ℕ) (s : State) (ds : List Deed) : Type 0 where
+pub record IsToldRun (key : List ℕ) (s : State) (ds : List Transition) : Type 0 where
   pub run : IsRun key s ds
   pub tells : AllTell s
-  pub listed : AreListed s
+  pub listed : AreCallsListed s
   pub carries : AreCarried s
   pub placed : ArePlaced s
 
-row_same : (key : List ℕ) (s : State) (ds : List Deed) (i : ℕ) → IsToldRun key s ds → i < s.cfg.n → acceptor_at s key i ≡ acceptor_of ((after_deeds unused ds).stored i)
+row_same : (key : List ℕ) (s : State) (ds : List Transition) (i : ℕ) → IsToldRun key s ds → i < s.cfg.n → acceptor_at s key i ≡ acceptor_of ((after_transitions unused ds).stored i)
 row_same key s ds i k l = acceptor_same key s ds i (s.sites i) k.run refl (k.tells i l)
 
-voted_same : (key : List ℕ) (s : State) (ds : List Deed) (v : ℕ) (b : BallotAt) (x : Name) (i : ℕ) → IsToldRun key s ds → i < s.cfg.n → has_voted s key v b x i ≡ votes (ledger_of (after_deeds unused ds)) v b x i
+voted_same : (key : List ℕ) (s : State) (ds : List Transition) (v : ℕ) (b : BallotAt) (x : Name) (i : ℕ) → IsToldRun key s ds → i < s.cfg.n → has_voted s key v b x i ≡ votes (ledger_of (after_transitions unused ds)) v b x i
 voted_same key s ds v b x i k l =
-    ap (λ (a : Acceptor). slot_votes (a v) b x || has_cast s.casts key v b x i) (row_same key s ds i k l) ∙ ap (λ t. slot_votes (acceptor_of ((after_deeds unused ds).stored i) v) b x || t) (k.run.casts v b x i)
+    ap (λ (a : Acceptor). slot_votes (a v) b x || has_cast s.casts key v b x i) (row_same key s ds i k l) ∙ ap (λ t. slot_votes (acceptor_of ((after_transitions unused ds).stored i) v) b x || t) (k.run.casts v b x i)
 
-voted_in_same : (key : List ℕ) (s : State) (ds : List Deed) (v : ℕ) (b : BallotAt) (i : ℕ) → IsToldRun key s ds → i < s.cfg.n → has_voted_in s key v b i ≡ voted (ledger_of (after_deeds unused ds)) v b i
+voted_in_same : (key : List ℕ) (s : State) (ds : List Transition) (v : ℕ) (b : BallotAt) (i : ℕ) → IsToldRun key s ds → i < s.cfg.n → has_voted_in s key v b i ≡ site_voted (ledger_of (after_transitions unused ds)) v b i
 voted_in_same key s ds v b i k l =
-    ap (λ (a : Acceptor). slot_voted (a v) b || has_ballot s.casts key v b i) (row_same key s ds i k l) ∙ ap (λ t. slot_voted (acceptor_of ((after_deeds unused ds).stored i) v) b || t) (ballot_same key s ds v b i k.run)
+    ap (λ (a : Acceptor). slot_voted (a v) b || has_ballot s.casts key v b i) (row_same key s ds i k l) ∙ ap (λ t. slot_voted (acceptor_of ((after_transitions unused ds).stored i) v) b || t) (ballot_same key s ds v b i k.run)
 
-stands_same : (key : List ℕ) (s : State) (ds : List Deed) (v : ℕ) (b : BallotAt) (x : Name) (i : ℕ) → IsToldRun key s ds → i < s.cfg.n → stands_for s key v b x i ≡ stands (ledger_of (after_deeds unused ds)) v b x i
+stands_same : (key : List ℕ) (s : State) (ds : List Transition) (v : ℕ) (b : BallotAt) (x : Name) (i : ℕ) → IsToldRun key s ds → i < s.cfg.n → stands_for s key v b x i ≡ standing_votes (ledger_of (after_transitions unused ds)) v b x i
 stands_same key s ds v b x i k l =
-    let st = after_deeds unused ds in
+    let st = after_transitions unused ds in
     ap (λ (a : Acceptor). has_voted s key v b x i || (not (has_voted_in s key v b i) && slot_lets (a v) b)) (row_same key s ds i k l)
     ∙ ap (λ t. t || (not (has_voted_in s key v b i) && slot_lets (acceptor_of (st.stored i) v) b)) (voted_same key s ds v b x i k l)
     ∙ ap (λ t. votes (ledger_of st) v b x i || (not t && slot_lets (acceptor_of (st.stored i) v) b)) (voted_in_same key s ds v b i k l)
 
 -- what is safe by the store is safe in the world
-safe_same : (key : List ℕ) (s : State) (ds : List Deed) (v : ℕ) (b : BallotAt) (x : Name) → IsToldRun key s ds → IsSafe s.cfg.n s.cfg.qc s.cfg.qf (stands (ledger_of (after_deeds unused ds)) v) b x → IsSafe s.cfg.n s.cfg.qc s.cfg.qf (stands_for s key v) b x
+safe_same : (key : List ℕ) (s : State) (ds : List Transition) (v : ℕ) (b : BallotAt) (x : Name) → IsToldRun key s ds → IsSafe s.cfg.n s.cfg.qc s.cfg.qf (standing_votes (ledger_of (after_transitions unused ds)) v) b x → IsSafe s.cfg.n s.cfg.qc s.cfg.qf (stands_for s key v) b x
 safe_same key s ds v b x k safe = λ c y below enough.
-    let fewer = count_within s.cfg.n (stands_for s key v c y) (stands (ledger_of (after_deeds unused ds)) v c y) (λ i l h. sym (stands_same key s ds v c y i k l) ∙ h) in
+    let fewer = count_within s.cfg.n (stands_for s key v c y) (standing_votes (ledger_of (after_transitions unused ds)) v c y) (λ i l h. sym (stands_same key s ds v c y i k l) ∙ h) in
     safe c y below (omega (arith, enough, fewer))
 
 -- what is chosen by the votes that were cast is chosen by those that were shown
-chosen_seen : (key : List ℕ) (s : State) (ds : List Deed) (v : ℕ) (x : Name) → IsRun key s ds → IsChosen s.cfg s.casts key v x → IsChosenAt s.cfg (seen_after unused ds) v x
+chosen_seen : (key : List ℕ) (s : State) (ds : List Transition) (v : ℕ) (x : Name) → IsRun key s ds → IsChosen s.cfg s.casts key v x → IsChosenAt s.cfg (seen_after unused ds) v x
 chosen_seen key s ds v x run h =
     let more = count_weaker s.cfg.n (has_cast s.casts key v h.0 x) (cast (seen_after unused ds) v h.0 x) (λ i e. sym (run.casts v h.0 x i) ∙ e) in
     let enough = h.1 in
     (h.0, omega (arith, more, enough))
 
-seen_chosen : (key : List ℕ) (s : State) (ds : List Deed) (v : ℕ) (x : Name) → IsRun key s ds → IsChosenAt s.cfg (seen_after unused ds) v x → IsChosen s.cfg s.casts key v x
+seen_chosen : (key : List ℕ) (s : State) (ds : List Transition) (v : ℕ) (x : Name) → IsRun key s ds → IsChosenAt s.cfg (seen_after unused ds) v x → IsChosen s.cfg s.casts key v x
 seen_chosen key s ds v x run h =
     let more = count_weaker s.cfg.n (cast (seen_after unused ds) v h.0 x) (has_cast s.casts key v h.0 x) (λ i e. run.casts v h.0 x i ∙ e) in
     let enough = h.1 in
     (h.0, omega (arith, more, enough))
 
 -- what is shown to a call of the object is shown
-shown_in : (key : List ℕ) (s : State) (ds : List Deed) (session v : ℕ) (x : Name) (ts : List Tale) → IsRun key s ds → AreTold s.cfg session ts → TalesCarried s.net ts → IsShownTo s.cfg key v x ts → IsShown s.cfg (seen_after unused ds) v x
+shown_in : (key : List ℕ) (s : State) (ds : List Transition) (session v : ℕ) (x : Name) (ts : List Trace) → IsRun key s ds → AllKeepRules s.cfg session ts → TracesCarried s.net ts → IsShownTo s.cfg key v x ts → IsShownByRows s.cfg (seen_after unused ds) v x
 shown_in key s ds session v x [] run told carried h = absurd h
-shown_in key s ds session v x (t ∷ ts) run told carried (inl h) = tale_shown s.cfg ds t.moments v x (moments_stand key s.net (after_deeds unused ds) s.cfg t.caller ts t.moments run.requests h.0 told.0.allowed carried.0) h.1
+shown_in key s ds session v x (t ∷ ts) run told carried (inl h) = trace_shown s.cfg ds t.actions v x (actions_stand key s.net (after_transitions unused ds) s.cfg t.caller ts t.actions run.requests h.0 told.0.allowed carried.0) h.1
 shown_in key s ds session v x (t ∷ ts) run told carried (inr h) = shown_in key s ds session v x ts run told.2 carried.1 h
 
 -- a step that a call of the object sent is a write of the store
-sent_in : (key : List ℕ) (s : State) (ds : List Deed) (session : ℕ) (act : Act) (ts : List Tale) → IsRun key s ds → AreTold s.cfg session ts → TalesCarried s.net ts → IsSentIn key act ts → (q : Write) × (IsIn q (sent_after unused ds) × (q.act ≡ act))
+sent_in : (key : List ℕ) (s : State) (ds : List Transition) (session : ℕ) (act : Act) (ts : List Trace) → IsRun key s ds → AllKeepRules s.cfg session ts → TracesCarried s.net ts → IsSentIn key act ts → (q : Write) × (IsIn q (sent_after unused ds) × (q.act ≡ act))
 sent_in key s ds session act [] run told carried h = absurd h
 sent_in key s ds session act (t ∷ ts) run told carried (inl h) =
-    let k = sent_asked key s.net (after_deeds unused ds) s.cfg t.caller ts t.moments act run.requests h.0 told.0.allowed carried.0 h.1 in
+    let k = sent_asked key s.net (after_transitions unused ds) s.cfg t.caller ts t.actions act run.requests h.0 told.0.allowed carried.0 h.1 in
     (k.0, (k.1.0, k.1.1.1))
 sent_in key s ds session act (t ∷ ts) run told carried (inr h) = sent_in key s ds session act ts run told.2 carried.1 h
 
 -- what the answer of a call names is shown to it
-shown_to_call : (c : Config) (call : CallRec) (v : ℕ) (x : Name) (ts : List Tale) → IsAmong c call ts → shows call.answer ≡ Some v → names call.name call.answer ≡ Some x → IsShownToCall c call.name v x ts
+shown_to_call : (c : Config) (call : CallRec) (v : ℕ) (x : Name) (ts : List Trace) → IsAmong c call ts → shows call.answer ≡ Some v → names call.name call.answer ≡ Some x → IsShownToCall c call.name v x ts
 shown_to_call c call v x [] h show named = absurd h
 shown_to_call c call v x (t ∷ ts) (inl h) show named =
     let name : t.caller.name ≡ call.name = ap (λ (w : Caller). w.name) h.caller in
     let own : names t.caller.name call.answer ≡ Some x = ap (λ (y : Name). names y call.answer) name ∙ named in
     elim (answer_tells c t call.answer v (subst (IsAnswered c t) h.answer h.told.answered) show) [
       | inl k ↦ absurd (no_name_of (names t.caller.name call.answer) x k.1 own)
-      | inr k ↦ inl (name, subst (λ (y : Name). IsShownToMoments c t.moments v y) (same_name_of (names t.caller.name call.answer) k.0 x k.1.1 own) k.1.0)
+      | inr k ↦ inl (name, subst (λ (y : Name). IsShown c t.actions v y) (same_name_of (names t.caller.name call.answer) k.0 x k.1.1 own) k.1.0)
     ]
 shown_to_call c call v x (t ∷ ts) (inr h) show named = inr (shown_to_call c call v x ts h show named)
 
-pub are_agreed : (key : List ℕ) (s : State) (ds : List Deed) → IsToldRun key s ds → AreAgreed key s
+pub are_agreed : (key : List ℕ) (s : State) (ds : List Transition) → IsToldRun key s ds → AreAgreed key s
 are_agreed key s ds k =
-    let l = ledger_of (after_deeds unused ds) in
+    let l = ledger_of (after_transitions unused ds) in
     let a = agreed key s ds k.placed k.run in
     record {
       sent = λ session v b x h.
-          let q = sent_in key s ds session (VotesClassic v b x) (s.tales session) k.run (k.listed.told session) (k.carries session) h in
+          let q = sent_in key s ds session (VotesClassic v b x) (s.traces session) k.run (k.listed.told session) (k.carries session) h in
           safe_same key s ds v b x k (a.safe q.0 v b x q.1.0 q.1.1);
       standing = λ v i b x l classic h. safe_same key s ds v b x k (a.standing v b x i classic (sym (voted_same key s ds v b x i k l) ∙ h));
       chained = λ v i b x positive h.
@@ -181,7 +181,7 @@ are_agreed key s ds k =
           let y = a.founded v i positive (subst (λ (r : Acceptor). HasValue (r (suc v))) (row_same key s ds i k below) (subst (λ u. HasValue (acceptor_at s key i u)) next h)) in
           (y.0, seen_chosen key s ds v y.0 k.run y.1);
       decided = λ v i x below e. seen_chosen key s ds v x k.run (a.decided v i x (sym (ap (λ (r : Acceptor). r v) (row_same key s ds i k below)) ∙ e));
-      chosen = λ v x h. seen_chosen key s ds v x k.run (a.chosen v x (shown_in key s ds h.0 v x (s.tales h.0) k.run (k.listed.told h.0) (k.carries h.0) h.1)).0;
+      chosen = λ v x h. seen_chosen key s ds v x k.run (a.chosen v x (shown_in key s ds h.0 v x (s.traces h.0) k.run (k.listed.told h.0) (k.carries h.0) h.1)).0;
       one = λ v x y h g. a.one v x y (inl (chosen_seen key s ds v x k.run h)) (inl (chosen_seen key s ds v y k.run g));
       once = λ u v x h g. a.once u v x (inl (chosen_seen key s ds u x k.run h)) (inl (chosen_seen key s ds v x k.run g));
       backed = λ v x h.
@@ -189,8 +189,8 @@ are_agreed key s ds k =
           let more = count_within s.cfg.n (backs l v x) (λ i. slot_backs (acceptor_at s key i v) x) (λ i below e. ap (λ (r : Acceptor). slot_backs (r v) x) (row_same key s ds i k below) ∙ e) in
           omega (arith, enough, more);
       answers = λ i v call x at own show named. (
-        shown_to_call s.cfg call v x (s.tales call.name.session) (k.listed.tales i call at) show named,
-        seen_chosen key s ds v x k.run (a.chosen v x (named_shown s.cfg ds call v x (call_told key s ds call v (call_tale key s ds i call k.run k.listed k.carries at own) show) named)).0,
+        shown_to_call s.cfg call v x (s.traces call.name.session) (k.listed.traces i call at) show named,
+        seen_chosen key s ds v x k.run (a.chosen v x (named_shown s.cfg ds call v x (call_told key s ds call v (call_trace key s ds i call k.run k.listed k.carries at own) show) named)).0,
       );
     }
 

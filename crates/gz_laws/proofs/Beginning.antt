@@ -17,11 +17,11 @@ use Rattle.gz_core.specs.declared.requests.Turn.{Turn}
 use Rattle.gz_pick.specs.Evidences.{votes_for, decides}
 use Rattle.gz_round.specs.Causes.{HasCause, UnsureCause, IsCutOff, is_blank}
 use Rattle.gz_round.specs.Counting.{outs}
-use Rattle.gz_round.specs.History.{Asked, Moment, Sent, Caller, Tale, asked_of, sent_from, begun}
+use Rattle.gz_round.specs.History.{Asked, Action, Sent, Caller, Trace, asked_of, sent_from, begun}
 use Rattle.gz_round.specs.Sent.{met}
 use Rattle.gz_round.specs.Shown.{heard_at, IsShown}
 use Rattle.gz_round.specs.Sites.{SiteNow, site_now, after_sent, is_to, some_heard}
-use Rattle.gz_client.specs.Tales.{IsTold, IsAnswered}
+use Rattle.gz_client.specs.Traces.{KeepsRules, IsAnswered}
 
 -- a test that no site passes counts none
 none_counted : (n : ℕ) (p : ℕ → Bool) → ((s : ℕ) → p s ≡ false) → count_sites n p ≡ 0
@@ -29,12 +29,12 @@ none_counted zero p none = refl
 none_counted (suc n) p none = ap (λ b. cond b (suc (count_sites n p)) (count_sites n p)) (none n) ∙ none_counted n p none
 
 -- what is sent is not heard
-sent_unheard : (p : RowAt → Bool) (first : ℕ) (outs : List Out) (ms : List Moment) (s : ℕ) → some_heard p (sent_from first outs ms) s ≡ some_heard p ms s
+sent_unheard : (p : RowAt → Bool) (first : ℕ) (outs : List Out) (ms : List Action) (s : ℕ) → some_heard p (sent_from first outs ms) s ≡ some_heard p ms s
 sent_unheard p first [] ms s = refl
 sent_unheard p first (o ∷ os) ms s = sent_unheard p (first + 1) os (Sent (asked_of first o) ∷ ms) s
 
 -- nor does it overtake, or put a site out
-sent_met : (first : ℕ) (outs : List Out) (ms : List Moment) → met (sent_from first outs ms) ≡ met ms
+sent_met : (first : ℕ) (outs : List Out) (ms : List Action) → met (sent_from first outs ms) ≡ met ms
 sent_met first [] ms = refl
 sent_met first (o ∷ os) ms = sent_met (first + 1) os (Sent (asked_of first o) ∷ ms)
 
@@ -42,7 +42,7 @@ still_in : (a : Asked) (now : SiteNow) (b : Bool) → (if b then after_sent a no
 still_in a now true = elim a.awaited as (λ w. (if w then (let k : SiteNow = record { row = now.row; changed = now.changed; out = now.out; awaits = Some a; unanswered = true } in k) else now).out ≡ now.out) [ true ↦ refl | false ↦ refl ]
 still_in a now false = refl
 
-sent_out : (first : ℕ) (outs : List Out) (ms : List Moment) (s : ℕ) → (site_now (sent_from first outs ms) s).out ≡ (site_now ms s).out
+sent_out : (first : ℕ) (outs : List Out) (ms : List Action) (s : ℕ) → (site_now (sent_from first outs ms) s).out ≡ (site_now ms s).out
 sent_out first [] ms s = refl
 sent_out first (o ∷ os) ms s = let a = asked_of first o in sent_out (first + 1) os (Sent a ∷ ms) s ∙ still_in a (site_now ms s) (is_to a s)
 
@@ -55,7 +55,7 @@ some_needed c b sizes =
     elim (same_ballot b fast) as (λ t. 1 ≤ (if t then c.qf else c.qc)) [ true ↦ omega (arith, m, l, n) | false ↦ omega (arith, m, l, n) ]
 
 -- a call that has heard nothing from any site has no answer
-record HeardNothing (c : Config) (ms : List Moment) : Type 0 where
+record HeardNothing (c : Config) (ms : List Action) : Type 0 where
   rows : (p : RowAt → Bool) → heard_at c p ms ≡ 0
   met_is : met ms ≡ 0
   outs_is : outs c ms ≡ 0
@@ -67,7 +67,7 @@ begun_nothing c first outs = record {
   outs_is = none_counted c.n (λ s. (site_now (sent_from first outs []) s).out) (λ s. sent_out first outs [] s);
 }
 
-none_shown : (c : Config) (ms : List Moment) (v : ℕ) (x : Name) → IsConfig c → HeardNothing c ms → IsShown c ms v x → ⊥
+none_shown : (c : Config) (ms : List Action) (v : ℕ) (x : Name) → IsConfig c → HeardNothing c ms → IsShown c ms v x → ⊥
 none_shown c ms v x sizes nothing (inl k) =
     let z = nothing.rows (λ r. votes_for k.0 x v (Some r)) in
     let some = some_needed c k.0 sizes in
@@ -75,7 +75,7 @@ none_shown c ms v x sizes nothing (inl k) =
     omega (arith, z, some, enough)
 none_shown c ms v x sizes nothing (inr k) = let z = nothing.rows (λ r. decides x v (Some r)) in omega (arith, z, k)
 
-not_cut_off : (c : Config) (ms : List Moment) (phase : Phase) (heard : ℕ) → IsConfig c → HeardNothing c ms → IsCutOff c ms phase heard → ⊥
+not_cut_off : (c : Config) (ms : List Action) (phase : Phase) (heard : ℕ) → IsConfig c → HeardNothing c ms → IsCutOff c ms phase heard → ⊥
 not_cut_off c ms phase heard sizes nothing h =
     let z = nothing.outs_is in
     let lost = h.lost in
@@ -84,14 +84,14 @@ not_cut_off c ms phase heard sizes nothing h =
     let m = q.fast in
     omega (arith, z, lost, l, m)
 
-not_overtaken : (c : Config) (ms : List Moment) → IsConfig c → HeardNothing c ms → c.tries ≤ met ms → ⊥
+not_overtaken : (c : Config) (ms : List Action) → IsConfig c → HeardNothing c ms → c.tries ≤ met ms → ⊥
 not_overtaken c ms sizes nothing h = let z = nothing.met_is in let some = sizes.again in omega (arith, z, some, h)
 
-not_unsure : (c : Config) (ms : List Moment) (why : UnsureWhy) → IsConfig c → HeardNothing c ms → UnsureCause c ms why → ⊥
+not_unsure : (c : Config) (ms : List Action) (why : UnsureWhy) → IsConfig c → HeardNothing c ms → UnsureCause c ms why → ⊥
 not_unsure c ms (UnsureNoQuorum phase heard) sizes nothing h = not_cut_off c ms phase heard sizes nothing h
 not_unsure c ms (UnsureContended m) sizes nothing h = not_overtaken c ms sizes nothing h.0
 
-no_cause : (c : Config) (w : Caller) (ms : List Moment) (answer : Answer) → IsConfig c → HeardNothing c ms → HasCause c w ms answer → ⊥
+no_cause : (c : Config) (w : Caller) (ms : List Action) (answer : Answer) → IsConfig c → HeardNothing c ms → HasCause c w ms answer → ⊥
 no_cause c w ms (Ok v) sizes nothing h = none_shown c ms v w.name sizes nothing h.1.2
 no_cause c w ms (Bytes v x bytes) sizes nothing h = none_shown c ms v _ sizes nothing h.1.shown
 no_cause c w ms (Gone v x) sizes nothing h = none_shown c ms v _ sizes nothing h.1.shown
@@ -105,10 +105,10 @@ no_cause c w ms (NoQuorum phase heard) sizes nothing h = not_cut_off c ms phase 
 no_cause c w ms (Contended m) sizes nothing h = not_overtaken c ms sizes nothing h.1.0
 no_cause c w ms (Unsure why) sizes nothing h = not_unsure c ms why sizes nothing h.1
 
-pub begun_open : (c : Config) (past : List Tale) (session : ℕ) (call : Call) (first : ℕ) (turn : Turn) (earlier : List Tale) → IsConfig c → IsTold c past (begun session call first turn earlier) → turn.answer ≡ None
+pub begun_open : (c : Config) (past : List Trace) (session : ℕ) (call : Call) (first : ℕ) (turn : Turn) (earlier : List Trace) → IsConfig c → KeepsRules c past (begun session call first turn earlier) → turn.answer ≡ None
 begun_open c past session call first turn earlier sizes told =
     let t = begun session call first turn earlier in
     elim turn.answer as (λ o. IsAnswered c t o → o ≡ None) [
       | None ↦ λ h. refl
-      | Some answer ↦ λ h. absurd (no_cause c t.caller t.moments answer sizes (begun_nothing c first turn.send) h)
+      | Some answer ↦ λ h. absurd (no_cause c t.caller t.actions answer sizes (begun_nothing c first turn.send) h)
     ] told.answered

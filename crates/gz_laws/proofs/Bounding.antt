@@ -23,7 +23,7 @@ use Rattle.gz_core.proofs.Counting.{count_found, count_most}
 use Rattle.gz_pick.specs.Evidences.{votes_for, decides}
 use Rattle.gz_pick.specs.Looks.{row_top}
 use Rattle.gz_round.specs.declared.hearing.Seen.{Seen}
-use Rattle.gz_round.specs.History.{Asked, Moment, Sent, Handed, GaveUp, Rested, GaveIn, Caller, Tale, IsClosing, asked_of, sent_from, begun, turned}
+use Rattle.gz_round.specs.History.{Asked, Action, Sent, Handed, GaveUp, Rested, GaveIn, Caller, Trace, IsClosing, asked_of, sent_from, begun, turned}
 use Rattle.gz_round.specs.Rounds.{top_rounds, rounds_used, round_known, greatest, next_round, MayPromise}
 use Rattle.gz_round.specs.Sending.{AreAllowed, MaySend, MayAsk, MayMake, IsMade, is_awaited, rows_known}
 use Rattle.gz_round.specs.Sent.{of_step, of_sent, passes_sent, promise_by, has_promised_at, last_promise, round_after, top_round, is_notice}
@@ -31,13 +31,13 @@ use Rattle.gz_round.specs.Shown.{heard_at, IsShown, IsNext, IsGrounded}
 use Rattle.gz_round.specs.Sites.{SiteNow, site_now, known, row_seen, can_stand, seen_under, seen_in, written_by, passes, heard_in, concerns, some_heard, WasHeard}
 use Rattle.gz_round.proofs.Known.{last_heard}
 use Rattle.gz_round.proofs.LookBacks.{last_promised_at}
-use Rattle.gz_client.specs.Tales.{AreTold}
+use Rattle.gz_client.specs.Traces.{AllKeepRules}
 use Rattle.gz_site.specs.Told.{Told, Tells, IsEmpty, same_key}
 use Rattle.gz_site.specs.Steps.{RowStored}
 use Rattle.gz_world.specs.States.{RequestAt, State, tick_of, next_of, numbered, with_reply, with_handed, with_given_up, sent_request, sent_requests}
 use Rattle.gz_laws.specs.Bounded.{IsColumnWithin, IsRowWithin, IfKept, IfWritten, IfShown, EachRow, ArePromisesWithin, AreWithin}
-use Rattle.gz_laws.specs.Carried.{IsRequestOf, HasReply, MomentCarried, MomentsCarried, TalesCarried, AreCarried}
-use Rattle.gz_laws.specs.Each.{EachTale}
+use Rattle.gz_laws.specs.Carried.{IsRequestOf, HasReply, ActionCarried, ActionsCarried, TracesCarried, AreCarried}
+use Rattle.gz_laws.specs.Each.{EachTrace}
 use Rattle.gz_laws.specs.Heard.{IsClean}
 use Rattle.gz_laws.proofs.Beginning.{some_needed}
 use Rattle.gz_laws.proofs.Growing.{allowed_base, clean_made}
@@ -50,7 +50,7 @@ abbrev IsSeenWithin : ℕ → ℕ → Option Seen → Type 0
 IsSeenWithin versions rounds None = Unit {0}
 IsSeenWithin versions rounds (Some seen) = IsRowWithin versions rounds seen.row
 
-abbrev pub AreHeardWithin : ℕ → ℕ → List Moment → Type 0
+abbrev pub AreHeardWithin : ℕ → ℕ → List Action → Type 0
 AreHeardWithin versions rounds [] = Unit {0}
 AreHeardWithin versions rounds (Sent a ∷ ms) = AreHeardWithin versions rounds ms
 AreHeardWithin versions rounds (Handed a reply ∷ ms) = IsSeenWithin versions rounds (seen_in (written_by a.op) reply) × AreHeardWithin versions rounds ms
@@ -76,7 +76,7 @@ seen_within versions rounds op (Written etag) w h = written_within versions roun
 seen_within versions rounds op Changed w h = tt
 seen_within versions rounds op Failed w h = tt
 
-pub heard_within : (versions rounds : ℕ) (s : State) (name : Name) (ms : List Moment) → EachRow (IsRowWithin versions rounds) s → MomentsCarried s.net name ms → AreHeardWithin versions rounds ms
+pub heard_within : (versions rounds : ℕ) (s : State) (name : Name) (ms : List Action) → EachRow (IsRowWithin versions rounds) s → ActionsCarried s.net name ms → AreHeardWithin versions rounds ms
 heard_within versions rounds s name [] all h = tt
 heard_within versions rounds s name (Sent a ∷ ms) all h = heard_within versions rounds s name ms all h.1
 heard_within versions rounds s name (Handed a reply ∷ ms) all h =
@@ -93,7 +93,7 @@ heard_within versions rounds s name (GaveIn ∷ ms) all h = heard_within version
 is_within : (versions rounds : ℕ) (o : Option Seen) (seen : Seen) → o ≡ Some seen → IsSeenWithin versions rounds o → IsRowWithin versions rounds seen.row
 is_within versions rounds o seen e h = subst (IsSeenWithin versions rounds) e h
 
-was_within : (versions rounds : ℕ) (ms : List Moment) (s : ℕ) (row : RowAt) → AreHeardWithin versions rounds ms → WasHeard ms s row → IsRowWithin versions rounds row
+was_within : (versions rounds : ℕ) (ms : List Action) (s : ℕ) (row : RowAt) → AreHeardWithin versions rounds ms → WasHeard ms s row → IsRowWithin versions rounds row
 was_within versions rounds [] s row h w = absurd w
 was_within versions rounds (Sent a ∷ ms) s row h (inl w) = let bad = w.2 in cc
 was_within versions rounds (Sent a ∷ ms) s row h (inr w) = was_within versions rounds ms s row h w
@@ -106,7 +106,7 @@ was_within versions rounds (Rested ∷ ms) s row h (inr w) = was_within versions
 was_within versions rounds (GaveIn ∷ ms) s row h (inl w) = let bad = w.2 in cc
 was_within versions rounds (GaveIn ∷ ms) s row h (inr w) = was_within versions rounds ms s row h w
 
-pub last_within : (versions rounds : ℕ) (ms : List Moment) (s : ℕ) (seen : Seen) → AreHeardWithin versions rounds ms → (site_now ms s).row ≡ Some seen → IsRowWithin versions rounds seen.row
+pub last_within : (versions rounds : ℕ) (ms : List Action) (s : ℕ) (seen : Seen) → AreHeardWithin versions rounds ms → (site_now ms s).row ≡ Some seen → IsRowWithin versions rounds seen.row
 last_within versions rounds ms s seen h e = was_within versions rounds ms s seen.row h (last_heard ms s seen e)
 
 -- a row that was heard and passes a test
@@ -114,7 +114,7 @@ found_in : (versions rounds : ℕ) (p : RowAt → Bool) (o : Option Seen) (b res
 found_in versions rounds p None b rest h e = inr e
 found_in versions rounds p (Some seen) b rest h e = elim (or_cases (p seen.row && b) rest e) [ inl t ↦ inl (seen.row, ((and_parts (p seen.row) b t).0, h)) | inr t ↦ inr t ]
 
-some_within : (versions rounds : ℕ) (p : RowAt → Bool) (ms : List Moment) (s : ℕ) → AreHeardWithin versions rounds ms → some_heard p ms s ≡ true → (row : RowAt) × ((p row ≡ true) × IsRowWithin versions rounds row)
+some_within : (versions rounds : ℕ) (p : RowAt → Bool) (ms : List Action) (s : ℕ) → AreHeardWithin versions rounds ms → some_heard p ms s ≡ true → (row : RowAt) × ((p row ≡ true) × IsRowWithin versions rounds row)
 some_within versions rounds p [] s h e = cc
 some_within versions rounds p (Sent a ∷ ms) s h e = some_within versions rounds p ms s h e
 some_within versions rounds p (Handed a reply ∷ ms) s h e =
@@ -123,7 +123,7 @@ some_within versions rounds p (GaveUp a ∷ ms) s h e = some_within versions rou
 some_within versions rounds p (Rested ∷ ms) s h e = some_within versions rounds p ms s h e
 some_within versions rounds p (GaveIn ∷ ms) s h e = some_within versions rounds p ms s h e
 
-at_within : (versions rounds : ℕ) (c : Config) (p : RowAt → Bool) (ms : List Moment) → AreHeardWithin versions rounds ms → 1 ≤ heard_at c p ms → (row : RowAt) × ((p row ≡ true) × IsRowWithin versions rounds row)
+at_within : (versions rounds : ℕ) (c : Config) (p : RowAt → Bool) (ms : List Action) → AreHeardWithin versions rounds ms → 1 ≤ heard_at c p ms → (row : RowAt) × ((p row ≡ true) × IsRowWithin versions rounds row)
 at_within versions rounds c p ms h e = let f = count_found c.n (some_heard p ms) e in some_within versions rounds p ms f.0 h f.2
 
 -- the version of a value that is shown, and one at which a call may work
@@ -131,7 +131,7 @@ pub record IsVersionWithin (versions v : ℕ) : Type 0 where
   pub above : 1 ≤ v
   pub below : v ≤ versions
 
-pub shown_within : (versions rounds : ℕ) (c : Config) (ms : List Moment) (v : ℕ) (x : Name) → IsConfig c → AreHeardWithin versions rounds ms → IsShown c ms v x → IsVersionWithin versions v
+pub shown_within : (versions rounds : ℕ) (c : Config) (ms : List Action) (v : ℕ) (x : Name) → IsConfig c → AreHeardWithin versions rounds ms → IsShown c ms v x → IsVersionWithin versions v
 shown_within versions rounds c ms v x sizes h (inl k) =
     let some = some_needed c k.0 sizes in
     let enough = k.1 in
@@ -141,11 +141,11 @@ shown_within versions rounds c ms v x sizes h (inr k) =
     let r = at_within versions rounds c (λ q. decides x v (Some q)) ms h k in
     record { above = decision_above versions rounds r.0 v x r.1.1 r.1.0; below = decision_within versions rounds r.0 v x r.1.1 r.1.0 }
 
-pub next_within : (versions rounds : ℕ) (c : Config) (ms : List Moment) (v : ℕ) → IsConfig c → AreHeardWithin versions rounds ms → IsNext c ms v → v ≤ versions + 1
+pub next_within : (versions rounds : ℕ) (c : Config) (ms : List Action) (v : ℕ) → IsConfig c → AreHeardWithin versions rounds ms → IsNext c ms v → v ≤ versions + 1
 next_within versions rounds c ms v sizes h (inl e) = omega (arith, e)
 next_within versions rounds c ms v sizes h (inr k) = let e = k.2 in let l = (shown_within versions rounds c ms k.0 k.1 sizes h k.3).below in omega (arith, e, l)
 
-pub grounded_within : (versions rounds : ℕ) (c : Config) (ms : List Moment) (v : ℕ) → IsConfig c → AreHeardWithin versions rounds ms → IsGrounded c ms v → v ≤ versions + 1
+pub grounded_within : (versions rounds : ℕ) (c : Config) (ms : List Action) (v : ℕ) → IsConfig c → AreHeardWithin versions rounds ms → IsGrounded c ms v → v ≤ versions + 1
 grounded_within versions rounds c ms v sizes h (inl k) = next_within versions rounds c ms v sizes h k
 grounded_within versions rounds c ms v sizes h (inr k) =
     let r = at_within versions rounds c (λ q. nat_le v (row_top q)) ms h k in
@@ -154,7 +154,7 @@ grounded_within versions rounds c ms v sizes h (inr k) =
     omega (arith, le, top)
 
 -- the rounds of known rows
-pub known_within : (versions rounds v : ℕ) (ms : List Moment) (s : ℕ) → AreHeardWithin versions rounds ms → round_known v (rows_known ms s) ≤ rounds
+pub known_within : (versions rounds v : ℕ) (ms : List Action) (s : ℕ) → AreHeardWithin versions rounds ms → round_known v (rows_known ms s) ≤ rounds
 known_within versions rounds v ms s h = by_row (site_now ms s) refl
   where
     seen_at : (o : Option Seen) → o ≡ (site_now ms s).row → round_known v (row_seen o) ≤ rounds
@@ -173,7 +173,7 @@ round_keeps : (o : Option (ℕ × BallotAt)) (round : ℕ) → round ≤ round_a
 round_keeps None round = omega arith
 round_keeps (Some p) round = omega arith
 
-pub promised_low : (ms : List Moment) (v : ℕ) (b : BallotAt) → has_promised_at ms v b ≡ true → b.round ≤ top_round ms
+pub promised_low : (ms : List Action) (v : ℕ) (b : BallotAt) → has_promised_at ms v b ≡ true → b.round ≤ top_round ms
 promised_low [] v b h = cc
 promised_low (m ∷ ms) v b h = elim (or_cases (passes_sent (λ p. (p.0 == v) && same_ballot p.1 b) (of_sent promise_by m)) (has_promised_at ms v b) h) [
   | inl e ↦ promise_low (of_sent promise_by m) v b (top_round ms) e

@@ -1,4 +1,4 @@
--- Each step keeps what the tales tell of requests and replies as the world carried it.
+-- Each step keeps what the traces say of requests and replies as the world carried it.
 use Rattle.std.proofs.Common.{◌≡◌, ℕ, zero, suc, ◌+◌, ◌-◌, ◌⊎◌, inl, inr, List, [], ◌∷◌, ◌++◌, Some, None, Bool, true, false, length, refl, ap, sym, ◌∙◌, subst, arith, length-set}
 use Rattle.std.proofs.lemmas.Bool.{cases_eq}
 use Rattle.std.specs.Prelude.{Option, MatchOption, if◌then◌else◌, slice_get, slice_set}
@@ -8,19 +8,19 @@ use Rattle.gz_core.specs.declared.calls.Call.{Call}
 use Rattle.gz_core.specs.declared.requests.Reply.{Reply}
 use Rattle.gz_core.specs.declared.requests.Turn.{Turn}
 use Rattle.gz_round.specs.declared.hearing.Seen.{Seen}
-use Rattle.gz_round.specs.History.{Asked, Moment, Sent, Handed, GaveUp, Rested, GaveIn, Tale, IsClosing, asked_of, sent_from, begun, turned}
+use Rattle.gz_round.specs.History.{Asked, Action, Sent, Handed, GaveUp, Rested, GaveIn, Trace, IsClosing, asked_of, sent_from, begun, turned}
 use Rattle.gz_round.specs.Sites.{SiteNow, site_now, after, after_reply, after_sent, concerns, is_to, seen_in, written_by, is_changed}
 use Rattle.gz_world.specs.declared.events.Effect.{Effect}
 use Rattle.gz_world.specs.declared.events.Event.{Event}
 use Rattle.gz_world.specs.declared.events.Event.TheVariants as events
-use Rattle.gz_laws.specs.Carried.{IsRequestOf, MomentCarried, MomentsCarried, TalesCarried, AreCarried}
+use Rattle.gz_laws.specs.Carried.{IsRequestOf, ActionCarried, ActionsCarried, TracesCarried, AreCarried}
 use Rattle.gz_world.specs.Reached.{IsReached, opened, stepped}
 use Rattle.gz_world.specs.Refusals.{refusal_of}
 use Rattle.gz_world.specs.States.{RequestAt, State, tick_of, next_of, numbered, with_reply, with_handed, with_given_up, sent_request, sent_requests}
-use Rattle.gz_world.specs.Steps.{SessionMoves, BeginsBy, DeliversBy, TurnBy, TakesTurn, Acts, Does, Skips, Step}
+use Rattle.gz_world.specs.Steps.{SessionMoves, BeginsBy, DeliversBy, TurnBy, TakesTurn, HasEffect, Does, Skips, WorldStep}
 use Rattle.gz_world.proofs.Members.{numbered_place, place_numbered}
 use Rattle.gz_world.proofs.Places.{get_set_same, get_set_other, get_append}
-use Rattle.gz_laws.proofs.Listing.{tales_here, tales_there}
+use Rattle.gz_laws.proofs.Listing.{traces_here, traces_there}
 
 -- a request as it stands later: the same request, with the replies that it had and perhaps more
 pub record IsLater (r q : RequestAt) : Type 0 where
@@ -65,24 +65,24 @@ request_later old new name a r grows is =
     let l = k.1.1 in
     (k.0, (record { there = k.1.0; name_is = l.name ∙ is.name_is; site_is = l.site ∙ is.site_is; op_is = l.op ∙ is.op_is }, l))
 
-moment_later : (old new : List RequestAt) (name : Name) (m : Moment) → Grows old new → MomentCarried old name m → MomentCarried new name m
-moment_later old new name (Sent a) grows h = let k = request_later old new name a h.0 grows h.1 in (k.0, k.1.0)
-moment_later old new name (Handed a reply) grows h =
+action_later : (old new : List RequestAt) (name : Name) (m : Action) → Grows old new → ActionCarried old name m → ActionCarried new name m
+action_later old new name (Sent a) grows h = let k = request_later old new name a h.0 grows h.1 in (k.0, k.1.0)
+action_later old new name (Handed a reply) grows h =
     let k = request_later old new name a h.0 grows h.1.0 in
     let has = h.1.1 in
     let later = k.1.1 in
     (k.0, (k.1.0, record { place = has.place; tick = has.tick; there = later.replies has.place (has.tick, reply) has.there }))
-moment_later old new name (GaveUp a) grows h = let k = request_later old new name a h.0 grows h.1 in (k.0, k.1.0)
-moment_later old new name Rested grows h = tt
-moment_later old new name GaveIn grows h = tt
+action_later old new name (GaveUp a) grows h = let k = request_later old new name a h.0 grows h.1 in (k.0, k.1.0)
+action_later old new name Rested grows h = tt
+action_later old new name GaveIn grows h = tt
 
-moments_later : (old new : List RequestAt) (name : Name) (ms : List Moment) → Grows old new → MomentsCarried old name ms → MomentsCarried new name ms
-moments_later old new name [] grows h = tt
-moments_later old new name (m ∷ ms) grows h = (moment_later old new name m grows h.0, moments_later old new name ms grows h.1)
+actions_later : (old new : List RequestAt) (name : Name) (ms : List Action) → Grows old new → ActionsCarried old name ms → ActionsCarried new name ms
+actions_later old new name [] grows h = tt
+actions_later old new name (m ∷ ms) grows h = (action_later old new name m grows h.0, actions_later old new name ms grows h.1)
 
-tales_later : (old new : List RequestAt) (ts : List Tale) → Grows old new → TalesCarried old ts → TalesCarried new ts
-tales_later old new [] grows h = tt
-tales_later old new (t ∷ ts) grows h = (moments_later old new t.caller.name t.moments grows h.0, tales_later old new ts grows h.1)
+traces_later : (old new : List RequestAt) (ts : List Trace) → Grows old new → TracesCarried old ts → TracesCarried new ts
+traces_later old new [] grows h = tt
+traces_later old new (t ∷ ts) grows h = (actions_later old new t.caller.name t.actions grows h.0, traces_later old new ts grows h.1)
 
 -- a request that is awaited was sent
 pub none_after : (o : Option Seen) (changed : Bool) (now : SiteNow) → (after_reply o changed now).awaits ≡ None
@@ -90,7 +90,7 @@ none_after None true now = refl
 none_after None false now = refl
 none_after (Some seen) changed now = refl
 
-pub still_awaits : (m : Moment) (ms : List Moment) (s : ℕ) (a : Asked) → ((now : SiteNow) → (after m now).awaits ≡ None) → (site_now (m ∷ ms) s).awaits ≡ Some a → (site_now ms s).awaits ≡ Some a
+pub still_awaits : (m : Action) (ms : List Action) (s : ℕ) (a : Asked) → ((now : SiteNow) → (after m now).awaits ≡ None) → (site_now (m ∷ ms) s).awaits ≡ Some a → (site_now ms s).awaits ≡ Some a
 still_awaits m ms s a none e =
     elim (concerns m s) as (λ b. (if b then after m (site_now ms s) else site_now ms s).awaits ≡ Some a → (site_now ms s).awaits ≡ Some a) [
       | true ↦ λ k. (let bad : None ≡ Some a = sym (none (site_now ms s)) ∙ k in cc)
@@ -104,14 +104,14 @@ sent_or_before b now a e =
       | false ↦ λ k. inr k
     ] e
 
-pub awaits_sent : (b : Asked) (ms : List Moment) (s : ℕ) (a : Asked) → (site_now (Sent b ∷ ms) s).awaits ≡ Some a → (b ≡ a) ⊎ ((site_now ms s).awaits ≡ Some a)
+pub awaits_sent : (b : Asked) (ms : List Action) (s : ℕ) (a : Asked) → (site_now (Sent b ∷ ms) s).awaits ≡ Some a → (b ≡ a) ⊎ ((site_now ms s).awaits ≡ Some a)
 awaits_sent b ms s a e =
     elim (is_to b s) as (λ t. (if t then after_sent b (site_now ms s) else site_now ms s).awaits ≡ Some a → (b ≡ a) ⊎ ((site_now ms s).awaits ≡ Some a)) [
       | true ↦ λ k. sent_or_before b (site_now ms s) a k
       | false ↦ λ k. inr k
     ] e
 
-pub awaited_carried : (net : List RequestAt) (name : Name) (ms : List Moment) (s : ℕ) (a : Asked) → MomentsCarried net name ms → (site_now ms s).awaits ≡ Some a → (r : RequestAt) × IsRequestOf net name a r
+pub awaited_carried : (net : List RequestAt) (name : Name) (ms : List Action) (s : ℕ) (a : Asked) → ActionsCarried net name ms → (site_now ms s).awaits ≡ Some a → (r : RequestAt) × IsRequestOf net name a r
 awaited_carried net name [] s a h e = cc
 awaited_carried net name (Sent b ∷ ms) s a h e = elim (awaits_sent b ms s a e) [
   | inl same ↦ (h.0.0, subst (λ (k : Asked). IsRequestOf net name k h.0.0) same h.0.1)
@@ -138,7 +138,7 @@ sent_there xs name tick outs j o h =
     place_numbered (xs ++ sent_requests name tick outs) (length xs + 1 + j) (sent_request name tick o) (omega arith)
     (ap (slice_get (xs ++ sent_requests name tick outs)) e ∙ get_after xs (sent_requests name tick outs) j ∙ get_map name tick outs j o h)
 
-sends_carried : (net : List RequestAt) (name : Name) (tick first : ℕ) (outs : List Out) (ms : List Moment) → ((j : ℕ) (o : Out) → slice_get outs j ≡ Some o → numbered net (first + j) ≡ Some (sent_request name tick o)) → MomentsCarried net name ms → MomentsCarried net name (sent_from first outs ms)
+sends_carried : (net : List RequestAt) (name : Name) (tick first : ℕ) (outs : List Out) (ms : List Action) → ((j : ℕ) (o : Out) → slice_get outs j ≡ Some o → numbered net (first + j) ≡ Some (sent_request name tick o)) → ActionsCarried net name ms → ActionsCarried net name (sent_from first outs ms)
 sends_carried net name tick first [] ms there h = h
 sends_carried net name tick first (o ∷ os) ms there h =
     let z : first + 0 ≡ first = omega arith in
@@ -146,54 +146,54 @@ sends_carried net name tick first (o ∷ os) ms there h =
     (λ j p e. let s : first + 1 + j ≡ first + suc j = omega arith in ap (numbered net) s ∙ there (suc j) p e)
     ((sent_request name tick o, record { there = sym (ap (numbered net) z) ∙ there 0 o refl; name_is = refl; site_is = refl; op_is = refl }), h)
 
-closes_carried : (net : List RequestAt) (name : Name) (closing ms : List Moment) → IsClosing closing → MomentsCarried net name ms → MomentsCarried net name (closing ++ ms)
+closes_carried : (net : List RequestAt) (name : Name) (closing ms : List Action) → IsClosing closing → ActionsCarried net name ms → ActionsCarried net name (closing ++ ms)
 closes_carried net name closing ms c h = elim c [
-  | inl e ↦ subst (λ ks. MomentsCarried net name (ks ++ ms)) (sym e) h
-  | inr e ↦ subst (λ ks. MomentsCarried net name (ks ++ ms)) (sym e) (tt, h)
+  | inl e ↦ subst (λ ks. ActionsCarried net name (ks ++ ms)) (sym e) h
+  | inr e ↦ subst (λ ks. ActionsCarried net name (ks ++ ms)) (sym e) (tt, h)
 ]
 
--- the tales of the session that moves, and of the others
-moved_carried : (old new : State) (session : ℕ) (ts : List Tale) → SessionMoves old session ts new → Grows old.net new.net → TalesCarried new.net ts → AreCarried old → AreCarried new
+-- the traces of the session that moves, and of the others
+moved_carried : (old new : State) (session : ℕ) (ts : List Trace) → SessionMoves old session ts new → Grows old.net new.net → TracesCarried new.net ts → AreCarried old → AreCarried new
 moved_carried old new session ts m grows here h = λ n. elim (cases_eq n session) [
-  | inl e ↦ subst (λ k. TalesCarried new.net (new.tales k)) (sym e) (subst (TalesCarried new.net) (sym (tales_here old new session ts m)) here)
-  | inr ne ↦ subst (TalesCarried new.net) (sym (tales_there old new session n ts m ne)) (tales_later old.net new.net (old.tales n) grows (h n))
+  | inl e ↦ subst (λ k. TracesCarried new.net (new.traces k)) (sym e) (subst (TracesCarried new.net) (sym (traces_here old new session ts m)) here)
+  | inr ne ↦ subst (TracesCarried new.net) (sym (traces_there old new session n ts m ne)) (traces_later old.net new.net (old.traces n) grows (h n))
 ]
 
-carried_same : (old new : State) → ((n : ℕ) → new.tales n ≡ old.tales n) → Grows old.net new.net → AreCarried old → AreCarried new
-carried_same old new tales grows h = λ n. subst (TalesCarried new.net) (sym (tales n)) (tales_later old.net new.net (old.tales n) grows (h n))
+carried_same : (old new : State) → ((n : ℕ) → new.traces n ≡ old.traces n) → Grows old.net new.net → AreCarried old → AreCarried new
+carried_same old new traces grows h = λ n. subst (TracesCarried new.net) (sym (traces n)) (traces_later old.net new.net (old.traces n) grows (h n))
 
 begin_carried : (old new : State) (session : ℕ) (call : Call) (turn : Turn) (effect : Effect) → BeginsBy old session call turn effect new → AreCarried old → AreCarried new
 begin_carried old new session call turn effect b h =
-    let name : Name = record { session = session; seq = length (old.tales session) + 1 } in
+    let name : Name = record { session = session; seq = length (old.traces session) + 1 } in
     let outs = sent_requests name (tick_of old) turn.send in
     let grows : Grows old.net new.net = grows_then old.net (old.net ++ outs) new.net (grows_append old.net outs) (grows_same (old.net ++ outs) new.net b.net) in
-    moved_carried old new session (begun session call (next_of old) turn (old.tales session) ∷ old.tales session) b.moves grows (
+    moved_carried old new session (begun session call (next_of old) turn (old.traces session) ∷ old.traces session) b.moves grows (
       sends_carried new.net name (tick_of old) (next_of old) turn.send [] (λ j o e. ap (λ xs. numbered xs (next_of old + j)) b.net ∙ sent_there old.net name (tick_of old) turn.send j o e) tt,
-      tales_later old.net new.net (old.tales session) grows (h session),
+      traces_later old.net new.net (old.traces session) grows (h session),
     ) h
 
 -- a session's turn, of a request that stays the same but for what is noted of it
-turn_carried : (old new : State) (n : ℕ) (r marked : RequestAt) (moment : Asked → Moment) (by : TurnBy) (effect : Effect) → TakesTurn old n r moment by marked effect new → IsLater r marked
-    → ((q : RequestAt) → IsLater r q → IsRequestOf new.net by.tale.caller.name by.asked q → MomentCarried new.net by.tale.caller.name (moment by.asked)) → AreCarried old → AreCarried new
-turn_carried old new n r marked moment by effect t later carry h =
-    let name = by.tale.caller.name in
+turn_carried : (old new : State) (n : ℕ) (r marked : RequestAt) (action : Asked → Action) (by : TurnBy) (effect : Effect) → TakesTurn old n r action by marked effect new → IsLater r marked
+    → ((q : RequestAt) → IsLater r q → IsRequestOf new.net by.trace.caller.name by.asked q → ActionCarried new.net by.trace.caller.name (action by.asked)) → AreCarried old → AreCarried new
+turn_carried old new n r marked action by effect t later carry h =
+    let name = by.trace.caller.name in
     let place = numbered_place old.net n r t.request in
     let mid = slice_set old.net (n - 1) marked in
     let outs = sent_requests name (tick_of old) by.turn.send in
     let set = grows_set old.net (n - 1) r marked place.1 later in
     let grows : Grows old.net new.net = grows_then old.net mid new.net set (grows_then mid (mid ++ outs) new.net (grows_append mid outs) (grows_same (mid ++ outs) new.net t.net)) in
-    let before : TalesCarried old.net (by.tale ∷ by.earlier) = subst (TalesCarried old.net) t.tales (h r.name.session) in
-    let asked = awaited_carried old.net name by.tale.moments by.asked.site by.asked before.0 t.awaited.awaits in
+    let before : TracesCarried old.net (by.trace ∷ by.earlier) = subst (TracesCarried old.net) t.traces (h r.name.session) in
+    let asked = awaited_carried old.net name by.trace.actions by.asked.site by.asked before.0 t.awaited.awaits in
     let both : Some asked.0 ≡ Some r = sym asked.1.there ∙ ap (numbered old.net) t.awaited.number_is ∙ t.request in
     let own : asked.0 ≡ r = cc in
     let k = request_later old.net new.net name by.asked asked.0 grows asked.1 in
     let now = carry k.0 (subst (λ (q : RequestAt). IsLater q k.0) own k.1.1) k.1.0 in
     let first : next_of old ≡ length mid + 1 = sym (ap (λ x. x + 1) (length-set old.net (n - 1) marked)) in
-    let sent = sends_carried new.net name (tick_of old) (next_of old) by.turn.send (moment by.asked ∷ by.tale.moments)
+    let sent = sends_carried new.net name (tick_of old) (next_of old) by.turn.send (action by.asked ∷ by.trace.actions)
     (λ j o e. ap (λ i. numbered new.net (i + j)) first ∙ ap (λ xs. numbered xs (length mid + 1 + j)) t.net ∙ sent_there mid name (tick_of old) by.turn.send j o e)
-    (now, moments_later old.net new.net name by.tale.moments grows before.0) in
-    moved_carried old new r.name.session (turned (next_of old) by.turn (moment by.asked) by.closing by.tale ∷ by.earlier) t.moves grows
-    (closes_carried new.net name by.closing (sent_from (next_of old) by.turn.send (moment by.asked ∷ by.tale.moments)) t.closing sent, tales_later old.net new.net by.earlier grows before.1) h
+    (now, actions_later old.net new.net name by.trace.actions grows before.0) in
+    moved_carried old new r.name.session (turned (next_of old) by.turn (action by.asked) by.closing by.trace ∷ by.earlier) t.moves grows
+    (closes_carried new.net name by.closing (sent_from (next_of old) by.turn.send (action by.asked ∷ by.trace.actions)) t.closing sent, traces_later old.net new.net by.earlier grows before.1) h
 
 pub handed_later : (tick which : ℕ) (r : RequestAt) → IsLater r (with_handed tick which r)
 handed_later tick which r = record { name = refl; site = refl; op = refl; replies = λ i x h. h }
@@ -209,7 +209,7 @@ deliver_carried old new n r reply effect d h =
     let place = numbered_place old.net n r d.request in
     let after = with_reply (tick_of old) reply r in
     let mid = slice_set old.net (n - 1) after in
-    carried_same old new d.sessions.tales (grows_then old.net mid new.net (grows_set old.net (n - 1) r after place.1 (replied_later (tick_of old) reply r)) (grows_same mid new.net d.net)) h
+    carried_same old new d.sessions.traces (grows_then old.net mid new.net (grows_set old.net (n - 1) r after place.1 (replied_later (tick_of old) reply r)) (grows_same mid new.net d.net)) h
 
 hand_carried : (old new : State) (n which : ℕ) (r : RequestAt) (reply : ℕ × Reply) (by : TurnBy) (effect : Effect) → numbered r.replies which ≡ Some reply → TakesTurn old n r (λ a. Handed a reply.1) by (with_handed (tick_of old) which r) effect new → AreCarried old → AreCarried new
 hand_carried old new n which r reply by effect there t h =
@@ -218,28 +218,28 @@ hand_carried old new n which r reply by effect there t h =
     (λ q later is. (q, (is, record { place = which - 1; tick = reply.0; there = later.replies (which - 1) reply place.1 }))) h
 
 does_carried : (old new : State) (event : Event) (effect : Effect) → Does old event effect new → AreCarried old → AreCarried new
-does_carried old new events.OpenSession effect d h = carried_same old new d.tales (grows_same old.net new.net d.net) h
+does_carried old new events.OpenSession effect d h = carried_same old new d.traces (grows_same old.net new.net d.net) h
 does_carried old new (events.Begin session call) effect d h = begin_carried old new session call d.0 effect d.1 h
 does_carried old new (events.Deliver n) effect d h = deliver_carried old new n d.0 d.1.0 effect d.1.1 h
 does_carried old new (events.Reply n which) effect d h = hand_carried old new n which d.0 d.1.0 d.1.1.0 effect d.1.1.1.0 d.1.1.1.1 h
 does_carried old new (events.GiveUp n) effect d h =
     turn_carried old new n d.0 (with_given_up (tick_of old) d.0) (λ a. GaveUp a) d.1.0 effect d.1.1 (given_up_later (tick_of old) d.0) (λ q later is. (q, is)) h
-does_carried old new (events.Crash session) effect d h = carried_same old new d.tales (grows_same old.net new.net d.net) h
+does_carried old new (events.Crash session) effect d h = carried_same old new d.traces (grows_same old.net new.net d.net) h
 
-pub acts_carried : (old new : State) (event : Event) (effect : Effect) → Acts old event effect new → AreCarried old → AreCarried new
+pub acts_carried : (old new : State) (event : Event) (effect : Effect) → HasEffect old event effect new → AreCarried old → AreCarried new
 acts_carried old new event effect acts h =
     elim (refusal_of old event) as (λ o. MatchOption o (Does old event effect new) (λ why. Skips old event why effect new) → AreCarried new) [
       | None ↦ λ d. does_carried old new event effect d h
-      | Some why ↦ λ k. carried_same old new k.same.sessions.tales (grows_same old.net new.net k.same.net) h
+      | Some why ↦ λ k. carried_same old new k.same.sessions.traces (grows_same old.net new.net k.same.net) h
     ] acts
 
-step_carried : (old new : State) (event : Event) → Step old event new → AreCarried old → AreCarried new
+step_carried : (old new : State) (event : Event) → WorldStep old event new → AreCarried old → AreCarried new
 step_carried old new event step h =
     let mid = step.1.0 in
     let records = step.1.1.1.1 in
-    carried_same mid new records.sessions.tales (grows_same mid.net new.net records.net) (acts_carried old mid event step.0 step.1.1.1.0 h)
+    carried_same mid new records.sessions.traces (grows_same mid.net new.net records.net) (acts_carried old mid event step.0 step.1.1.1.0 h)
 
 -- in every world that is reached
 pub carried : (s : State) → IsReached s → AreCarried s
-carried _ (opened s o) = λ n. subst (TalesCarried s.net) (sym (o.tales n)) tt
+carried _ (opened s o) = λ n. subst (TracesCarried s.net) (sym (o.traces n)) tt
 carried _ (stepped old new event h step) = step_carried old new event step (carried old h)

@@ -7,7 +7,7 @@ use Rattle.gz_core.specs.Names.{Name, same_name}
 use Rattle.gz_core.proofs.Ballots.{name_means, name_refl}
 use Rattle.gz_laws.proofs.Keys.{name_apart}
 use Rattle.gz_core.specs.declared.requests.Out.{Out}
-use Rattle.gz_round.specs.History.{Moment, Sent, IsClosing, asked_of, sent_from}
+use Rattle.gz_round.specs.History.{Action, Sent, IsClosing, asked_of, sent_from}
 use Rattle.gz_world.specs.States.{RequestAt, sent_request, sent_requests}
 use Rattle.gz_laws.specs.Exchanged.{Exchange, exchange_of, exchanges_from, just_sent, changed_at, exchanges_told}
 
@@ -109,8 +109,8 @@ exchanges_kept n (suc i) (x ∷ xs) r q name there own is =
     let e : n + 1 + i ≡ n + suc i = omega arith in
     ap (λ ks. named_or (same_name x.name name) (exchange_of n x) ks) (exchanges_kept (n + 1) i xs r q name there own (λ k. ap (λ m. exchange_of m q) e ∙ is k ∙ ap (λ m. exchange_of m r) (sym e)))
 
--- what a call's tale tells of the requests that it sends
-pub told_sent : (first : ℕ) (outs : List Out) (ms : List Moment) → exchanges_told (sent_from first outs ms) ≡ exchanges_told ms ++ exchanges_sent first outs
+-- what a call's trace tells of the requests that it sends
+pub told_sent : (first : ℕ) (outs : List Out) (ms : List Action) → exchanges_told (sent_from first outs ms) ≡ exchanges_told ms ++ exchanges_sent first outs
 told_sent first [] ms = append_nil (exchanges_told ms)
   where
     append_nil : (xs : List Exchange) → xs ≡ xs ++ []
@@ -119,6 +119,6 @@ told_sent first [] ms = append_nil (exchanges_told ms)
 told_sent first (o ∷ os) ms = told_sent (first + 1) os (Sent (asked_of first o) ∷ ms) ∙ append_assoc (exchanges_told ms) (just_sent (asked_of first o) ∷ []) (exchanges_sent (first + 1) os)
 
 -- how an event closes tells of no request
-pub told_closing : (closing ms : List Moment) → IsClosing closing → exchanges_told (closing ++ ms) ≡ exchanges_told ms
+pub told_closing : (closing ms : List Action) → IsClosing closing → exchanges_told (closing ++ ms) ≡ exchanges_told ms
 told_closing closing ms (inl e) = ap (λ ks. exchanges_told (ks ++ ms)) e
 told_closing closing ms (inr e) = ap (λ ks. exchanges_told (ks ++ ms)) e

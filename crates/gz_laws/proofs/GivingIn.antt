@@ -23,11 +23,11 @@ use Rattle.gz_accept.specs.Steps.{promise_at, classic_at, promise_answer, classi
 use Rattle.gz_pick.specs.Evidences.{is_in, is_for, votes_for}
 use Rattle.gz_pick.specs.Looks.{row_top}
 use Rattle.gz_pick.specs.declared.heard.Heard.{Heard}
-use Rattle.gz_round.specs.declared.hearing.Seen.{Seen as SeenRow}
+use Rattle.gz_round.specs.declared.hearing.Seen.{Seen}
 use Rattle.gz_round.specs.Counting.{outs, IsGoing}
-use Rattle.gz_round.specs.History.{Asked, Moment, Sent, Handed, GaveUp, Rested, GaveIn, Caller, Tale}
+use Rattle.gz_round.specs.History.{Asked, Action, Sent, Handed, GaveUp, Rested, GaveIn, Caller, Trace}
 use Rattle.gz_round.specs.LookBack.{row_cast, column_cast, or_next, lowest, lowest_vote, before_promise, IsLookedBack}
-use Rattle.gz_round.specs.Rounds.{slot_promises, promises_known, has_cast}
+use Rattle.gz_round.specs.Rounds.{slot_promises, promises_known, has_classic_cast}
 use Rattle.gz_round.specs.Sending.{AreAllowed, MayGiveIn, NoPromise, NoVote, NoValue, Collected, IsIdle, IsStuck, IsShort, IsUncast, IsBegun, IsWithoutValue, IsCollected, NoEvidence, rows_known}
 use Rattle.gz_round.specs.Sent.{last_promise, has_promised_at}
 use Rattle.gz_round.specs.Shown.{heard_at}
@@ -35,9 +35,9 @@ use Rattle.gz_round.specs.Sites.{SiteNow, site_now, known, row_seen}
 use Rattle.gz_round.proofs.LookBacks.{last_promised_at}
 use Rattle.gz_ledger.specs.Acceptors.{Acceptor, HasValue}
 use Rattle.gz_ledger.specs.Agreements.{HasQuorums}
-use Rattle.gz_ledger.specs.Guards.{IsPromiseHeard, IsQuorumHeard}
-use Rattle.gz_ledger.specs.Histories.{Seen, Write, IsIn, IsShown, IsPromised}
-use Rattle.gz_ledger.specs.Deeds.{Store, Deed, Reads, Begins, Written, Failed, Elsewhere, IsUncast as IsUncastBy, AreDeeds, after_deeds, ledger_of, seen_after, sent_after}
+use Rattle.gz_ledger.specs.Guards.{IsPromiseSeen, IsQuorumHeard}
+use Rattle.gz_ledger.specs.Histories.{RowSeen, Write, IsIn, IsShownByRows, IsPromised}
+use Rattle.gz_ledger.specs.Transitions.{Store, Transition, Reads, Begins, Written, Failed, Elsewhere, IsUncastByWrites, AreTransitions, after_transitions, ledger_of, seen_after, sent_after}
 use Rattle.gz_ledger.specs.Ledgers.{votes}
 use Rattle.gz_ledger.proofs.Follows.{Advances, SlotFollows, advance}
 use Rattle.gz_ledger.proofs.Forced.{store_forced}
@@ -45,55 +45,55 @@ use Rattle.gz_ledger.proofs.Guarded.{promised_ok}
 use Rattle.gz_ledger.proofs.Rows.{row_votes}
 use Rattle.gz_ledger.proofs.Sound.{IsSound, SlotOk, IsVoteOk, IsBuilt, right_at}
 use Rattle.gz_ledger.proofs.SoundVotes.{carries_one}
-use Rattle.gz_ledger.proofs.Stores.{rows_in, store_agreed, store_sound, early_deeds}
+use Rattle.gz_ledger.proofs.Stores.{rows_in, store_agreed, store_sound, early_transitions}
 use Rattle.gz_laws.specs.Begun.{begins_of, sends_of}
-use Rattle.gz_laws.specs.Carried.{MomentsCarried}
-use Rattle.gz_laws.specs.Heard.{unused, IsClean, heard_of, MomentsStand, SentStep}
+use Rattle.gz_laws.specs.Carried.{ActionsCarried}
+use Rattle.gz_laws.specs.Heard.{unused, IsClean, heard_of, ActionsStand, SentStep}
 use Rattle.gz_laws.specs.Runs.{IsRun}
 use Rattle.gz_world.specs.States.{State}
 use Rattle.gz_laws.proofs.FirstPromises.{first_sends, before_unpromised, before_keeps, split_begins, HasStep, write_begun, sends_promised}
 use Rattle.gz_laws.proofs.Guarding.{top_heard}
 use Rattle.gz_laws.proofs.HeardOrder.{HeardInOrder}
 use Rattle.gz_laws.proofs.Hearing.{heard_known, last_stands, slots_open, le_means}
-use Rattle.gz_laws.proofs.Keeping.{moments_stand, sent_asked}
+use Rattle.gz_laws.proofs.Keeping.{actions_stand, sent_asked}
 use Rattle.gz_laws.proofs.LastRows.{entry_at, last_from, order_tail}
 use Rattle.gz_laws.proofs.Promising.{promised_sent, sent_casts, promises_heard}
 
--- what is known of a call, at a moment of it, in a world whose sites tell what they hold
-pub record IsKnownCall (s : State) (w : Caller) (past : List Tale) (ms : List Moment) : Type 0 where
-  pub deeds : List Deed
-  pub run : IsRun (key_of w.call) s deeds
+-- what is known of a call, at an action of it, in a world whose sites tell what they hold
+pub record IsKnownCall (s : State) (w : Caller) (past : List Trace) (ms : List Action) : Type 0 where
+  pub transitions : List Transition
+  pub run : IsRun (key_of w.call) s transitions
   pub quorums : HasQuorums s.cfg
   pub allowed : AreAllowed s.cfg w past ms
-  pub carried : MomentsCarried s.net w.name ms
+  pub carried : ActionsCarried s.net w.name ms
   pub order : HeardInOrder ms
-  pub begun : begins_of w.name deeds ≡ sends_of ms
-  pub mine : (q : Write) → IsIn q (sent_after unused deeds) → q.call ≡ w.name → SentStep ms q.act
+  pub begun : begins_of w.name transitions ≡ sends_of ms
+  pub mine : (q : Write) → IsIn q (sent_after unused transitions) → q.call ≡ w.name → SentStep ms q.act
 
-heard_stands : (s : State) (w : Caller) (past : List Tale) (ms : List Moment) → (k : IsKnownCall s w past ms) → MomentsStand (after_deeds unused k.deeds) ms
-heard_stands s w past ms k = moments_stand (key_of w.call) s.net (after_deeds unused k.deeds) s.cfg w past ms k.run.requests refl k.allowed k.carried
+heard_stands : (s : State) (w : Caller) (past : List Trace) (ms : List Action) → (k : IsKnownCall s w past ms) → ActionsStand (after_transitions unused k.transitions) ms
+heard_stands s w past ms k = actions_stand (key_of w.call) s.net (after_transitions unused k.transitions) s.cfg w past ms k.run.requests refl k.allowed k.carried
 
-call_sound : (s : State) (w : Caller) (past : List Tale) (ms : List Moment) → (k : IsKnownCall s w past ms) → IsSound s.cfg (ledger_of (after_deeds unused k.deeds))
-call_sound s w past ms k = store_sound s.cfg unused k.deeds k.quorums k.run.deeds
+call_sound : (s : State) (w : Caller) (past : List Trace) (ms : List Action) → (k : IsKnownCall s w past ms) → IsSound s.cfg (ledger_of (after_transitions unused k.transitions))
+call_sound s w past ms k = store_sound s.cfg unused k.transitions k.quorums k.run.transitions
 
 -- the row of a site that is known was shown by the run
-known_row : (now : SiteNow) (row : RowAt) → known now ≡ Some row → (seen : SeenRow) × ((now.row ≡ Some seen) × (seen.row ≡ row))
+known_row : (now : SiteNow) (row : RowAt) → known now ≡ Some row → (seen : Seen) × ((now.row ≡ Some seen) × (seen.row ≡ row))
 known_row now row e =
-    elim now.out as (λ b. (if b then None else row_seen now.row) ≡ Some row → (seen : SeenRow) × ((now.row ≡ Some seen) × (seen.row ≡ row))) [
+    elim now.out as (λ b. (if b then None else row_seen now.row) ≡ Some row → (seen : Seen) × ((now.row ≡ Some seen) × (seen.row ≡ row))) [
       | true ↦ λ k. cc
       | false ↦ λ k. seen_row now.row k
     ] e
   where
-    seen_row : (o : Option SeenRow) → row_seen o ≡ Some row → (seen : SeenRow) × ((o ≡ Some seen) × (seen.row ≡ row))
+    seen_row : (o : Option Seen) → row_seen o ≡ Some row → (seen : Seen) × ((o ≡ Some seen) × (seen.row ≡ row))
     seen_row None k = cc
     seen_row (Some seen) k = (seen, (refl, cc))
 
-known_shown : (s : State) (w : Caller) (past : List Tale) (ms : List Moment) (i : ℕ) (row : RowAt) → (k : IsKnownCall s w past ms) → rows_known ms i ≡ Some row → IsClean row × (let e : Seen = record { site = i; row = slots row } in IsIn e (seen_after unused k.deeds))
+known_shown : (s : State) (w : Caller) (past : List Trace) (ms : List Action) (i : ℕ) (row : RowAt) → (k : IsKnownCall s w past ms) → rows_known ms i ≡ Some row → IsClean row × (let e : RowSeen = record { site = i; row = slots row } in IsIn e (seen_after unused k.transitions))
 known_shown s w past ms i row k e =
-    let st = after_deeds unused k.deeds in
+    let st = after_transitions unused k.transitions in
     let r = known_row (site_now ms i) row e in
     let l = last_stands st ms i (heard_stands s w past ms k) r.0 r.1.0 in
-    subst (λ (q : RowAt). IsClean q × (let e : Seen = record { site = i; row = slots q } in IsIn e (seen_after unused k.deeds))) r.1.1 (l.0, rows_in st.replies (record { site = i; etag = r.0.etag; row = slots r.0.row }) l.1)
+    subst (λ (q : RowAt). IsClean q × (let e : RowSeen = record { site = i; row = slots q } in IsIn e (seen_after unused k.transitions))) r.1.1 (l.0, rows_in st.replies (record { site = i; etag = r.0.etag; row = slots r.0.row }) l.1)
 
 -- enough sites are not out
 count_rest : (n : ℕ) (p : ℕ → Bool) → n ≤ count_sites n p + count_sites n (λ s. not (p s))
@@ -102,7 +102,7 @@ count_rest (suc n) p =
     let r = count_rest n p in
     elim (p n) as (λ b. suc n ≤ cond b (suc (count_sites n p)) (count_sites n p) + cond (not b) (suc (count_sites n (λ s. not (p s)))) (count_sites n (λ s. not (p s)))) [ true ↦ omega (arith, r) | false ↦ omega (arith, r) ]
 
-enough_in : (c : Config) (ms : List Moment) → IsGoing c ms → c.qc ≤ count_sites c.n (λ s. not (site_now ms s).out)
+enough_in : (c : Config) (ms : List Action) → IsGoing c ms → c.qc ≤ count_sites c.n (λ s. not (site_now ms s).out)
 enough_in c ms going = let r = count_rest c.n (λ s. (site_now ms s).out) in let e = going.enough in omega (arith, r, e)
 
 not_out : (b : Bool) → not b ≡ true → b ≡ false
@@ -110,7 +110,7 @@ not_out true h = cc
 not_out false h = refl
 
 -- each site that is not out is known
-in_known : (c : Config) (ms : List Moment) (v i : ℕ) → IsIdle c ms v → i < c.n → not (site_now ms i).out ≡ true → (row : RowAt) × (rows_known ms i ≡ Some row)
+in_known : (c : Config) (ms : List Action) (v i : ℕ) → IsIdle c ms v → i < c.n → not (site_now ms i).out ≡ true → (row : RowAt) × (rows_known ms i ≡ Some row)
 in_known c ms v i idle below h = idle.heard i below (not_out (site_now ms i).out h)
 
 -- a row that has taken a promise promises the ballot, and one that has taken a vote has one of it
@@ -140,35 +140,35 @@ classic_taken row v b clean h =
     (y, (k.1.0, (k.1.1, ap (λ (a : Slot). is_for b y (slot_vote a)) (sym (slots_open row v clean) ∙ k.1.1) ∙ ap (λ t. t && same_name y y) (same_refl b) ∙ name_refl y)))
 
 -- the promise of the ballot that the call promised last
-promise_of : (s : State) (w : Caller) (past : List Tale) (ms : List Moment) (v : ℕ) (b : BallotAt) → (k : IsKnownCall s w past ms) → has_promised_at ms v b ≡ true → IsPromised (sent_after unused k.deeds) w.name v b
+promise_of : (s : State) (w : Caller) (past : List Trace) (ms : List Action) (v : ℕ) (b : BallotAt) → (k : IsKnownCall s w past ms) → has_promised_at ms v b ≡ true → IsPromised (sent_after unused k.transitions) w.name v b
 promise_of s w past ms v b k h =
-    let q = sent_asked (key_of w.call) s.net (after_deeds unused k.deeds) s.cfg w past ms (Promises v b) k.run.requests refl k.allowed k.carried (promised_sent ms v b h) in
+    let q = sent_asked (key_of w.call) s.net (after_transitions unused k.transitions) s.cfg w past ms (Promises v b) k.run.requests refl k.allowed k.carried (promised_sent ms v b h) in
     record { write = q.0; found = q.1.0; same = q.1.1.0; promises = q.1.1.1 }
 
 -- where the call cast nothing in its ballot, nobody did
-none_cast : (s : State) (w : Caller) (past : List Tale) (ms : List Moment) (v : ℕ) (b : BallotAt) → (k : IsKnownCall s w past ms) → has_promised_at ms v b ≡ true → IsUncast ms v b → (q : Write) (y : Name) → IsIn q (sent_after unused k.deeds) → q.act ≡ VotesClassic v b y → ⊥
+none_cast : (s : State) (w : Caller) (past : List Trace) (ms : List Action) (v : ℕ) (b : BallotAt) → (k : IsKnownCall s w past ms) → has_promised_at ms v b ≡ true → IsUncast ms v b → (q : Write) (y : Name) → IsIn q (sent_after unused k.transitions) → q.act ≡ VotesClassic v b y → ⊥
 none_cast s w past ms v b k promised uncast q y found is =
     let so = call_sound s w past ms k in
     let p = promise_of s w past ms v b k promised in
-    let r = (right_at s.cfg (ledger_of (after_deeds unused k.deeds)) so q v b y found is).promised in
+    let r = (right_at s.cfg (ledger_of (after_transitions unused k.transitions)) so q v b y found is).promised in
     let own : q.call ≡ w.name = sym r.same ∙ (so.owned r.write p.write v v b r.found p.found r.promises p.promises).0 ∙ p.same in
     let bad : true ≡ false = sym (sent_casts ms v b y (subst (SentStep ms) is (k.mine q found own))) ∙ uncast y in
     cc
 
 -- a call doesn't give in for want of promises: the rows that are known promise the ballot, and have no vote of it
-unvoted : (s : State) (w : Caller) (past : List Tale) (ms : List Moment) (v : ℕ) (b : BallotAt) (e : Seen) (vote : Option (BallotAt × Name)) → (k : IsKnownCall s w past ms) → has_promised_at ms v b ≡ true → IsUncast ms v b → IsIn e (seen_after unused k.deeds) → e.row v ≡ OpenAt b vote → is_in b vote ≡ false
+unvoted : (s : State) (w : Caller) (past : List Trace) (ms : List Action) (v : ℕ) (b : BallotAt) (e : RowSeen) (vote : Option (BallotAt × Name)) → (k : IsKnownCall s w past ms) → has_promised_at ms v b ≡ true → IsUncast ms v b → IsIn e (seen_after unused k.transitions) → e.row v ≡ OpenAt b vote → is_in b vote ≡ false
 unvoted s w past ms v b e None k promised uncast i is = refl
 unvoted s w past ms v b e (Some u) k promised uncast i is = elim (cases_Bool (same_ballot u.0 b)) [
   | inl t ↦ (let so = call_sound s w past ms k in
       let same = same_means u.0 b t in
-      let classic = (promised_ok s.cfg (ledger_of (after_deeds unused k.deeds)) w.name v b so (promise_of s w past ms v b k promised)).0 in
-      let ok : IsVoteOk s.cfg (seen_after unused k.deeds) (sent_after unused k.deeds) v u = subst (SlotOk s.cfg (seen_after unused k.deeds) (sent_after unused k.deeds) v) is (so.seen_ok e v i) in
+      let classic = (promised_ok s.cfg (ledger_of (after_transitions unused k.transitions)) w.name v b so (promise_of s w past ms v b k promised)).0 in
+      let ok : IsVoteOk s.cfg (seen_after unused k.transitions) (sent_after unused k.transitions) v u = subst (SlotOk s.cfg (seen_after unused k.transitions) (sent_after unused k.transitions) v) is (so.seen_ok e v i) in
       let sent = ok.classic (ap (λ (d : BallotAt). same_ballot d fast) same ∙ classic) in
       absurd (none_cast s w past ms v b k promised uncast sent.0 u.1 sent.1 (sent.2 ∙ ap (λ (d : BallotAt). VotesClassic v d u.1) same)))
   | inr f ↦ f
 ]
 
-no_promise : (s : State) (w : Caller) (past : List Tale) (ms : List Moment) (v : ℕ) (b : BallotAt) → (k : IsKnownCall s w past ms) → (going : IsGoing s.cfg ms) → IsIdle s.cfg ms v → last_promise ms ≡ Some (v, b)
+no_promise : (s : State) (w : Caller) (past : List Trace) (ms : List Action) (v : ℕ) (b : BallotAt) → (k : IsKnownCall s w past ms) → (going : IsGoing s.cfg ms) → IsIdle s.cfg ms v → last_promise ms ≡ Some (v, b)
     → ((i : ℕ) (row : RowAt) → i < s.cfg.n → rows_known ms i ≡ Some row → promise_answer row v b ≡ Already) → IsUncast ms v b → IsShort s.cfg ms v b → ⊥
 no_promise s w past ms v b k going idle last taken uncast short =
     let promised = last_promised_at ms v b last in
@@ -182,11 +182,11 @@ no_promise s w past ms v b k going idle last taken uncast short =
     omega (arith, all, enough, short)
 
 -- nor with its vote taken: the rows that are known have one vote of the ballot, which is chosen
-no_vote : (s : State) (w : Caller) (past : List Tale) (ms : List Moment) (v : ℕ) (b : BallotAt) → (k : IsKnownCall s w past ms) → (going : IsGoing s.cfg ms) → IsIdle s.cfg ms v → last_promise ms ≡ Some (v, b)
+no_vote : (s : State) (w : Caller) (past : List Trace) (ms : List Action) (v : ℕ) (b : BallotAt) → (k : IsKnownCall s w past ms) → (going : IsGoing s.cfg ms) → IsIdle s.cfg ms v → last_promise ms ≡ Some (v, b)
     → ((i : ℕ) (row : RowAt) → i < s.cfg.n → rows_known ms i ≡ Some row → classic_answer row v b ≡ Already) → ⊥
 no_vote s w past ms v b k going idle last taken =
     let c = s.cfg in
-    let l = ledger_of (after_deeds unused k.deeds) in
+    let l = ledger_of (after_transitions unused k.transitions) in
     let so = call_sound s w past ms k in
     let promised = last_promised_at ms v b last in
     let classic = (promised_ok c l w.name v b so (promise_of s w past ms v b k promised)).0 in
@@ -236,13 +236,13 @@ decided_after (Some (Open q None)) a p u is f none = absurd (vote_stays p q u (a
 decided_after (Some (Open q (Some vote))) a p u is f none = cc
 decided_after (Some (Decided x)) a p u is f none = (name_of x, refl)
 
-last_cast : (v : ℕ) (o : Option SeenRow) (seen : SeenRow) → o ≡ Some seen → row_cast v (row_seen o) ≡ None → column_cast (column_in seen.row.columns v) ≡ None
+last_cast : (v : ℕ) (o : Option Seen) (seen : Seen) → o ≡ Some seen → row_cast v (row_seen o) ≡ None → column_cast (column_in seen.row.columns v) ≡ None
 last_cast v None seen e h = cc
-last_cast v (Some x) seen e h = let same : x ≡ seen = cc in subst (λ (k : SeenRow). column_cast (column_in k.row.columns v) ≡ None) same h
+last_cast v (Some x) seen e h = let same : x ≡ seen = cc in subst (λ (k : Seen). column_cast (column_in k.row.columns v) ≡ None) same h
 
 -- a value was shown at the version before the call promised its ballot
-shown_before : (c : Config) (st : Store) (start : List Moment) (early : List Deed) (v : ℕ) → HasQuorums c → AreDeeds c unused early → 1 ≤ v → MomentsStand st start → HeardInOrder start → ((e : Seen) → IsIn e (heard_of start) → IsIn e (seen_after unused early))
-    → 1 ≤ heard_at c (λ r. nat_le v (row_top r)) start → lowest_vote c.n v start ≡ None → (x : Name) × IsShown c (seen_after unused early) v x
+shown_before : (c : Config) (st : Store) (start : List Action) (early : List Transition) (v : ℕ) → HasQuorums c → AreTransitions c unused early → 1 ≤ v → ActionsStand st start → HeardInOrder start → ((e : RowSeen) → IsIn e (heard_of start) → IsIn e (seen_after unused early))
+    → 1 ≤ heard_at c (λ r. nat_le v (row_top r)) start → lowest_vote c.n v start ≡ None → (x : Name) × IsShownByRows c (seen_after unused early) v x
 shown_before c st start early v q all positive stands order known begun none =
     let t = top_heard c st start v positive stands begun in
     let e = t.entry in
@@ -261,7 +261,7 @@ shown_before c st start early v q all positive stands order known begun none =
           ])
     ]
 
-later_sent : (late early : List Deed) (q : Write) → IsIn q (sent_after unused early) → IsIn q (sent_after unused (late ++ early))
+later_sent : (late early : List Transition) (q : Write) → IsIn q (sent_after unused early) → IsIn q (sent_after unused (late ++ early))
 later_sent [] early q i = i
 later_sent (Reads s ∷ late) early q i = later_sent late early q i
 later_sent (Begins heard a ∷ late) early q i = inr (later_sent late early q i)
@@ -269,19 +269,19 @@ later_sent (Written a e ∷ late) early q i = later_sent late early q i
 later_sent (Failed a e ∷ late) early q i = later_sent late early q i
 later_sent (Elsewhere s e ∷ late) early q i = later_sent late early q i
 
-one_by_one : (late : List Deed) (d : Deed) (early : List Deed) → late ++ d ∷ early ≡ (late ++ d ∷ []) ++ early
+one_by_one : (late : List Transition) (d : Transition) (early : List Transition) → late ++ d ∷ early ≡ (late ++ d ∷ []) ++ early
 one_by_one [] d early = refl
 one_by_one (x ∷ late) d early = ap (λ ks. x ∷ ks) (one_by_one late d early)
 
-positive_of : (c : Config) (seen : List Seen) (v : ℕ) → IsBuilt c seen v → 1 ≤ v
+positive_of : (c : Config) (seen : List RowSeen) (v : ℕ) → IsBuilt c seen v → 1 ≤ v
 positive_of c seen v (inl e) = omega (arith, e)
 positive_of c seen v (inr h) = let e = h.1 in omega (arith, e)
 
-no_value : (s : State) (w : Caller) (past : List Tale) (ms : List Moment) (v : ℕ) (b : BallotAt) → IsKnownCall s w past ms → IsWithoutValue s.cfg w ms v b → ⊥
+no_value : (s : State) (w : Caller) (past : List Trace) (ms : List Action) (v : ℕ) (b : BallotAt) → IsKnownCall s w past ms → IsWithoutValue s.cfg w ms v b → ⊥
 no_value s w past ms v b k h =
     let c = s.cfg in
-    let ds = k.deeds in
-    let st = after_deeds unused ds in
+    let ds = k.transitions in
+    let st = after_transitions unused ds in
     let stands = heard_stands s w past ms k in
     let so = call_sound s w past ms k in
     let promised = last_promised_at ms v b h.last in
@@ -293,7 +293,7 @@ no_value s w past ms v b k h =
     let d = Begins (heard_of start) at.asked in
     let late = at.late ++ d ∷ [] in
     let split : ds ≡ late ++ at.early = at.split ∙ one_by_one at.late d at.early in
-    let tail = early_deeds c unused at.late (d ∷ at.early) (subst (λ ks. AreDeeds c unused ks) at.split k.run.deeds) in
+    let tail = early_transitions c unused at.late (d ∷ at.early) (subst (λ ks. AreTransitions c unused ks) at.split k.run.transitions) in
     let fresh : (q : Write) (u : ℕ) → IsIn q (sent_after unused at.early) → q.act ≡ Promises u b → ⊥ = λ q u i is.
     (let found : IsIn q (sent_after unused ds) = subst (λ ks. IsIn q (sent_after unused ks)) (sym split) (later_sent late at.early q i) in
     let o = so.owned q mine.write u v b found mine.found is mine.promises in
@@ -301,7 +301,7 @@ no_value s w past ms v b k h =
     let there = sends_promised start v b (subst (λ a. HasStep (sends_of start) a) (is ∙ ap (λ x. Promises x b) o.1) (subst (λ xs. HasStep xs q.act) at.rest_is step)) in
     let bad : true ≡ false = sym there ∙ before_unpromised v b ms in
     cc) in
-    let shown = shown_before c st start at.early v k.quorums tail.0 (positive_of c (seen_after unused ds) v ok.1) (before_keeps (MomentsStand st) (λ m ks x. x.1) v b ms stands) (before_keeps HeardInOrder order_tail v b ms k.order) tail.1.known h.begun (sym h.back) in
+    let shown = shown_before c st start at.early v k.quorums tail.0 (positive_of c (seen_after unused ds) v ok.1) (before_keeps (ActionsStand st) (λ m ks x. x.1) v b ms stands) (before_keeps HeardInOrder order_tail v b ms k.order) tail.1.known h.begun (sym h.back) in
     let quorum : IsQuorumHeard c (seen_after unused ds) v b h.heard = record {
       sites = h.sites;
       enough = h.enough;
@@ -309,12 +309,12 @@ no_value s w past ms v b k h =
           let p = promises_heard st ms v b h.heard stands h.rows i x is in
           record { entry = p.entry; found = heard_known st ms p.entry stands p.found; site = p.site; row = p.row; none = p.none };
     } in
-    store_forced c unused late at.early v b shown.0 h.heard k.quorums (subst (λ ks. AreDeeds c unused ks) split k.run.deeds) fresh
-    (subst (λ ks. IsUncastBy (sent_after unused ks) v b) split (none_cast s w past ms v b k promised h.uncast)) ok.0 shown.1
+    store_forced c unused late at.early v b shown.0 h.heard k.quorums (subst (λ ks. AreTransitions c unused ks) split k.run.transitions) fresh
+    (subst (λ ks. IsUncastByWrites (sent_after unused ks) v b) split (none_cast s w past ms v b k promised h.uncast)) ok.0 shown.1
     (subst (λ ks. IsQuorumHeard c (seen_after unused ks) v b h.heard) split quorum) h.free
 
 -- nor because its version was collected
-not_collected : (s : State) (w : Caller) (past : List Tale) (ms : List Moment) (v : ℕ) (b : BallotAt) → IsKnownCall s w past ms → IsCollected s.cfg w past ms v b → ⊥
+not_collected : (s : State) (w : Caller) (past : List Trace) (ms : List Action) (v : ℕ) (b : BallotAt) → IsKnownCall s w past ms → IsCollected s.cfg w past ms v b → ⊥
 not_collected s w past ms v b k h =
     let g = h.gone in
     let clean = (known_shown s w past ms g.0 g.1 k g.3).0.floor in
@@ -322,7 +322,7 @@ not_collected s w past ms v b k h =
     let below = g.4 in
     omega (arith, clean, above, below)
 
-pub never : (s : State) (w : Caller) (past : List Tale) (ms : List Moment) → IsKnownCall s w past ms → MayGiveIn s.cfg w past ms → ⊥
+pub never : (s : State) (w : Caller) (past : List Trace) (ms : List Action) → IsKnownCall s w past ms → MayGiveIn s.cfg w past ms → ⊥
 never s w past ms k (NoPromise v b stuck uncast short) = no_promise s w past ms v b k stuck.going stuck.idle stuck.last stuck.taken uncast short
 never s w past ms k (NoVote v b x stuck may) = no_vote s w past ms v b k stuck.going stuck.idle stuck.last stuck.taken
 never s w past ms k (NoValue v b h) = no_value s w past ms v b k h

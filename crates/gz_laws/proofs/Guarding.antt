@@ -19,16 +19,16 @@ use Rattle.gz_pick.specs.Choices.{pick_of}
 use Rattle.gz_pick.specs.declared.heard.Heard.{Heard}
 use Rattle.gz_pick.specs.declared.heard.Pick.TheVariants.{Forced, Free}
 use Rattle.gz_model.specs.Choosing.{Allows}
-use Rattle.gz_round.specs.History.{Moment, Caller, Tale}
+use Rattle.gz_round.specs.History.{Action, Caller, Trace}
 use Rattle.gz_round.specs.Sites.{some_heard}
-use Rattle.gz_round.specs.Shown.{heard_at, IsGrounded as IsGroundedTo}
+use Rattle.gz_round.specs.Shown.{heard_at, IsGrounded}
 use Rattle.gz_round.specs.Rounds.{MayPromise, IsLeft, MayPropose}
 use Rattle.gz_round.specs.Sending.{AreAllowed, MayMake}
 use Rattle.gz_ledger.specs.Acceptors.{HasValue}
-use Rattle.gz_ledger.specs.Histories.{Seen, Write, IsIn, IsVotedAt}
-use Rattle.gz_ledger.specs.Guards.{IsGrounded, IsClear, May}
-use Rattle.gz_ledger.specs.Deeds.{Store, writes_of}
-use Rattle.gz_laws.specs.Heard.{heard_of, MomentsStand, SentStep, PastStep, Keeps}
+use Rattle.gz_ledger.specs.Histories.{RowSeen, Write, IsIn, IsVotedAt}
+use Rattle.gz_ledger.specs.Guards.{IsGroundedByRows, IsClearByRows, May}
+use Rattle.gz_ledger.specs.Transitions.{Store, writes_of}
+use Rattle.gz_laws.specs.Heard.{heard_of, ActionsStand, SentStep, PastStep, Keeps}
 use Rattle.gz_laws.proofs.Hearing.{shown_heard, next_heard, heard_found, slots_open, le_means}
 use Rattle.gz_laws.proofs.Sending.{clear_heard, own_named}
 use Rattle.gz_laws.proofs.Promising.{classic_not_fast, sent_promises, unused_past, last_version, promised_sent, sent_casts, promises_heard, vote_heard}
@@ -75,15 +75,15 @@ top_column bound (c ∷ cs) rises h =
     ]
 
 -- a row that was heard with a vote or a decision at the version or above
-pub record IsTopHeard (c : Config) (heard : List Seen) (v : ℕ) : Type 0 where
-  pub entry : Seen
+pub record IsTopHeard (c : Config) (heard : List RowSeen) (v : ℕ) : Type 0 where
+  pub entry : RowSeen
   pub within : entry.site < c.n
   pub found : IsIn entry heard
   pub version : ℕ
   pub above : v ≤ version
   pub value : HasValue (entry.row version)
 
-pub top_heard : (c : Config) (st : Store) (ms : List Moment) (v : ℕ) → 1 ≤ v → MomentsStand st ms → 1 ≤ heard_at c (λ r. nat_le v (row_top r)) ms → IsTopHeard c (heard_of ms) v
+pub top_heard : (c : Config) (st : Store) (ms : List Action) (v : ℕ) → 1 ≤ v → ActionsStand st ms → 1 ≤ heard_at c (λ r. nat_le v (row_top r)) ms → IsTopHeard c (heard_of ms) v
 top_heard c st ms v above stands k =
     let f = count_found c.n (some_heard (λ r. nat_le v (row_top r)) ms) k in
     let g = heard_found st (λ r. nat_le v (row_top r)) ms f.0 stands f.2 in
@@ -93,12 +93,12 @@ top_heard c st ms v above stands k =
     record { entry = record { site = f.0; row = slots g.0 }; within = f.1; found = g.1.1.1; version = row_top g.0; above = le; value = subst HasValue (sym s) (shows_slot t.0 t.1.1) }
 
 -- a ground that was heard
-grounded_heard : (c : Config) (st : Store) (ms : List Moment) (v : ℕ) → 1 ≤ v → MomentsStand st ms → IsGroundedTo c ms v → IsGrounded c (heard_of ms) v
+grounded_heard : (c : Config) (st : Store) (ms : List Action) (v : ℕ) → 1 ≤ v → ActionsStand st ms → IsGrounded c ms v → IsGroundedByRows c (heard_of ms) v
 grounded_heard c st ms v above stands (inl n) = inl (next_heard c st ms v stands n)
 grounded_heard c st ms v above stands (inr k) = let t = top_heard c st ms v above stands k in inr (t.entry, t.version, t.found, t.above, t.value)
 
 -- a promise of a ballot that was promised before is this call's, at this version
-fresh_ballot : (c : Config) (w : Caller) (past : List Tale) (ms : List Moment) (st : Store) (v : ℕ) (b : BallotAt) → Keeps w.name past ms st → AreAllowed c w past ms → MayPromise c w past ms v b
+fresh_ballot : (c : Config) (w : Caller) (past : List Trace) (ms : List Action) (st : Store) (v : ℕ) (b : BallotAt) → Keeps w.name past ms st → AreAllowed c w past ms → MayPromise c w past ms v b
     → (q : Write) (u : ℕ) → IsIn q (writes_of st.asked) → q.act ≡ Promises u b → (q.call ≡ w.name) × (u ≡ v)
 fresh_ballot c w past ms st v b keeps allowed may q u found is =
     let drawn = keeps.drawn q u b found is in
@@ -110,25 +110,25 @@ fresh_ballot c w past ms st v b keeps allowed may q u found is =
     ]
 
 -- what the promises leave to the call
-left_allows : (c : Config) (w : Caller) (ms : List Moment) (v : ℕ) (heard : List Heard) (x : Value) → IsLeft c w ms v heard x → Allows c.n c.qf heard (name_of x)
+left_allows : (c : Config) (w : Caller) (ms : List Action) (v : ℕ) (heard : List Heard) (x : Value) → IsLeft c w ms v heard x → Allows c.n c.qf heard (name_of x)
 left_allows c w ms v heard x (inl k) =
     let n = k.2 in
     inr (k.0, k.1, n.1.0, record { site = n.0; is = n.2; vote = n.3 ∙ ap (λ y. Some (n.1.0, y)) n.4 })
 left_allows c w ms v heard x (inr k) = inl k.0
 
-proposed : (c : Config) (w : Caller) (past : List Tale) (ms : List Moment) (st : Store) (v : ℕ) (x : Value) → Keeps w.name past ms st → MayPropose c w ms v x
-    → ((name_of x ≡ w.name) × IsClear c (heard_of ms) (writes_of st.asked) w.name v) ⊎ IsVotedAt (heard_of ms) v (name_of x)
+proposed : (c : Config) (w : Caller) (past : List Trace) (ms : List Action) (st : Store) (v : ℕ) (x : Value) → Keeps w.name past ms st → MayPropose c w ms v x
+    → ((name_of x ≡ w.name) × IsClearByRows c (heard_of ms) (writes_of st.asked) w.name v) ⊎ IsVotedAt (heard_of ms) v (name_of x)
 proposed c w past ms st v x keeps (inl k) = inl (own_named w.name w.call x k.0, clear_heard c w past ms st v keeps k.2)
 proposed c w past ms st v x keeps (inr k) = inr (vote_heard st ms v k.0 k.1 k.2 (name_of x) keeps.stands k.4 k.5)
 
 -- the source of a value where the choice is free
-left_source : (c : Config) (w : Caller) (past : List Tale) (ms : List Moment) (st : Store) (v : ℕ) (heard : List Heard) (x : Value) → Keeps w.name past ms st → IsLeft c w ms v heard x → pick_of c.n c.qf heard ≡ Free
-    → ((name_of x ≡ w.name) × IsClear c (heard_of ms) (writes_of st.asked) w.name v) ⊎ IsVotedAt (heard_of ms) v (name_of x)
+left_source : (c : Config) (w : Caller) (past : List Trace) (ms : List Action) (st : Store) (v : ℕ) (heard : List Heard) (x : Value) → Keeps w.name past ms st → IsLeft c w ms v heard x → pick_of c.n c.qf heard ≡ Free
+    → ((name_of x ≡ w.name) × IsClearByRows c (heard_of ms) (writes_of st.asked) w.name v) ⊎ IsVotedAt (heard_of ms) v (name_of x)
 left_source c w past ms st v heard x keeps (inl k) free = let bad : Forced k.0 ≡ Free = sym k.1 ∙ free in cc
 left_source c w past ms st v heard x keeps (inr k) free = proposed c w past ms st v x keeps k.1
 
 -- what a client may make, the machine may
-pub may_send : (c : Config) (w : Caller) (past : List Tale) (ms : List Moment) (st : Store) (step : RowStep) → Keeps w.name past ms st → AreAllowed c w past ms → MayMake c w past ms step → May c (heard_of ms) (writes_of st.asked) w.name (act_of step)
+pub may_send : (c : Config) (w : Caller) (past : List Trace) (ms : List Action) (st : Store) (step : RowStep) → Keeps w.name past ms st → AreAllowed c w past ms → MayMake c w past ms step → May c (heard_of ms) (writes_of st.asked) w.name (act_of step)
 may_send c w past ms st (FastVote v x) keeps allowed k = record { own = own_named w.name w.call x k.0; next = next_heard c st ms v keeps.stands k.1.next; clear = clear_heard c w past ms st v keeps k.1.clear }
 may_send c w past ms st (Promise v b) keeps allowed k = record {
   positive = k.above;

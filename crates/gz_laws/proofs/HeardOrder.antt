@@ -15,15 +15,15 @@ use Rattle.gz_core.specs.declared.requests.Out.{Out}
 use Rattle.gz_core.specs.declared.requests.Reply.{Reply}
 use Rattle.gz_core.specs.declared.requests.Reply.TheVariants.{Row, NoRow, Written, Changed, Failed}
 use Rattle.gz_core.specs.declared.requests.Turn.{Turn}
-use Rattle.gz_round.specs.declared.hearing.Seen.{Seen as SeenRow}
-use Rattle.gz_round.specs.History.{Asked, Moment, Sent, Handed, GaveUp, Rested, GaveIn, Tale, IsClosing, is_row_request, asked_of, sent_from, begun, turned}
+use Rattle.gz_round.specs.declared.hearing.Seen.{Seen}
+use Rattle.gz_round.specs.History.{Asked, Action, Sent, Handed, GaveUp, Rested, GaveIn, Trace, IsClosing, is_row_request, asked_of, sent_from, begun, turned}
 use Rattle.gz_round.specs.Sending.{AreAllowed}
 use Rattle.gz_round.specs.Sites.{SiteNow, site_now, after_reply, after_sent, is_to, can_stand, seen_under, seen_in, written_by, is_changed}
-use Rattle.gz_client.specs.Tales.{AreTold}
+use Rattle.gz_client.specs.Traces.{AllKeepRules}
 use Rattle.gz_site.specs.Told.{Told, same_key}
 use Rattle.gz_ledger.specs.Agreements.{HasQuorums}
-use Rattle.gz_ledger.specs.Histories.{Seen, IsIn}
-use Rattle.gz_ledger.specs.Deeds.{Deed, after_deeds, acceptor_of, ledger_of, rows_of}
+use Rattle.gz_ledger.specs.Histories.{RowSeen, IsIn}
+use Rattle.gz_ledger.specs.Transitions.{Transition, after_transitions, acceptor_of, ledger_of, rows_of}
 use Rattle.gz_ledger.proofs.Follows.{Follows}
 use Rattle.gz_ledger.proofs.Stores.{store_sound}
 use Rattle.gz_world.specs.declared.events.Effect.{Effect}
@@ -32,34 +32,34 @@ use Rattle.gz_world.specs.declared.events.Event.TheVariants as events
 use Rattle.gz_world.specs.Reached.{IsOpening, IsReached, opened, stepped, AllTell}
 use Rattle.gz_world.specs.Refusals.{refusal_of}
 use Rattle.gz_world.specs.States.{RequestAt, State, tick_of, next_of, numbered, with_reply, with_handed, with_given_up, sent_request, sent_requests}
-use Rattle.gz_world.specs.Steps.{Answers, BeginsBy, DeliversBy, TurnBy, TakesTurn, Acts, Does, Skips, Step}
+use Rattle.gz_world.specs.Steps.{Answers, BeginsBy, DeliversBy, TurnBy, TakesTurn, HasEffect, Does, Skips, WorldStep}
 use Rattle.gz_world.proofs.Members.{numbered_place, place_numbered}
 use Rattle.gz_world.proofs.Places.{get_set_same, get_set_other, get_append}
 use Rattle.gz_laws.specs.Agreed.{acceptor_kept}
-use Rattle.gz_laws.specs.Carried.{IsRequestOf, HasReply, MomentCarried, MomentsCarried, TalesCarried, AreCarried}
-use Rattle.gz_laws.specs.Each.{EachTale}
-use Rattle.gz_laws.specs.Heard.{unused, entry_of, heard_of, MomentsStand}
-use Rattle.gz_laws.specs.Listed.{AreListed}
+use Rattle.gz_laws.specs.Carried.{IsRequestOf, HasReply, ActionCarried, ActionsCarried, TracesCarried, AreCarried}
+use Rattle.gz_laws.specs.Each.{EachTrace}
+use Rattle.gz_laws.specs.Heard.{unused, seen_entry, heard_of, ActionsStand}
+use Rattle.gz_laws.specs.Listed.{AreCallsListed}
 use Rattle.gz_laws.specs.Placed.{ArePlaced}
 use Rattle.gz_laws.specs.Runs.{stored_of, key_asked, IsRun}
 use Rattle.gz_laws.proofs.Agreement.{kept_same}
 use Rattle.gz_laws.proofs.Carrying.{none_after, still_awaits, sent_or_before, awaits_sent, awaited_carried, sent_there, acts_carried, carried}
 use Rattle.gz_laws.proofs.Hearing.{heard_known}
-use Rattle.gz_laws.proofs.Keeping.{awaited_key, moments_stand}
+use Rattle.gz_laws.proofs.Keeping.{awaited_key, actions_stand}
 use Rattle.gz_laws.proofs.Keys.{same_key-refl}
 use Rattle.gz_laws.proofs.Listing.{listed}
 use Rattle.gz_laws.proofs.Nets.{IsKeptAs, kept_handed, kept_given_up, kept_itself}
 use Rattle.gz_laws.proofs.Placing.{placed}
 use Rattle.gz_laws.proofs.RunDelivers.{both_tell, more_replies}
-use Rattle.gz_laws.proofs.Running.{runs, step_tell, acts_run, told_request, handed_moment}
-use Rattle.gz_laws.proofs.Tales.{each_on, each_moved}
+use Rattle.gz_laws.proofs.Running.{runs, step_tell, acts_run, told_request, handed_action}
+use Rattle.gz_laws.proofs.Traces.{each_on, each_moved}
 
 -- a row goes forward from each that was heard from the site before
-abbrev pub EntryFollows : List Seen → ℕ → Option SeenRow → Type 0
+abbrev pub EntryFollows : List RowSeen → ℕ → Option Seen → Type 0
 EntryFollows es s None = Unit {0}
-EntryFollows es s (Some seen) = (e : Seen) → IsIn e es → e.site ≡ s → Follows e.row (slots seen.row)
+EntryFollows es s (Some seen) = (e : RowSeen) → IsIn e es → e.site ≡ s → Follows e.row (slots seen.row)
 
-abbrev pub HeardInOrder : List Moment → Type 0
+abbrev pub HeardInOrder : List Action → Type 0
 HeardInOrder [] = Unit {0}
 HeardInOrder (Sent a ∷ ms) = HeardInOrder ms
 HeardInOrder (Handed a reply ∷ ms) = EntryFollows (heard_of ms) a.site (seen_in (written_by a.op) reply) × HeardInOrder ms
@@ -68,20 +68,20 @@ HeardInOrder (Rested ∷ ms) = HeardInOrder ms
 HeardInOrder (GaveIn ∷ ms) = HeardInOrder ms
 
 -- so does each row that a reply of an awaited request shows
-abbrev pub AwaitedFollow : List RequestAt → List Moment → Type 0
+abbrev pub AwaitedFollow : List RequestAt → List Action → Type 0
 AwaitedFollow net ms =
     (s : ℕ) (a : Asked) → (site_now ms s).awaits ≡ Some a → (r : RequestAt) → numbered net a.number ≡ Some r → (i tick : ℕ) (reply : Reply) → slice_get r.replies i ≡ Some (tick, reply) → EntryFollows (heard_of ms) s (seen_in (written_by r.op) reply)
 
-pub record IsInOrder (net : List RequestAt) (t : Tale) : Type 0 where
-  pub heard : HeardInOrder t.moments
-  pub awaited : AwaitedFollow net t.moments
+pub record IsInOrder (net : List RequestAt) (t : Trace) : Type 0 where
+  pub heard : HeardInOrder t.actions
+  pub awaited : AwaitedFollow net t.actions
 
 -- the site of an awaited request
 if_awaits : {R : Type 0} (b : Bool) (x y : SiteNow) (o : Option Asked) → (if b then x else y).awaits ≡ o → (b ≡ true → x.awaits ≡ o → R) → (y.awaits ≡ o → R) → R
 if_awaits true x y o e f g = f refl e
 if_awaits false x y o e f g = g e
 
-pub awaits_site : (ms : List Moment) (s : ℕ) (a : Asked) → (site_now ms s).awaits ≡ Some a → a.site ≡ s
+pub awaits_site : (ms : List Action) (s : ℕ) (a : Asked) → (site_now ms s).awaits ≡ Some a → a.site ≡ s
 awaits_site [] s a e = cc
 awaits_site (Sent b ∷ ms) s a e =
     if_awaits (is_to b s) (after_sent b (site_now ms s)) (site_now ms s) (Some a) e
@@ -103,7 +103,7 @@ pub to_other : (a : Asked) (s : ℕ) → a.site ≢ s → is_to a s ≡ false
 to_other a s apart = ap (λ t. t && (a.site == s)) (row_asked a.op) ∙ (let t : (a.site == s) ≡ false = grind (arith, nat_tests) in t)
 
 -- a site that answers awaits nothing, so a site that still awaits is another one
-other_site : (b : Asked) (reply : Reply) (ms : List Moment) (s : ℕ) (a : Asked) → (site_now (Handed b reply ∷ ms) s).awaits ≡ Some a → b.site ≢ s
+other_site : (b : Asked) (reply : Reply) (ms : List Action) (s : ℕ) (a : Asked) → (site_now (Handed b reply ∷ ms) s).awaits ≡ Some a → b.site ≢ s
 other_site b reply ms s a e same =
     let to = to_here b s same in
     let now = site_now ms s in
@@ -114,16 +114,16 @@ other_site b reply ms s a e same =
     cc
 
 -- one more row of another site
-entry_other : (es : List Seen) (at s : ℕ) (row o : Option SeenRow) → at ≢ s → EntryFollows es s o → EntryFollows (entry_of at row es) s o
+entry_other : (es : List RowSeen) (at s : ℕ) (row o : Option Seen) → at ≢ s → EntryFollows es s o → EntryFollows (seen_entry at row es) s o
 entry_other es at s row None apart h = tt
 entry_other es at s None (Some seen) apart h = h
-entry_other es at s (Some x) (Some seen) apart h = λ e i same. elim i [ inl is ↦ absurd (apart (ap (λ (k : Seen). k.site) (sym is) ∙ same)) | inr k ↦ h e k same ]
+entry_other es at s (Some x) (Some seen) apart h = λ e i same. elim i [ inl is ↦ absurd (apart (ap (λ (k : RowSeen). k.site) (sym is) ∙ same)) | inr k ↦ h e k same ]
 
 -- requests of which the awaited ones have gained no reply
 abbrev AreTheirs : List RequestAt → List RequestAt → Type 0
 AreTheirs old new = (m : ℕ) (r q : RequestAt) → numbered old m ≡ Some r → numbered new m ≡ Some q → IsKeptAs r q
 
-theirs_follow : (old new : List RequestAt) (name : Name) (ms : List Moment) → AreTheirs old new → MomentsCarried old name ms → AwaitedFollow old ms → AwaitedFollow new ms
+theirs_follow : (old new : List RequestAt) (name : Name) (ms : List Action) → AreTheirs old new → ActionsCarried old name ms → AwaitedFollow old ms → AwaitedFollow new ms
 theirs_follow old new name ms same carried h = λ s a e q at i tick reply there.
     let k = awaited_carried old name ms s a carried e in
     let r = k.0 in
@@ -131,7 +131,7 @@ theirs_follow old new name ms same carried h = λ s a e q at i tick reply there.
     subst (λ (op : Op). EntryFollows (heard_of ms) s (seen_in (written_by op) reply)) (sym alike.op) (h s a e r k.1.there i tick reply (subst (λ xs. slice_get xs i ≡ Some (tick, reply)) alike.replies there))
 
 -- what is sent has no reply yet
-sent_follow : (net : List RequestAt) (name : Name) (tick first : ℕ) (outs : List Out) (ms : List Moment) → ((j : ℕ) (o : Out) → slice_get outs j ≡ Some o → numbered net (first + j) ≡ Some (sent_request name tick o)) → AwaitedFollow net ms → AwaitedFollow net (sent_from first outs ms)
+sent_follow : (net : List RequestAt) (name : Name) (tick first : ℕ) (outs : List Out) (ms : List Action) → ((j : ℕ) (o : Out) → slice_get outs j ≡ Some o → numbered net (first + j) ≡ Some (sent_request name tick o)) → AwaitedFollow net ms → AwaitedFollow net (sent_from first outs ms)
 sent_follow net name tick first [] ms there h = h
 sent_follow net name tick first (o ∷ os) ms there h =
     let z : first + 0 ≡ first = omega arith in
@@ -146,15 +146,15 @@ sent_follow net name tick first (o ∷ os) ms there h =
       | inr k ↦ h s a k r at i t reply has
     ])
 
-sent_heard : (first : ℕ) (outs : List Out) (ms : List Moment) → HeardInOrder ms → HeardInOrder (sent_from first outs ms)
+sent_heard : (first : ℕ) (outs : List Out) (ms : List Action) → HeardInOrder ms → HeardInOrder (sent_from first outs ms)
 sent_heard first [] ms h = h
 sent_heard first (o ∷ os) ms h = sent_heard (first + 1) os (Sent (asked_of first o) ∷ ms) h
 
-closes_heard : (closing ms : List Moment) → IsClosing closing → HeardInOrder ms → HeardInOrder (closing ++ ms)
+closes_heard : (closing ms : List Action) → IsClosing closing → HeardInOrder ms → HeardInOrder (closing ++ ms)
 closes_heard closing ms (inl e) h = subst (λ ks. HeardInOrder (ks ++ ms)) (sym e) h
 closes_heard closing ms (inr e) h = subst (λ ks. HeardInOrder (ks ++ ms)) (sym e) h
 
-closes_follow : (net : List RequestAt) (closing ms : List Moment) → IsClosing closing → AwaitedFollow net ms → AwaitedFollow net (closing ++ ms)
+closes_follow : (net : List RequestAt) (closing ms : List Action) → IsClosing closing → AwaitedFollow net ms → AwaitedFollow net (closing ++ ms)
 closes_follow net closing ms (inl e) h = subst (λ ks. AwaitedFollow net (ks ++ ms)) (sym e) h
 closes_follow net closing ms (inr e) h = subst (λ ks. AwaitedFollow net (ks ++ ms)) (sym e) (λ s a k. h s a (still_awaits GaveIn ms s a (λ now. refl) k))
 
@@ -182,27 +182,27 @@ turn_theirs old new n r marked name tick outs there kept net = λ m x q at now.
       | inr ne ↦ subst (IsKeptAs x) (later x (get_set_other old (n - 1) (m - 1) marked ne ∙ p.1)) (kept_itself x)
     ]
 
--- tales whose requests are the world's, again
-zip_carried : (net : List RequestAt) (P : Tale → Type 0) (ts : List Tale) → TalesCarried net ts → EachTale P ts → EachTale (λ t. P t × MomentsCarried net t.caller.name t.moments) ts
+-- traces whose requests are the world's, again
+zip_carried : (net : List RequestAt) (P : Trace → Type 0) (ts : List Trace) → TracesCarried net ts → EachTrace P ts → EachTrace (λ t. P t × ActionsCarried net t.caller.name t.actions) ts
 zip_carried net P [] c h = tt
 zip_carried net P (t ∷ ts) c h = ((h.0, c.0), zip_carried net P ts c.1 h.1)
 
 abbrev AreInOrder : State → Type 0
-AreInOrder s = (session : ℕ) → EachTale (IsInOrder s.net) (s.tales session)
+AreInOrder s = (session : ℕ) → EachTrace (IsInOrder s.net) (s.traces session)
 
-abbrev IsCarriedInOrder : List RequestAt → Tale → Type 0
-IsCarriedInOrder net t = IsInOrder net t × MomentsCarried net t.caller.name t.moments
+abbrev IsCarriedInOrder : List RequestAt → Trace → Type 0
+IsCarriedInOrder net t = IsInOrder net t × ActionsCarried net t.caller.name t.actions
 
-order_same : (old new : State) → ((n : ℕ) → new.tales n ≡ old.tales n) → new.net ≡ old.net → AreInOrder old → AreInOrder new
-order_same old new tales net h = λ n. subst (EachTale (IsInOrder new.net)) (sym (tales n)) (subst (λ ks. EachTale (IsInOrder ks) (old.tales n)) (sym net) (h n))
+order_same : (old new : State) → ((n : ℕ) → new.traces n ≡ old.traces n) → new.net ≡ old.net → AreInOrder old → AreInOrder new
+order_same old new traces net h = λ n. subst (EachTrace (IsInOrder new.net)) (sym (traces n)) (subst (λ ks. EachTrace (IsInOrder ks) (old.traces n)) (sym net) (h n))
 
--- another call's tale, among requests of which its own have gained no reply
-theirs_order : (old new : List RequestAt) (t : Tale) → AreTheirs old new → IsCarriedInOrder old t → IsInOrder new t
-theirs_order old new t same h = record { heard = h.0.heard; awaited = theirs_follow old new t.caller.name t.moments same h.1 h.0.awaited }
+-- another call's trace, among requests of which its own have gained no reply
+theirs_order : (old new : List RequestAt) (t : Trace) → AreTheirs old new → IsCarriedInOrder old t → IsInOrder new t
+theirs_order old new t same h = record { heard = h.0.heard; awaited = theirs_follow old new t.caller.name t.actions same h.1 h.0.awaited }
 
-begin_order : (old new : State) (session : ℕ) (call : Call) (turn : Turn) (effect : Effect) → BeginsBy old session call turn effect new → AreListed old → AreCarried old → AreInOrder old → AreInOrder new
+begin_order : (old new : State) (session : ℕ) (call : Call) (turn : Turn) (effect : Effect) → BeginsBy old session call turn effect new → AreCallsListed old → AreCarried old → AreInOrder old → AreInOrder new
 begin_order old new session call turn effect b l c h =
-    let past = old.tales session in
+    let past = old.traces session in
     let name : Name = record { session = session; seq = length past + 1 } in
     let tick = tick_of old in
     let first = next_of old in
@@ -213,21 +213,21 @@ begin_order old new session call turn effect b l c h =
       awaited = sent_follow new.net name tick first turn.send [] (λ j o e. ap (λ xs. numbered xs (first + j)) b.net ∙ sent_there old.net name tick turn.send j o e) (λ s a e. cc);
     } in
     each_moved (IsCarriedInOrder old.net) (IsInOrder new.net) old new session t past b.moves l.told (λ u apart k. theirs_order old.net new.net u same k) here
-    (zip_carried old.net (IsInOrder old.net) past (c session) (h session)) (λ n. zip_carried old.net (IsInOrder old.net) (old.tales n) (c n) (h n))
+    (zip_carried old.net (IsInOrder old.net) past (c session) (h session)) (λ n. zip_carried old.net (IsInOrder old.net) (old.traces n) (c n) (h n))
 
-turn_order : (old new : State) (n : ℕ) (r marked : RequestAt) (moment : Asked → Moment) (by : TurnBy) (effect : Effect) → TakesTurn old n r moment by marked effect new → IsKeptAs r marked → (IsInOrder old.net by.tale → HeardInOrder (moment by.asked ∷ by.tale.moments))
-    → (IsInOrder old.net by.tale → AwaitedFollow old.net (moment by.asked ∷ by.tale.moments)) → MomentCarried old.net by.tale.caller.name (moment by.asked) → AreListed old → AreCarried old → AreInOrder old → AreInOrder new
-turn_order old new n r marked moment by effect t kept heard awaited carry l c h =
-    let name = by.tale.caller.name in
+turn_order : (old new : State) (n : ℕ) (r marked : RequestAt) (action : Asked → Action) (by : TurnBy) (effect : Effect) → TakesTurn old n r action by marked effect new → IsKeptAs r marked → (IsInOrder old.net by.trace → HeardInOrder (action by.asked ∷ by.trace.actions))
+    → (IsInOrder old.net by.trace → AwaitedFollow old.net (action by.asked ∷ by.trace.actions)) → ActionCarried old.net by.trace.caller.name (action by.asked) → AreCallsListed old → AreCarried old → AreInOrder old → AreInOrder new
+turn_order old new n r marked action by effect t kept heard awaited carry l c h =
+    let name = by.trace.caller.name in
     let session = r.name.session in
     let tick = tick_of old in
     let first = next_of old in
     let outs = by.turn.send in
-    let ms = moment by.asked ∷ by.tale.moments in
+    let ms = action by.asked ∷ by.trace.actions in
     let mid = slice_set old.net (n - 1) marked in
-    let after = turned first by.turn (moment by.asked) by.closing by.tale in
+    let after = turned first by.turn (action by.asked) by.closing by.trace in
     let same = turn_theirs old.net new.net n r marked name tick outs t.request kept t.net in
-    let before : EachTale (IsCarriedInOrder old.net) (by.tale ∷ by.earlier) = zip_carried old.net (IsInOrder old.net) (by.tale ∷ by.earlier) (subst (TalesCarried old.net) t.tales (c session)) (subst (EachTale (IsInOrder old.net)) t.tales (h session)) in
+    let before : EachTrace (IsCarriedInOrder old.net) (by.trace ∷ by.earlier) = zip_carried old.net (IsInOrder old.net) (by.trace ∷ by.earlier) (subst (TracesCarried old.net) t.traces (c session)) (subst (EachTrace (IsInOrder old.net)) t.traces (h session)) in
     let number : first ≡ length mid + 1 = sym (ap (λ x. x + 1) (length-set old.net (n - 1) marked)) in
     let here : IsInOrder new.net after = record {
       heard = closes_heard by.closing (sent_from first outs ms) t.closing (sent_heard first outs ms (heard before.0.0));
@@ -237,12 +237,12 @@ turn_order old new n r marked moment by effect t kept heard awaited carry l c h 
           (theirs_follow old.net new.net name ms same (carry, before.0.1) (awaited before.0.0)));
     } in
     each_moved (IsCarriedInOrder old.net) (IsInOrder new.net) old new session after by.earlier t.moves l.told (λ u apart k. theirs_order old.net new.net u same k) here before.1
-    (λ m. zip_carried old.net (IsInOrder old.net) (old.tales m) (c m) (h m))
+    (λ m. zip_carried old.net (IsInOrder old.net) (old.traces m) (c m) (h m))
 
-hand_order : (old new : State) (n which : ℕ) (r : RequestAt) (reply : ℕ × Reply) (by : TurnBy) (effect : Effect) → numbered r.replies which ≡ Some reply → TakesTurn old n r (λ a. Handed a reply.1) by (with_handed (tick_of old) which r) effect new → AreListed old → AreCarried old → AreInOrder old → AreInOrder new
+hand_order : (old new : State) (n which : ℕ) (r : RequestAt) (reply : ℕ × Reply) (by : TurnBy) (effect : Effect) → numbered r.replies which ≡ Some reply → TakesTurn old n r (λ a. Handed a reply.1) by (with_handed (tick_of old) which r) effect new → AreCallsListed old → AreCarried old → AreInOrder old → AreInOrder new
 hand_order old new n which r reply by effect there t l c h =
     let a = by.asked in
-    let ms = by.tale.moments in
+    let ms = by.trace.actions in
     let request = told_request old new n r (with_handed (tick_of old) which r) (λ a. Handed a reply.1) by effect t c in
     let place = numbered_place r.replies which reply there in
     turn_order old new n r (with_handed (tick_of old) which r) (λ a. Handed a reply.1) by effect t (kept_handed (tick_of old) which r)
@@ -250,27 +250,27 @@ hand_order old new n which r reply by effect there t l c h =
     (λ k s b e q at i tick one has.
     let before = still_awaits (Handed a reply.1) ms s b (λ now. none_after (seen_in (written_by a.op) reply.1) (is_changed reply.1) now) e in
     entry_other (heard_of ms) a.site s (seen_in (written_by a.op) reply.1) (seen_in (written_by q.op) one) (other_site a reply.1 ms s b e) (k.awaited s b before q at i tick one has))
-    (handed_moment old new n which r reply by effect there t c) l c h
+    (handed_action old new n which r reply by effect there t c) l c h
 
-give_up_order : (old new : State) (n : ℕ) (r : RequestAt) (by : TurnBy) (effect : Effect) → TakesTurn old n r (λ a. GaveUp a) by (with_given_up (tick_of old) r) effect new → AreListed old → AreCarried old → AreInOrder old → AreInOrder new
+give_up_order : (old new : State) (n : ℕ) (r : RequestAt) (by : TurnBy) (effect : Effect) → TakesTurn old n r (λ a. GaveUp a) by (with_given_up (tick_of old) r) effect new → AreCallsListed old → AreCarried old → AreInOrder old → AreInOrder new
 give_up_order old new n r by effect t l c h =
-    let ms = by.tale.moments in
+    let ms = by.trace.actions in
     turn_order old new n r (with_given_up (tick_of old) r) (λ a. GaveUp a) by effect t (kept_given_up (tick_of old) r) (λ k. k.heard)
     (λ k s b e. k.awaited s b (still_awaits (GaveUp by.asked) ms s b (λ now. refl) e)) (r, told_request old new n r (with_given_up (tick_of old) r) (λ a. GaveUp a) by effect t c) l c h
 
 -- the row that a reply shows is the one that the site keeps
-under_row : (etag : Option ℕ) (row : RowAt) (seen : SeenRow) → seen_under etag row ≡ Some seen → row ≡ seen.row
+under_row : (etag : Option ℕ) (row : RowAt) (seen : Seen) → seen_under etag row ≡ Some seen → row ≡ seen.row
 under_row etag row seen e =
-    elim (can_stand row) as (λ b. (if b then Some (let k : SeenRow = record { etag = etag; row = row } in k) else None) ≡ Some seen → row ≡ seen.row) [
-      | true ↦ λ k. (let same : (let x : SeenRow = record { etag = etag; row = row } in x) ≡ seen = cc in ap (λ (x : SeenRow). x.row) same)
+    elim (can_stand row) as (λ b. (if b then Some (let k : Seen = record { etag = etag; row = row } in k) else None) ≡ Some seen → row ≡ seen.row) [
+      | true ↦ λ k. (let same : (let x : Seen = record { etag = etag; row = row } in x) ≡ seen = cc in ap (λ (x : Seen). x.row) same)
       | false ↦ λ k. cc
     ] e
 
-row_told : (before after : Told) (op : Op) (reply : Reply) (seen : SeenRow) → Answers before op reply after → seen_in (written_by op) reply ≡ Some seen → acceptor_kept (after.rows (key_asked op)) ≡ slots seen.row
+row_told : (before after : Told) (op : Op) (reply : Reply) (seen : Seen) → Answers before op reply after → seen_in (written_by op) reply ≡ Some seen → acceptor_kept (after.rows (key_asked op)) ≡ slots seen.row
 row_told before after (ReadRow k) (Row etag row) seen h e = ap acceptor_kept (ap (λ (t : Told). t.rows k) h.1 ∙ h.0) ∙ ap slots (under_row (Some etag) row seen e)
 row_told before after (ReadRow k) NoRow seen h e =
-    let same : (let x : SeenRow = record { etag = None; row = empty_row } in x) ≡ seen = cc in
-    ap acceptor_kept (ap (λ (t : Told). t.rows k) h.1 ∙ h.0) ∙ ap (λ (x : SeenRow). slots x.row) same
+    let same : (let x : Seen = record { etag = None; row = empty_row } in x) ≡ seen = cc in
+    ap acceptor_kept (ap (λ (t : Told). t.rows k) h.1 ∙ h.0) ∙ ap (λ (x : Seen). slots x.row) same
 row_told before after (ReadRow k) (Written etag) seen h e = absurd h
 row_told before after (ReadRow k) Changed seen h e = absurd h
 row_told before after (ReadRow k) Failed seen h e = cc
@@ -282,16 +282,16 @@ row_told before after (WriteRow k expect step row) Changed seen h e = cc
 row_told before after (WriteRow k expect step row) Failed seen h e = cc
 
 -- it goes forward from each row that the call heard
-new_reply : (key : List ℕ) (s : State) (ds : List Deed) (t : Tale) (past : List Tale) (site : ℕ) (op : Op) (reply : Reply) (before after : Told) → IsRun key s ds → HasQuorums s.cfg → AreAllowed s.cfg t.caller past t.moments → MomentsCarried s.net t.caller.name t.moments → key_of t.caller.call ≡ key → key_asked op ≡ key
-    → s.sites site ≡ Some after → Answers before op reply after → (o : Option SeenRow) → seen_in (written_by op) reply ≡ o → EntryFollows (heard_of t.moments) site o
+new_reply : (key : List ℕ) (s : State) (ds : List Transition) (t : Trace) (past : List Trace) (site : ℕ) (op : Op) (reply : Reply) (before after : Told) → IsRun key s ds → HasQuorums s.cfg → AreAllowed s.cfg t.caller past t.actions → ActionsCarried s.net t.caller.name t.actions → key_of t.caller.call ≡ key → key_asked op ≡ key
+    → s.sites site ≡ Some after → Answers before op reply after → (o : Option Seen) → seen_in (written_by op) reply ≡ o → EntryFollows (heard_of t.actions) site o
 new_reply key s ds t past site op reply before after run quorums allowed carried own about is ans None e = tt
 new_reply key s ds t past site op reply before after run quorums allowed carried own about is ans (Some seen) e = λ x i at.
-    let st = after_deeds unused ds in
-    let stands : MomentsStand st t.moments = moments_stand key s.net st s.cfg t.caller past t.moments run.requests own allowed carried in
-    let sound = store_sound s.cfg unused ds quorums run.deeds in
+    let st = after_transitions unused ds in
+    let stands : ActionsStand st t.actions = actions_stand key s.net st s.cfg t.caller past t.actions run.requests own allowed carried in
+    let sound = store_sound s.cfg unused ds quorums run.transitions in
     let told : acceptor_of (st.stored site) ≡ slots seen.row
     = ap acceptor_of (run.sites site after is).stored ∙ kept_same (after.rows key) ∙ ap (λ k. acceptor_kept (after.rows k)) (sym about) ∙ row_told before after op reply seen ans e in
-    subst (Follows x.row) (ap (λ k. acceptor_of (st.stored k)) at ∙ told) (sound.toward x (heard_known st t.moments x stands i))
+    subst (Follows x.row) (ap (λ k. acceptor_of (st.stored k)) at ∙ told) (sound.toward x (heard_known st t.actions x stands i))
 
 -- a request after a delivery, at the same number
 deliver_at : (old : List RequestAt) (n m : ℕ) (r marked x q : RequestAt) → numbered old n ≡ Some r → numbered old m ≡ Some x → numbered (slice_set old (n - 1) marked) m ≡ Some q → ((x ≡ r) × (q ≡ marked)) ⊎ (q ≡ x)
@@ -306,13 +306,13 @@ deliver_at old n m r marked x q there at now =
       | inr ne ↦ (let both : Some q ≡ Some x = sym g.1 ∙ get_set_other old (n - 1) (m - 1) marked ne ∙ p.1 in inr cc)
     ]
 
-deliver_follow : (old new : State) (n : ℕ) (r : RequestAt) (reply : Reply) (effect : Effect) (t : Tale) (past : List Tale) → DeliversBy old n r reply effect new → AllTell old → ((key : List ℕ) → (ds : List Deed) × IsRun key new ds) → ArePlaced old
-    → AreAllowed old.cfg t.caller past t.moments → MomentsCarried old.net t.caller.name t.moments → MomentsCarried new.net t.caller.name t.moments → IsInOrder old.net t → IsInOrder new.net t
+deliver_follow : (old new : State) (n : ℕ) (r : RequestAt) (reply : Reply) (effect : Effect) (t : Trace) (past : List Trace) → DeliversBy old n r reply effect new → AllTell old → ((key : List ℕ) → (ds : List Transition) × IsRun key new ds) → ArePlaced old
+    → AreAllowed old.cfg t.caller past t.actions → ActionsCarried old.net t.caller.name t.actions → ActionsCarried new.net t.caller.name t.actions → IsInOrder old.net t → IsInOrder new.net t
 deliver_follow old new n r reply effect t past d tells run p allowed was now h = record {
   heard = h.heard;
   awaited = λ s a e x at i tick one has.
       let w = t.caller in
-      let ms = t.moments in
+      let ms = t.actions in
       let key = key_of w.call in
       let k = awaited_carried old.net w.name ms s a was e in
       let marked = with_reply (tick_of old) reply r in
@@ -335,35 +335,35 @@ deliver_follow old new n r reply effect t past d tells run p allowed was now h =
       ];
 }
 
-deliver_tales : (old new : State) (n : ℕ) (r : RequestAt) (reply : Reply) (effect : Effect) (session : ℕ) (ts : List Tale) → DeliversBy old n r reply effect new → AllTell old → ((key : List ℕ) → (ds : List Deed) × IsRun key new ds) → ArePlaced old
-    → AreTold old.cfg session ts → TalesCarried old.net ts → TalesCarried new.net ts → EachTale (IsInOrder old.net) ts → EachTale (IsInOrder new.net) ts
-deliver_tales old new n r reply effect session [] d tells run p told was now h = tt
-deliver_tales old new n r reply effect session (t ∷ ts) d tells run p told was now h =
-    (deliver_follow old new n r reply effect t ts d tells run p told.0.allowed was.0 now.0 h.0, deliver_tales old new n r reply effect session ts d tells run p told.2 was.1 now.1 h.1)
+deliver_traces : (old new : State) (n : ℕ) (r : RequestAt) (reply : Reply) (effect : Effect) (session : ℕ) (ts : List Trace) → DeliversBy old n r reply effect new → AllTell old → ((key : List ℕ) → (ds : List Transition) × IsRun key new ds) → ArePlaced old
+    → AllKeepRules old.cfg session ts → TracesCarried old.net ts → TracesCarried new.net ts → EachTrace (IsInOrder old.net) ts → EachTrace (IsInOrder new.net) ts
+deliver_traces old new n r reply effect session [] d tells run p told was now h = tt
+deliver_traces old new n r reply effect session (t ∷ ts) d tells run p told was now h =
+    (deliver_follow old new n r reply effect t ts d tells run p told.0.allowed was.0 now.0 h.0, deliver_traces old new n r reply effect session ts d tells run p told.2 was.1 now.1 h.1)
 
-deliver_order : (old new : State) (n : ℕ) (r : RequestAt) (reply : Reply) (effect : Effect) → DeliversBy old n r reply effect new → AllTell old → ((key : List ℕ) → (ds : List Deed) × IsRun key new ds) → AreListed old → AreCarried old → AreCarried new → ArePlaced old → AreInOrder old → AreInOrder new
+deliver_order : (old new : State) (n : ℕ) (r : RequestAt) (reply : Reply) (effect : Effect) → DeliversBy old n r reply effect new → AllTell old → ((key : List ℕ) → (ds : List Transition) × IsRun key new ds) → AreCallsListed old → AreCarried old → AreCarried new → ArePlaced old → AreInOrder old → AreInOrder new
 deliver_order old new n r reply effect d tells run l was now p h = λ m.
-    let same = d.sessions.tales m in
-    subst (EachTale (IsInOrder new.net)) (sym same) (deliver_tales old new n r reply effect m (old.tales m) d tells run p (l.told m) (was m) (subst (TalesCarried new.net) same (now m)) (h m))
+    let same = d.sessions.traces m in
+    subst (EachTrace (IsInOrder new.net)) (sym same) (deliver_traces old new n r reply effect m (old.traces m) d tells run p (l.told m) (was m) (subst (TracesCarried new.net) same (now m)) (h m))
 
-does_order : (old new : State) (event : Event) (effect : Effect) → Does old event effect new → AllTell old → ((key : List ℕ) → (ds : List Deed) × IsRun key new ds) → AreListed old → AreCarried old → AreCarried new → ArePlaced old → AreInOrder old → AreInOrder new
-does_order old new events.OpenSession effect d tells run l was now p h = order_same old new d.tales d.net h
+does_order : (old new : State) (event : Event) (effect : Effect) → Does old event effect new → AllTell old → ((key : List ℕ) → (ds : List Transition) × IsRun key new ds) → AreCallsListed old → AreCarried old → AreCarried new → ArePlaced old → AreInOrder old → AreInOrder new
+does_order old new events.OpenSession effect d tells run l was now p h = order_same old new d.traces d.net h
 does_order old new (events.Begin session call) effect d tells run l was now p h = begin_order old new session call d.0 effect d.1 l was h
 does_order old new (events.Deliver n) effect d tells run l was now p h = deliver_order old new n d.0 d.1.0 effect d.1.1 tells run l was now p h
 does_order old new (events.Reply n which) effect d tells run l was now p h = hand_order old new n which d.0 d.1.0 d.1.1.0 effect d.1.1.1.0 d.1.1.1.1 l was h
 does_order old new (events.GiveUp n) effect d tells run l was now p h = give_up_order old new n d.0 d.1.0 effect d.1.1 l was h
-does_order old new (events.Crash session) effect d tells run l was now p h = order_same old new d.tales d.net h
+does_order old new (events.Crash session) effect d tells run l was now p h = order_same old new d.traces d.net h
 
-acts_order : (old new : State) (event : Event) (effect : Effect) → Acts old event effect new → AllTell old → ((key : List ℕ) → (ds : List Deed) × IsRun key new ds) → AreListed old → AreCarried old → AreCarried new → ArePlaced old → AreInOrder old → AreInOrder new
+acts_order : (old new : State) (event : Event) (effect : Effect) → HasEffect old event effect new → AllTell old → ((key : List ℕ) → (ds : List Transition) × IsRun key new ds) → AreCallsListed old → AreCarried old → AreCarried new → ArePlaced old → AreInOrder old → AreInOrder new
 acts_order old new event effect acts tells run l was now p h =
     elim (refusal_of old event) as (λ o. MatchOption o (Does old event effect new) (λ why. Skips old event why effect new) → AreInOrder new) [
       | None ↦ λ d. does_order old new event effect d tells run l was now p h
-      | Some why ↦ λ k. order_same old new k.same.sessions.tales k.same.net h
+      | Some why ↦ λ k. order_same old new k.same.sessions.traces k.same.net h
     ] acts
 
 -- in every world that is reached, where its sites tell what they hold
-pub in_order : (s : State) → IsReached s → AllTell s → (session : ℕ) → EachTale (IsInOrder s.net) (s.tales session)
-in_order _ (opened s o) tells = λ n. subst (EachTale (IsInOrder s.net)) (sym (o.tales n)) tt
+pub in_order : (s : State) → IsReached s → AllTell s → (session : ℕ) → EachTrace (IsInOrder s.net) (s.traces session)
+in_order _ (opened s o) tells = λ n. subst (EachTrace (IsInOrder s.net)) (sym (o.traces n)) tt
 in_order _ (stepped old new event h step) tells =
     let mid = step.1.0 in
     let acts = step.1.1.1.0 in
@@ -372,5 +372,5 @@ in_order _ (stepped old new event h step) tells =
     let l = listed old h in
     let c = carried old h in
     let p = placed old h in
-    let run : (key : List ℕ) → (ds : List Deed) × IsRun key mid ds = λ key. (let k = runs key old h before in acts_run key old mid k.0 event step.0 acts before l c p k.1) in
-    order_same mid new records.sessions.tales records.net (acts_order old mid event step.0 acts before run l c (acts_carried old mid event step.0 acts c) p (in_order old h before))
+    let run : (key : List ℕ) → (ds : List Transition) × IsRun key mid ds = λ key. (let k = runs key old h before in acts_run key old mid k.0 event step.0 acts before l c p k.1) in
+    order_same mid new records.sessions.traces records.net (acts_order old mid event step.0 acts before run l c (acts_carried old mid event step.0 acts c) p (in_order old h before))

@@ -14,15 +14,15 @@ use Rattle.gz_core.specs.declared.rows.Column.{Column}
 use Rattle.gz_core.specs.declared.rows.Column.TheVariants.{Open, Decided}
 use Rattle.gz_config.specs.declared.Config.{Config}
 use Rattle.gz_pick.specs.Evidences.{votes_for, decides, is_for, is_named}
-use Rattle.gz_round.specs.History.{Asked, Moment, Sent, Handed, GaveUp, Rested, GaveIn, is_row_request}
-use Rattle.gz_round.specs.declared.hearing.Seen.{Seen as SeenRow}
+use Rattle.gz_round.specs.History.{Asked, Action, Sent, Handed, GaveUp, Rested, GaveIn, is_row_request}
+use Rattle.gz_round.specs.declared.hearing.Seen.{Seen}
 use Rattle.gz_round.specs.Sites.{SiteNow, site_now, after, after_reply, is_to, seen_in, written_by, is_changed, passes, some_heard}
-use Rattle.gz_round.specs.Shown.{IsShown as IsShownTo, IsNext as IsNextTo}
+use Rattle.gz_round.specs.Shown.{IsShown, IsNext}
 use Rattle.gz_ledger.specs.Acceptors.{slot_votes}
-use Rattle.gz_ledger.specs.Histories.{Seen, IsIn, cast, IsShown}
-use Rattle.gz_ledger.specs.Guards.{IsNext}
-use Rattle.gz_ledger.specs.Deeds.{Store, Answered, rows_of}
-use Rattle.gz_laws.specs.Heard.{IsClean, entry_of, heard_of, SeenStands, MomentsStand}
+use Rattle.gz_ledger.specs.Histories.{RowSeen, IsIn, cast, IsShownByRows}
+use Rattle.gz_ledger.specs.Guards.{IsNextByRows}
+use Rattle.gz_ledger.specs.Transitions.{Store, Answered, rows_of}
+use Rattle.gz_laws.specs.Heard.{IsClean, seen_entry, heard_of, SeenStands, ActionsStand}
 
 -- a vote of a row from which nothing was collected is one of its slots
 vote_slot : (b : BallotAt) (x : Name) (o : Option Column) → is_for b x (slot_vote (slot_of o)) ≡ slot_votes (slot_of o) b x
@@ -47,7 +47,7 @@ decides_slot row v x e h = slots_open row v e ∙ decided_slot x (column_in row.
 
 -- whether the vote is among the rows, of one more that was heard
 entry_cast : (st : Store) (p : RowAt → Bool) (v : ℕ) (b : BallotAt) (x : Name) (f : (r : RowAt) → r.floor ≡ 0 → p r ≡ true → slot_votes (slots r v) b x ≡ true)
-    (a : Asked) (o : Option SeenRow) (es : List Seen) (s : ℕ) (rest : Bool) → SeenStands st a.site o → (rest ≡ true → cast es v b x s ≡ true) → ((passes p o && is_to a s) || rest) ≡ true → cast (entry_of a.site o es) v b x s ≡ true
+    (a : Asked) (o : Option Seen) (es : List RowSeen) (s : ℕ) (rest : Bool) → SeenStands st a.site o → (rest ≡ true → cast es v b x s ≡ true) → ((passes p o && is_to a s) || rest) ≡ true → cast (seen_entry a.site o es) v b x s ≡ true
 entry_cast st p v b x f a None es s rest stands more h = more h
 entry_cast st p v b x f a (Some seen) es s rest stands more h =
     elim (or_cases (p seen.row && is_to a s) rest h) [
@@ -58,7 +58,7 @@ entry_cast st p v b x f a (Some seen) es s rest stands more h =
       | inr e ↦ or_right ((a.site == s) && slot_votes (slots seen.row v) b x) (cast es v b x s) (more e)
     ]
 
-pub heard_cast : (st : Store) (p : RowAt → Bool) (v : ℕ) (b : BallotAt) (x : Name) → ((r : RowAt) → r.floor ≡ 0 → p r ≡ true → slot_votes (slots r v) b x ≡ true) → (ms : List Moment) (s : ℕ) → MomentsStand st ms → some_heard p ms s ≡ true → cast (heard_of ms) v b x s ≡ true
+pub heard_cast : (st : Store) (p : RowAt → Bool) (v : ℕ) (b : BallotAt) (x : Name) → ((r : RowAt) → r.floor ≡ 0 → p r ≡ true → slot_votes (slots r v) b x ≡ true) → (ms : List Action) (s : ℕ) → ActionsStand st ms → some_heard p ms s ≡ true → cast (heard_of ms) v b x s ≡ true
 heard_cast st p v b x f [] s stands h = cc
 heard_cast st p v b x f (Sent a ∷ ms) s stands h = heard_cast st p v b x f ms s stands.1 h
 heard_cast st p v b x f (Handed a reply ∷ ms) s stands h = entry_cast st p v b x f a (seen_in (written_by a.op) reply) (heard_of ms) s (some_heard p ms s) stands.0 (λ e. heard_cast st p v b x f ms s stands.1 e) h
@@ -67,9 +67,9 @@ heard_cast st p v b x f (Rested ∷ ms) s stands h = heard_cast st p v b x f ms 
 heard_cast st p v b x f (GaveIn ∷ ms) s stands h = heard_cast st p v b x f ms s stands.1 h
 
 -- a row that was heard and passes a test
-entry_found : (st : Store) (p : RowAt → Bool) (a : Asked) (o : Option SeenRow) (es : List Seen) (s : ℕ) (rest : Bool) → SeenStands st a.site o
-    → (rest ≡ true → (r : RowAt) × (IsClean r × ((p r ≡ true) × (let e : Seen = record { site = s; row = slots r } in IsIn e es)))) → ((passes p o && is_to a s) || rest) ≡ true
-    → (r : RowAt) × (IsClean r × ((p r ≡ true) × (let e : Seen = record { site = s; row = slots r } in IsIn e (entry_of a.site o es))))
+entry_found : (st : Store) (p : RowAt → Bool) (a : Asked) (o : Option Seen) (es : List RowSeen) (s : ℕ) (rest : Bool) → SeenStands st a.site o
+    → (rest ≡ true → (r : RowAt) × (IsClean r × ((p r ≡ true) × (let e : RowSeen = record { site = s; row = slots r } in IsIn e es)))) → ((passes p o && is_to a s) || rest) ≡ true
+    → (r : RowAt) × (IsClean r × ((p r ≡ true) × (let e : RowSeen = record { site = s; row = slots r } in IsIn e (seen_entry a.site o es))))
 entry_found st p a None es s rest stands more h = more h
 entry_found st p a (Some seen) es s rest stands more h =
     elim (or_cases (p seen.row && is_to a s) rest h) [
@@ -77,11 +77,11 @@ entry_found st p a (Some seen) es s rest stands more h =
           let k = and_parts (p seen.row) (is_to a s) e in
           let t = and_parts (is_row_request a.op) (a.site == s) k.1 in
           let n = eqb-true a.site s t.1 in
-          (seen.row, (stands.0, (k.0, inl (ap (λ q. let e : Seen = record { site = q; row = slots seen.row } in e) (sym n)))))
+          (seen.row, (stands.0, (k.0, inl (ap (λ q. let e : RowSeen = record { site = q; row = slots seen.row } in e) (sym n)))))
       | inr e ↦ let m = more e in (m.0, (m.1.0, (m.1.1.0, inr m.1.1.1)))
     ]
 
-pub heard_found : (st : Store) (p : RowAt → Bool) (ms : List Moment) (s : ℕ) → MomentsStand st ms → some_heard p ms s ≡ true → (r : RowAt) × (IsClean r × ((p r ≡ true) × (let e : Seen = record { site = s; row = slots r } in IsIn e (heard_of ms))))
+pub heard_found : (st : Store) (p : RowAt → Bool) (ms : List Action) (s : ℕ) → ActionsStand st ms → some_heard p ms s ≡ true → (r : RowAt) × (IsClean r × ((p r ≡ true) × (let e : RowSeen = record { site = s; row = slots r } in IsIn e (heard_of ms))))
 heard_found st p [] s stands h = cc
 heard_found st p (Sent a ∷ ms) s stands h = heard_found st p ms s stands.1 h
 heard_found st p (Handed a reply ∷ ms) s stands h = entry_found st p a (seen_in (written_by a.op) reply) (heard_of ms) s (some_heard p ms s) stands.0 (λ e. heard_found st p ms s stands.1 e) h
@@ -90,7 +90,7 @@ heard_found st p (Rested ∷ ms) s stands h = heard_found st p ms s stands.1 h
 heard_found st p (GaveIn ∷ ms) s stands h = heard_found st p ms s stands.1 h
 
 -- what is shown to a call
-pub shown_heard : (c : Config) (st : Store) (ms : List Moment) (v : ℕ) (x : Name) → MomentsStand st ms → IsShownTo c ms v x → IsShown c (heard_of ms) v x
+pub shown_heard : (c : Config) (st : Store) (ms : List Action) (v : ℕ) (x : Name) → ActionsStand st ms → IsShown c ms v x → IsShownByRows c (heard_of ms) v x
 shown_heard c st ms v x stands (inl k) =
     let more = count_weaker c.n (some_heard (λ r. votes_for k.0 x v (Some r)) ms) (cast (heard_of ms) v k.0 x) (λ s h. heard_cast st (λ r. votes_for k.0 x v (Some r)) v k.0 x (λ r e t. sym (votes_slot r v k.0 x e) ∙ t) ms s stands h) in
     let enough = k.1 in
@@ -100,17 +100,17 @@ shown_heard c st ms v x stands (inr k) =
     let g = heard_found st (λ r. decides x v (Some r)) ms f.0 stands f.2 in
     inr (record { entry = record { site = f.0; row = slots g.0 }; found = g.1.1.1; decided = decides_slot g.0 v x g.1.0.floor g.1.1.0 })
 
-pub next_heard : (c : Config) (st : Store) (ms : List Moment) (v : ℕ) → MomentsStand st ms → IsNextTo c ms v → IsNext c (heard_of ms) v
+pub next_heard : (c : Config) (st : Store) (ms : List Action) (v : ℕ) → ActionsStand st ms → IsNext c ms v → IsNextByRows c (heard_of ms) v
 next_heard c st ms v stands (inl e) = inl e
 next_heard c st ms v stands (inr k) = let e = k.2 in inr (k.0, omega (arith, e), k.1, shown_heard c st ms k.0 k.1 stands k.3)
 
-entry_known : (st : Store) (s : ℕ) (o : Option SeenRow) (es : List Seen) (e : Seen) → SeenStands st s o → (IsIn e es → IsIn e (rows_of st.replies)) → IsIn e (entry_of s o es) → IsIn e (rows_of st.replies)
+entry_known : (st : Store) (s : ℕ) (o : Option Seen) (es : List RowSeen) (e : RowSeen) → SeenStands st s o → (IsIn e es → IsIn e (rows_of st.replies)) → IsIn e (seen_entry s o es) → IsIn e (rows_of st.replies)
 entry_known st s None es e stands more h = more h
 entry_known st s (Some seen) es e stands more (inl q) = subst (λ k. IsIn k (rows_of st.replies)) (sym q) (rows_in st.replies (record { site = s; etag = seen.etag; row = slots seen.row }) stands.1)
 entry_known st s (Some seen) es e stands more (inr h) = more h
 
 -- what was heard was shown by the store
-pub heard_known : (st : Store) (ms : List Moment) (e : Seen) → MomentsStand st ms → IsIn e (heard_of ms) → IsIn e (rows_of st.replies)
+pub heard_known : (st : Store) (ms : List Action) (e : RowSeen) → ActionsStand st ms → IsIn e (heard_of ms) → IsIn e (rows_of st.replies)
 heard_known st [] e stands h = absurd h
 heard_known st (Sent a ∷ ms) e stands h = heard_known st ms e stands.1 h
 heard_known st (Handed a reply ∷ ms) e stands h = entry_known st a.site (seen_in (written_by a.op) reply) (heard_of ms) e stands.0 (λ k. heard_known st ms e stands.1 k) h
@@ -119,11 +119,11 @@ heard_known st (Rested ∷ ms) e stands h = heard_known st ms e stands.1 h
 heard_known st (GaveIn ∷ ms) e stands h = heard_known st ms e stands.1 h
 
 -- the last row of a site was shown by the store under its tag
-abbrev pub IsLastRow : Store → ℕ → Option SeenRow → Type 0
-IsLastRow st s o = (seen : SeenRow) → o ≡ Some seen → IsClean seen.row × (let r : Answered = record { site = s; etag = seen.etag; row = slots seen.row } in IsIn r st.replies)
+abbrev pub IsLastRow : Store → ℕ → Option Seen → Type 0
+IsLastRow st s o = (seen : Seen) → o ≡ Some seen → IsClean seen.row × (let r : Answered = record { site = s; etag = seen.etag; row = slots seen.row } in IsIn r st.replies)
 
-reply_last : (st : Store) (s : ℕ) (o : Option SeenRow) (changed : Bool) (now : SiteNow) → SeenStands st s o → IsLastRow st s now.row → IsLastRow st s (after_reply o changed now).row
-reply_last st s (Some seen) changed now stands last = λ k e. let q : seen ≡ k = cc in subst (λ (r : SeenRow). IsClean r.row × (let a : Answered = record { site = s; etag = r.etag; row = slots r.row } in IsIn a st.replies)) q stands
+reply_last : (st : Store) (s : ℕ) (o : Option Seen) (changed : Bool) (now : SiteNow) → SeenStands st s o → IsLastRow st s now.row → IsLastRow st s (after_reply o changed now).row
+reply_last st s (Some seen) changed now stands last = λ k e. let q : seen ≡ k = cc in subst (λ (r : Seen). IsClean r.row × (let a : Answered = record { site = s; etag = r.etag; row = slots r.row } in IsIn a st.replies)) q stands
 reply_last st s None true now stands last = last
 reply_last st s None false now stands last = last
 
@@ -134,7 +134,7 @@ chosen_last : (st : Store) (s : ℕ) (c : Bool) (now next : SiteNow) → (c ≡ 
 chosen_last st s true now next f last = f refl
 chosen_last st s false now next f last = last
 
-pub last_stands : (st : Store) (ms : List Moment) (s : ℕ) → MomentsStand st ms → IsLastRow st s (site_now ms s).row
+pub last_stands : (st : Store) (ms : List Action) (s : ℕ) → ActionsStand st ms → IsLastRow st s (site_now ms s).row
 last_stands st [] s stands = λ k e. cc
 last_stands st (Sent a ∷ ms) s stands = chosen_last st s (is_to a s) (site_now ms s) (after (Sent a) (site_now ms s)) (λ _. sent_last st s a (site_now ms s) (last_stands st ms s stands.1)) (last_stands st ms s stands.1)
 last_stands st (Handed a reply ∷ ms) s stands =
@@ -147,11 +147,11 @@ last_stands st (Rested ∷ ms) s stands = last_stands st ms s stands.1
 last_stands st (GaveIn ∷ ms) s stands = last_stands st ms s stands.1
 
 -- replies that a store keeps
-pub seen_more : (st su : Store) (s : ℕ) (o : Option SeenRow) → ((r : Answered) → IsIn r st.replies → IsIn r su.replies) → SeenStands st s o → SeenStands su s o
+pub seen_more : (st su : Store) (s : ℕ) (o : Option Seen) → ((r : Answered) → IsIn r st.replies → IsIn r su.replies) → SeenStands st s o → SeenStands su s o
 seen_more st su s None f h = tt
 seen_more st su s (Some seen) f h = (h.0, f (record { site = s; etag = seen.etag; row = slots seen.row }) h.1)
 
-pub stand_more : (st su : Store) (ms : List Moment) → ((r : Answered) → IsIn r st.replies → IsIn r su.replies) → MomentsStand st ms → MomentsStand su ms
+pub stand_more : (st su : Store) (ms : List Action) → ((r : Answered) → IsIn r st.replies → IsIn r su.replies) → ActionsStand st ms → ActionsStand su ms
 stand_more st su [] f stands = tt
 stand_more st su (Sent a ∷ ms) f stands = (tt, stand_more st su ms f stands.1)
 stand_more st su (Handed a reply ∷ ms) f stands = (seen_more st su a.site (seen_in (written_by a.op) reply) f stands.0, stand_more st su ms f stands.1)

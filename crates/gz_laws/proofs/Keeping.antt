@@ -7,27 +7,27 @@ use Rattle.gz_config.specs.declared.Config.{Config}
 use Rattle.gz_core.specs.declared.requests.Op.{Op}
 use Rattle.gz_core.specs.declared.requests.Op.TheVariants.{ReadRow, WriteRow}
 use Rattle.gz_core.specs.declared.requests.Reply.{Reply}
-use Rattle.gz_round.specs.History.{Asked, Moment, Sent, Handed, GaveUp, Rested, GaveIn, Caller, Tale}
+use Rattle.gz_round.specs.History.{Asked, Action, Sent, Handed, GaveUp, Rested, GaveIn, Caller, Trace}
 use Rattle.gz_round.specs.Sites.{SiteNow, site_now, seen_in, written_by, is_changed}
 use Rattle.gz_round.specs.Sending.{AreAllowed, MayAsk}
-use Rattle.gz_client.specs.Tales.{AreTold}
+use Rattle.gz_client.specs.Traces.{AllKeepRules}
 use Rattle.gz_ledger.specs.Histories.{Write, IsIn}
-use Rattle.gz_ledger.specs.Deeds.{Store, Asked as AskedOf, writes_of}
+use Rattle.gz_ledger.specs.Transitions.{Store, WriteSent, writes_of}
 use Rattle.gz_ledger.proofs.Stores.{writes_in}
-use Rattle.gz_laws.specs.Carried.{MomentCarried, MomentsCarried}
-use Rattle.gz_laws.specs.Heard.{SeenStands, MomentStands, MomentsStand, IsStepOf, SendsStep, SentStep, PastStep, Keeps, AskedHere}
+use Rattle.gz_laws.specs.Carried.{ActionCarried, ActionsCarried}
+use Rattle.gz_laws.specs.Heard.{SeenStands, ActionStands, ActionsStand, IsStepSent, SendsStep, SentStep, PastStep, Keeps, AskedHere}
 use Rattle.gz_laws.specs.Runs.{key_asked, RequestStands, IsSender, IsSentBy}
 use Rattle.gz_world.specs.States.{RequestAt, numbered}
 use Rattle.gz_laws.proofs.Carrying.{none_after, still_awaits, awaits_sent}
 use Rattle.gz_laws.proofs.Growing.{step_drawn}
 
 -- what a call asks is of its object
-pub asks_key : (c : Config) (w : Caller) (past : List Tale) (ms : List Moment) (now : SiteNow) (op : Op) → MayAsk c w past ms now op → key_asked op ≡ key_of w.call
+pub asks_key : (c : Config) (w : Caller) (past : List Trace) (ms : List Action) (now : SiteNow) (op : Op) → MayAsk c w past ms now op → key_asked op ≡ key_of w.call
 asks_key c w past ms now (ReadRow key) h = h.0
 asks_key c w past ms now (WriteRow key expect step row) h = h.0
 
 -- a request that a call awaits is of its object
-pub awaited_key : (c : Config) (w : Caller) (past : List Tale) (ms : List Moment) (s : ℕ) (a : Asked) → AreAllowed c w past ms → (site_now ms s).awaits ≡ Some a → key_asked a.op ≡ key_of w.call
+pub awaited_key : (c : Config) (w : Caller) (past : List Trace) (ms : List Action) (s : ℕ) (a : Asked) → AreAllowed c w past ms → (site_now ms s).awaits ≡ Some a → key_asked a.op ≡ key_of w.call
 awaited_key c w past [] s a allowed e = cc
 awaited_key c w past (Sent b ∷ ms) s a allowed e = elim (awaits_sent b ms s a e) [
   | inl same ↦ subst (λ (k : Asked). key_asked k.op ≡ key_of w.call) same (asks_key c w past ms (site_now ms b.site) b.op allowed.0.asks)
@@ -43,7 +43,7 @@ abbrev pub AllStand : List ℕ → List RequestAt → Store → Type 0
 AllStand key net st = (n : ℕ) (r : RequestAt) → numbered net n ≡ Some r → key_asked r.op ≡ key → RequestStands st r
 
 -- a reply of a request stands in the store
-pub handed_stands : (key : List ℕ) (net : List RequestAt) (st : Store) (name : Name) (a : Asked) (reply : Reply) → AllStand key net st → key_asked a.op ≡ key → MomentCarried net name (Handed a reply) → MomentStands st (Handed a reply)
+pub handed_stands : (key : List ℕ) (net : List RequestAt) (st : Store) (name : Name) (a : Asked) (reply : Reply) → AllStand key net st → key_asked a.op ≡ key → ActionCarried net name (Handed a reply) → ActionStands st (Handed a reply)
 handed_stands key net st name a reply all is h =
     let r = h.0 in
     let req = h.1.0 in
@@ -53,24 +53,24 @@ handed_stands key net st name a reply all is h =
     (subst (λ (s : ℕ). SeenStands st s (seen_in (written_by r.op) reply)) req.site_is (stands.replies has.place has.tick reply has.there))
 
 -- what a call of the object heard was shown by the store
-pub moments_stand : (key : List ℕ) (net : List RequestAt) (st : Store) (c : Config) (w : Caller) (past : List Tale) (ms : List Moment) → AllStand key net st → key_of w.call ≡ key → AreAllowed c w past ms → MomentsCarried net w.name ms → MomentsStand st ms
-moments_stand key net st c w past [] all is allowed h = tt
-moments_stand key net st c w past (Sent a ∷ ms) all is allowed h = (tt, moments_stand key net st c w past ms all is allowed.1 h.1)
-moments_stand key net st c w past (Handed a reply ∷ ms) all is allowed h =
-    (handed_stands key net st w.name a reply all (awaited_key c w past ms a.site a allowed.1 allowed.0 ∙ is) h.0, moments_stand key net st c w past ms all is allowed.1 h.1)
-moments_stand key net st c w past (GaveUp a ∷ ms) all is allowed h = (tt, moments_stand key net st c w past ms all is allowed.1 h.1)
-moments_stand key net st c w past (Rested ∷ ms) all is allowed h = (tt, moments_stand key net st c w past ms all is allowed.1 h.1)
-moments_stand key net st c w past (GaveIn ∷ ms) all is allowed h = (tt, moments_stand key net st c w past ms all is allowed.1 h.1)
+pub actions_stand : (key : List ℕ) (net : List RequestAt) (st : Store) (c : Config) (w : Caller) (past : List Trace) (ms : List Action) → AllStand key net st → key_of w.call ≡ key → AreAllowed c w past ms → ActionsCarried net w.name ms → ActionsStand st ms
+actions_stand key net st c w past [] all is allowed h = tt
+actions_stand key net st c w past (Sent a ∷ ms) all is allowed h = (tt, actions_stand key net st c w past ms all is allowed.1 h.1)
+actions_stand key net st c w past (Handed a reply ∷ ms) all is allowed h =
+    (handed_stands key net st w.name a reply all (awaited_key c w past ms a.site a allowed.1 allowed.0 ∙ is) h.0, actions_stand key net st c w past ms all is allowed.1 h.1)
+actions_stand key net st c w past (GaveUp a ∷ ms) all is allowed h = (tt, actions_stand key net st c w past ms all is allowed.1 h.1)
+actions_stand key net st c w past (Rested ∷ ms) all is allowed h = (tt, actions_stand key net st c w past ms all is allowed.1 h.1)
+actions_stand key net st c w past (GaveIn ∷ ms) all is allowed h = (tt, actions_stand key net st c w past ms all is allowed.1 h.1)
 
 -- the write of a request is the store's
-op_asked : (st : Store) (name : Name) (site : ℕ) (op : Op) (act : Act) → AskedHere name site op st → IsStepOf op act → (q : Write) × (IsIn q (writes_of st.asked) × ((q.call ≡ name) × (q.act ≡ act)))
+op_asked : (st : Store) (name : Name) (site : ℕ) (op : Op) (act : Act) → AskedHere name site op st → IsStepSent op act → (q : Write) × (IsIn q (writes_of st.asked) × ((q.call ≡ name) × (q.act ≡ act)))
 op_asked st name site (ReadRow key) act h is = absurd is
 op_asked st name site (WriteRow key expect step row) act h is =
     let e = h.1.0.1 in
-    (h.0.write, (writes_in st.asked h.0 h.1.1, (ap (λ (k : AskedOf). k.write.call) e, ap (λ (k : AskedOf). k.write.act) e ∙ is)))
+    (h.0.write, (writes_in st.asked h.0 h.1.1, (ap (λ (k : WriteSent). k.write.call) e, ap (λ (k : WriteSent). k.write.act) e ∙ is)))
 
 -- each write that a call of the object sent is the store's
-pub sent_asked : (key : List ℕ) (net : List RequestAt) (st : Store) (c : Config) (w : Caller) (past : List Tale) (ms : List Moment) (act : Act) → AllStand key net st → key_of w.call ≡ key → AreAllowed c w past ms → MomentsCarried net w.name ms → SentStep ms act
+pub sent_asked : (key : List ℕ) (net : List RequestAt) (st : Store) (c : Config) (w : Caller) (past : List Trace) (ms : List Action) (act : Act) → AllStand key net st → key_of w.call ≡ key → AreAllowed c w past ms → ActionsCarried net w.name ms → SentStep ms act
     → (q : Write) × (IsIn q (writes_of st.asked) × ((q.call ≡ w.name) × (q.act ≡ act)))
 sent_asked key net st c w past [] act all is allowed h sent = absurd sent
 sent_asked key net st c w past (Sent a ∷ ms) act all is allowed h (inl e) =
@@ -90,96 +90,96 @@ sent_asked key net st c w past (GaveIn ∷ ms) act all is allowed h (inl e) = ab
 sent_asked key net st c w past (GaveIn ∷ ms) act all is allowed h (inr e) = sent_asked key net st c w past ms act all is allowed.1 h.1 e
 
 -- the ballots that a call promised are of its session
-op_drawn : (c : Config) (w : Caller) (past : List Tale) (ms : List Moment) (now : SiteNow) (op : Op) (v : ℕ) (b : BallotAt) → MayAsk c w past ms now op → IsStepOf op (Promises v b) → b.session ≡ w.name.session
+op_drawn : (c : Config) (w : Caller) (past : List Trace) (ms : List Action) (now : SiteNow) (op : Op) (v : ℕ) (b : BallotAt) → MayAsk c w past ms now op → IsStepSent op (Promises v b) → b.session ≡ w.name.session
 op_drawn c w past ms now (ReadRow key) v b may is = absurd is
 op_drawn c w past ms now (WriteRow key expect step row) v b may is = step_drawn c w past ms step v b may.1.guard is
 
-moments_drawn : (c : Config) (w : Caller) (past : List Tale) (ms : List Moment) (v : ℕ) (b : BallotAt) → AreAllowed c w past ms → SentStep ms (Promises v b) → b.session ≡ w.name.session
-moments_drawn c w past [] v b allowed h = absurd h
-moments_drawn c w past (Sent a ∷ ms) v b allowed (inl h) = op_drawn c w past ms (site_now ms a.site) a.op v b allowed.0.asks h
-moments_drawn c w past (Sent a ∷ ms) v b allowed (inr h) = moments_drawn c w past ms v b allowed.1 h
-moments_drawn c w past (Handed a reply ∷ ms) v b allowed (inl h) = absurd h
-moments_drawn c w past (Handed a reply ∷ ms) v b allowed (inr h) = moments_drawn c w past ms v b allowed.1 h
-moments_drawn c w past (GaveUp a ∷ ms) v b allowed (inl h) = absurd h
-moments_drawn c w past (GaveUp a ∷ ms) v b allowed (inr h) = moments_drawn c w past ms v b allowed.1 h
-moments_drawn c w past (Rested ∷ ms) v b allowed (inl h) = absurd h
-moments_drawn c w past (Rested ∷ ms) v b allowed (inr h) = moments_drawn c w past ms v b allowed.1 h
-moments_drawn c w past (GaveIn ∷ ms) v b allowed (inl h) = absurd h
-moments_drawn c w past (GaveIn ∷ ms) v b allowed (inr h) = moments_drawn c w past ms v b allowed.1 h
+actions_drawn : (c : Config) (w : Caller) (past : List Trace) (ms : List Action) (v : ℕ) (b : BallotAt) → AreAllowed c w past ms → SentStep ms (Promises v b) → b.session ≡ w.name.session
+actions_drawn c w past [] v b allowed h = absurd h
+actions_drawn c w past (Sent a ∷ ms) v b allowed (inl h) = op_drawn c w past ms (site_now ms a.site) a.op v b allowed.0.asks h
+actions_drawn c w past (Sent a ∷ ms) v b allowed (inr h) = actions_drawn c w past ms v b allowed.1 h
+actions_drawn c w past (Handed a reply ∷ ms) v b allowed (inl h) = absurd h
+actions_drawn c w past (Handed a reply ∷ ms) v b allowed (inr h) = actions_drawn c w past ms v b allowed.1 h
+actions_drawn c w past (GaveUp a ∷ ms) v b allowed (inl h) = absurd h
+actions_drawn c w past (GaveUp a ∷ ms) v b allowed (inr h) = actions_drawn c w past ms v b allowed.1 h
+actions_drawn c w past (Rested ∷ ms) v b allowed (inl h) = absurd h
+actions_drawn c w past (Rested ∷ ms) v b allowed (inr h) = actions_drawn c w past ms v b allowed.1 h
+actions_drawn c w past (GaveIn ∷ ms) v b allowed (inl h) = absurd h
+actions_drawn c w past (GaveIn ∷ ms) v b allowed (inr h) = actions_drawn c w past ms v b allowed.1 h
 
-pub sent_drawn : (c : Config) (session : ℕ) (key : List ℕ) (name : Name) (v : ℕ) (b : BallotAt) (ts : List Tale) → AreTold c session ts → IsSentBy key name (Promises v b) ts → b.session ≡ name.session
+pub sent_drawn : (c : Config) (session : ℕ) (key : List ℕ) (name : Name) (v : ℕ) (b : BallotAt) (ts : List Trace) → AllKeepRules c session ts → IsSentBy key name (Promises v b) ts → b.session ≡ name.session
 sent_drawn c session key name v b [] told h = absurd h
-sent_drawn c session key name v b (t ∷ ts) told (inl h) = moments_drawn c t.caller ts t.moments v b told.0.allowed h.sent ∙ ap (λ (x : Name). x.session) h.name_is
+sent_drawn c session key name v b (t ∷ ts) told (inl h) = actions_drawn c t.caller ts t.actions v b told.0.allowed h.sent ∙ ap (λ (x : Name). x.session) h.name_is
 sent_drawn c session key name v b (t ∷ ts) told (inr h) = sent_drawn c session key name v b ts told.2 h
 
 -- the name of a call that sent a step counts no more than the calls of its session
-pub sent_most : (c : Config) (session : ℕ) (key : List ℕ) (name : Name) (act : Act) (ts : List Tale) → AreTold c session ts → IsSentBy key name act ts → name.seq ≤ length ts
+pub sent_most : (c : Config) (session : ℕ) (key : List ℕ) (name : Name) (act : Act) (ts : List Trace) → AllKeepRules c session ts → IsSentBy key name act ts → name.seq ≤ length ts
 sent_most c session key name act [] told h = absurd h
 sent_most c session key name act (t ∷ ts) told (inl h) = let q : name.seq ≡ length ts + 1 = ap (λ (x : Name). x.seq) (sym h.name_is ∙ told.1) in omega (arith, q)
 sent_most c session key name act (t ∷ ts) told (inr h) = let r = sent_most c session key name act ts told.2 h in omega (arith, r)
 
-pub sent_past : (key : List ℕ) (name : Name) (act : Act) (ts : List Tale) → IsSentBy key name act ts → PastStep ts act
+pub sent_past : (key : List ℕ) (name : Name) (act : Act) (ts : List Trace) → IsSentBy key name act ts → PastStep ts act
 sent_past key name act [] h = absurd h
 sent_past key name act (t ∷ ts) (inl h) = inl h.sent
 sent_past key name act (t ∷ ts) (inr h) = inr (sent_past key name act ts h)
 
 -- whose the writes of a store are
-abbrev pub AllSent : List ℕ → (ℕ → List Tale) → Store → Type 0
-AllSent key tales st = (q : Write) → IsIn q (writes_of st.asked) → IsSentBy key q.call q.act (tales q.call.session)
+abbrev pub AllSent : List ℕ → (ℕ → List Trace) → Store → Type 0
+AllSent key traces st = (q : Write) → IsIn q (writes_of st.asked) → IsSentBy key q.call q.act (traces q.call.session)
 
-pub all_drawn : (c : Config) (key : List ℕ) (tales : ℕ → List Tale) (st : Store) → ((n : ℕ) → AreTold c n (tales n)) → AllSent key tales st → (q : Write) (v : ℕ) (b : BallotAt) → IsIn q (writes_of st.asked) → q.act ≡ Promises v b → b.session ≡ q.call.session
-all_drawn c key tales st told sent q v b i is =
-    sent_drawn c q.call.session key q.call v b (tales q.call.session) (told q.call.session) (subst (λ a. IsSentBy key q.call a (tales q.call.session)) is (sent q i))
+pub all_drawn : (c : Config) (key : List ℕ) (traces : ℕ → List Trace) (st : Store) → ((n : ℕ) → AllKeepRules c n (traces n)) → AllSent key traces st → (q : Write) (v : ℕ) (b : BallotAt) → IsIn q (writes_of st.asked) → q.act ≡ Promises v b → b.session ≡ q.call.session
+all_drawn c key traces st told sent q v b i is =
+    sent_drawn c q.call.session key q.call v b (traces q.call.session) (told q.call.session) (subst (λ a. IsSentBy key q.call a (traces q.call.session)) is (sent q i))
 
--- a write of this session is among its tales
-pub here_sent : (key : List ℕ) (tales : ℕ → List Tale) (st : Store) (session : ℕ) (ts : List Tale) → AllSent key tales st → tales session ≡ ts → (q : Write) → IsIn q (writes_of st.asked) → q.call.session ≡ session → IsSentBy key q.call q.act ts
-here_sent key tales st session ts sent is q i same = subst (IsSentBy key q.call q.act) (ap tales same ∙ is) (sent q i)
+-- a write of this session is among its traces
+pub here_sent : (key : List ℕ) (traces : ℕ → List Trace) (st : Store) (session : ℕ) (ts : List Trace) → AllSent key traces st → traces session ≡ ts → (q : Write) → IsIn q (writes_of st.asked) → q.call.session ≡ session → IsSentBy key q.call q.act ts
+here_sent key traces st session ts sent is q i same = subst (IsSentBy key q.call q.act) (ap traces same ∙ is) (sent q i)
 
--- a write of the newest call is one that its tale sent
-pub own_sender : (c : Config) (key : List ℕ) (session : ℕ) (t : Tale) (ts : List Tale) (name : Name) (act : Act) → AreTold c session (t ∷ ts) → name ≡ t.caller.name → IsSentBy key name act (t ∷ ts) → IsSender key name act t
+-- a write of the newest call is one that its trace sent
+pub own_sender : (c : Config) (key : List ℕ) (session : ℕ) (t : Trace) (ts : List Trace) (name : Name) (act : Act) → AllKeepRules c session (t ∷ ts) → name ≡ t.caller.name → IsSentBy key name act (t ∷ ts) → IsSender key name act t
 own_sender c key session t ts name act told same (inl h) = h
 own_sender c key session t ts name act told same (inr h) =
     let most = sent_most c session key name act ts told.2 h in
     let q : name.seq ≡ length ts + 1 = ap (λ (x : Name). x.seq) (same ∙ told.1) in
     absurd (omega (arith, most, q))
 
-other_of : (key : List ℕ) (t : Tale) (ts : List Tale) (name : Name) (act : Act) → IsSentBy key name act (t ∷ ts) → (name ≡ t.caller.name) ⊎ PastStep ts act
+other_of : (key : List ℕ) (t : Trace) (ts : List Trace) (name : Name) (act : Act) → IsSentBy key name act (t ∷ ts) → (name ≡ t.caller.name) ⊎ PastStep ts act
 other_of key t ts name act (inl h) = inl (sym h.name_is)
 other_of key t ts name act (inr h) = inr (sent_past key name act ts h)
 
 -- what the store knows of the newest call of a session
-pub keeps_newest : (c : Config) (key : List ℕ) (net : List RequestAt) (tales : ℕ → List Tale) (st : Store) (session : ℕ) (t : Tale) (ts : List Tale) → ((n : ℕ) → AreTold c n (tales n)) → AllStand key net st → AllSent key tales st → tales session ≡ t ∷ ts → key_of t.caller.call ≡ key → MomentsCarried net t.caller.name t.moments
-    → Keeps t.caller.name ts t.moments st
-keeps_newest c key net tales st session t ts told all sent is here carried =
-    let mine : AreTold c session (t ∷ ts) = subst (AreTold c session) is (told session) in
+pub keeps_newest : (c : Config) (key : List ℕ) (net : List RequestAt) (traces : ℕ → List Trace) (st : Store) (session : ℕ) (t : Trace) (ts : List Trace) → ((n : ℕ) → AllKeepRules c n (traces n)) → AllStand key net st → AllSent key traces st → traces session ≡ t ∷ ts → key_of t.caller.call ≡ key → ActionsCarried net t.caller.name t.actions
+    → Keeps t.caller.name ts t.actions st
+keeps_newest c key net traces st session t ts told all sent is here carried =
+    let mine : AllKeepRules c session (t ∷ ts) = subst (AllKeepRules c session) is (told session) in
     let place : t.caller.name.session ≡ session = ap (λ (x : Name). x.session) mine.1 in
     record {
-      stands = moments_stand key net st c t.caller ts t.moments all here mine.0.allowed carried;
-      own = λ q i same. (own_sender c key session t ts q.call q.act mine same (here_sent key tales st session (t ∷ ts) sent is q i (ap (λ (x : Name). x.session) same ∙ place))).sent;
-      asked = λ act h. sent_asked key net st c t.caller ts t.moments act all here mine.0.allowed carried h;
-      drawn = all_drawn c key tales st told sent;
-      others = λ q i same. other_of key t ts q.call q.act (here_sent key tales st session (t ∷ ts) sent is q i (same ∙ place));
+      stands = actions_stand key net st c t.caller ts t.actions all here mine.0.allowed carried;
+      own = λ q i same. (own_sender c key session t ts q.call q.act mine same (here_sent key traces st session (t ∷ ts) sent is q i (ap (λ (x : Name). x.session) same ∙ place))).sent;
+      asked = λ act h. sent_asked key net st c t.caller ts t.actions act all here mine.0.allowed carried h;
+      drawn = all_drawn c key traces st told sent;
+      others = λ q i same. other_of key t ts q.call q.act (here_sent key traces st session (t ∷ ts) sent is q i (same ∙ place));
     }
 
 -- and of a call that begins
-pub keeps_fresh : (c : Config) (key : List ℕ) (tales : ℕ → List Tale) (st : Store) (session : ℕ) (name : Name) → ((n : ℕ) → AreTold c n (tales n)) → AllSent key tales st → name ≡ record { session = session; seq = length (tales session) + 1 } → Keeps name (tales session) [] st
-keeps_fresh c key tales st session name told sent is =
+pub keeps_fresh : (c : Config) (key : List ℕ) (traces : ℕ → List Trace) (st : Store) (session : ℕ) (name : Name) → ((n : ℕ) → AllKeepRules c n (traces n)) → AllSent key traces st → name ≡ record { session = session; seq = length (traces session) + 1 } → Keeps name (traces session) [] st
+keeps_fresh c key traces st session name told sent is =
     let place : name.session ≡ session = ap (λ (x : Name). x.session) is in
-    let count : name.seq ≡ length (tales session) + 1 = ap (λ (x : Name). x.seq) is in
+    let count : name.seq ≡ length (traces session) + 1 = ap (λ (x : Name). x.seq) is in
     record {
       stands = tt;
       own = λ q i same.
-          let most = sent_most c session key q.call q.act (tales session) (told session) (here_sent key tales st session (tales session) sent refl q i (ap (λ (x : Name). x.session) same ∙ place)) in
+          let most = sent_most c session key q.call q.act (traces session) (told session) (here_sent key traces st session (traces session) sent refl q i (ap (λ (x : Name). x.session) same ∙ place)) in
           let seq : q.call.seq ≡ name.seq = ap (λ (x : Name). x.seq) same in
           absurd (omega (arith, most, seq, count));
       asked = λ act h. absurd h;
-      drawn = all_drawn c key tales st told sent;
-      others = λ q i same. inr (sent_past key q.call q.act (tales session) (here_sent key tales st session (tales session) sent refl q i (same ∙ place)));
+      drawn = all_drawn c key traces st told sent;
+      others = λ q i same. inr (sent_past key q.call q.act (traces session) (here_sent key traces st session (traces session) sent refl q i (same ∙ place)));
     }
 
--- one more moment that sends nothing
-pub keeps_moment : (name : Name) (past : List Tale) (m : Moment) (ms : List Moment) (st : Store) → MomentStands st m → ((act : Act) → SendsStep m act → ⊥) → Keeps name past ms st → Keeps name past (m ∷ ms) st
-keeps_moment name past m ms st stands none k = record {
+-- one more action that sends nothing
+pub keeps_action : (name : Name) (past : List Trace) (m : Action) (ms : List Action) (st : Store) → ActionStands st m → ((act : Act) → SendsStep m act → ⊥) → Keeps name past ms st → Keeps name past (m ∷ ms) st
+keeps_action name past m ms st stands none k = record {
   stands = (stands, k.stands);
   own = λ q i same. inr (k.own q i same);
   asked = λ act h. elim h [ inl e ↦ absurd (none act e) | inr e ↦ k.asked act e ];

@@ -3,22 +3,22 @@ use Rattle.std.proofs.Common.{◌≡◌, ◌≢◌, ℕ, ◌⊎◌, inl, inr, Li
 use Rattle.std.proofs.lemmas.Bool.{cases_eq}
 use Rattle.std.specs.Prelude.{Option, if◌then◌else◌}
 use Rattle.gz_core.specs.Slots.{slots}
-use Rattle.gz_round.specs.declared.hearing.Seen.{Seen as SeenRow}
-use Rattle.gz_round.specs.History.{Asked, Moment, Sent, Handed, GaveUp, Rested, GaveIn}
+use Rattle.gz_round.specs.declared.hearing.Seen.{Seen}
+use Rattle.gz_round.specs.History.{Asked, Action, Sent, Handed, GaveUp, Rested, GaveIn}
 use Rattle.gz_round.specs.Sites.{SiteNow, site_now, after, after_reply, is_to, seen_in, written_by, is_changed}
-use Rattle.gz_ledger.specs.Histories.{Seen, IsIn}
+use Rattle.gz_ledger.specs.Histories.{RowSeen, IsIn}
 use Rattle.gz_ledger.proofs.Follows.{Follows, follows_refl}
-use Rattle.gz_laws.specs.Heard.{entry_of, heard_of}
+use Rattle.gz_laws.specs.Heard.{seen_entry, heard_of}
 use Rattle.gz_laws.proofs.HeardOrder.{EntryFollows, HeardInOrder, to_here, to_other}
 use Rattle.gz_laws.proofs.Overtaking.{row_sent}
 
 -- a row of a site
-abbrev pub entry_at : ℕ → SeenRow → Seen
+abbrev pub entry_at : ℕ → Seen → RowSeen
 entry_at s seen = record { site = s; row = slots seen.row }
 
 -- the last row of a site is among these, and goes forward from another one
-abbrev pub IsLastOf : Option SeenRow → List Seen → ℕ → Seen → Type 0
-IsLastOf last es s e = (seen : SeenRow) × ((last ≡ Some seen) × (IsIn (entry_at s seen) es × Follows e.row (slots seen.row)))
+abbrev pub IsLastOf : Option Seen → List RowSeen → ℕ → RowSeen → Type 0
+IsLastOf last es s e = (seen : Seen) × ((last ≡ Some seen) × (IsIn (entry_at s seen) es × Follows e.row (slots seen.row)))
 
 -- a reply without a row leaves the last one
 none_row : (b changed : Bool) (now : SiteNow) → (if b then after_reply None changed now else now).row ≡ now.row
@@ -29,16 +29,16 @@ none_row false changed now = refl
 if_same : (b c : Bool) (x y : SiteNow) → b ≡ c → (if b then x else y).row ≡ (if c then x else y).row
 if_same b c x y e = ap (λ t. (if t then x else y).row) e
 
-same_entry : (a : Asked) (s : ℕ) (x : SeenRow) → a.site ≡ s → entry_at s x ≡ entry_at a.site x
+same_entry : (a : Asked) (s : ℕ) (x : Seen) → a.site ≡ s → entry_at s x ≡ entry_at a.site x
 same_entry a s x same = ap (λ k. entry_at k x) (sym same)
 
-handed_last : (a : Asked) (changed : Bool) (now : SiteNow) (es : List Seen) (s : ℕ) (e : Seen) (o : Option SeenRow) → EntryFollows es a.site o → IsIn e (entry_of a.site o es) → e.site ≡ s → (IsIn e es → IsLastOf now.row es s e) → IsLastOf (if is_to a s then after_reply o changed now else now).row (entry_of a.site o es) s e
+handed_last : (a : Asked) (changed : Bool) (now : SiteNow) (es : List RowSeen) (s : ℕ) (e : RowSeen) (o : Option Seen) → EntryFollows es a.site o → IsIn e (seen_entry a.site o es) → e.site ≡ s → (IsIn e es → IsLastOf now.row es s e) → IsLastOf (if is_to a s then after_reply o changed now else now).row (seen_entry a.site o es) s e
 handed_last a changed now es s e None order i at before =
     let k = before i in
     (k.0, (none_row (is_to a s) changed now ∙ k.1.0, k.1.1))
 handed_last a changed now es s e (Some x) order (inl same) at before =
-    let here : a.site ≡ s = ap (λ (q : Seen). q.site) (sym same) ∙ at in
-    (x, (if_same (is_to a s) true (after_reply (Some x) changed now) now (to_here a s here), (inl (same_entry a s x here), subst (λ (q : Seen). Follows q.row (slots x.row)) (sym same) (follows_refl (slots x.row)))))
+    let here : a.site ≡ s = ap (λ (q : RowSeen). q.site) (sym same) ∙ at in
+    (x, (if_same (is_to a s) true (after_reply (Some x) changed now) now (to_here a s here), (inl (same_entry a s x here), subst (λ (q : RowSeen). Follows q.row (slots x.row)) (sym same) (follows_refl (slots x.row)))))
 handed_last a changed now es s e (Some x) order (inr i) at before = elim (cases_eq a.site s) [
   | inl here ↦ (x, (if_same (is_to a s) true (after_reply (Some x) changed now) now (to_here a s here), (inl (same_entry a s x here), order e i (at ∙ sym here))))
   | inr apart ↦ (let k = before i in (k.0, (if_same (is_to a s) false (after_reply (Some x) changed now) now (to_other a s apart) ∙ k.1.0, (inr k.1.1.0, k.1.1.1))))
@@ -48,7 +48,7 @@ left_row : (b : Bool) (now next : SiteNow) → next.row ≡ now.row → (if b th
 left_row true now next e = e
 left_row false now next e = refl
 
-pub last_from : (ms : List Moment) (s : ℕ) (e : Seen) → HeardInOrder ms → IsIn e (heard_of ms) → e.site ≡ s → IsLastOf (site_now ms s).row (heard_of ms) s e
+pub last_from : (ms : List Action) (s : ℕ) (e : RowSeen) → HeardInOrder ms → IsIn e (heard_of ms) → e.site ≡ s → IsLastOf (site_now ms s).row (heard_of ms) s e
 last_from [] s e order i at = absurd i
 last_from (Sent a ∷ ms) s e order i at = let k = last_from ms s e order i at in (k.0, (row_sent a ms s ∙ k.1.0, k.1.1))
 last_from (Handed a reply ∷ ms) s e order i at = handed_last a (is_changed reply) (site_now ms s) (heard_of ms) s e (seen_in (written_by a.op) reply) order.0 i at (λ j. last_from ms s e order.1 j at)
@@ -57,7 +57,7 @@ last_from (Rested ∷ ms) s e order i at = last_from ms s e order i at
 last_from (GaveIn ∷ ms) s e order i at = last_from ms s e order i at
 
 -- what was heard earlier was heard in order
-pub order_tail : (m : Moment) (ms : List Moment) → HeardInOrder (m ∷ ms) → HeardInOrder ms
+pub order_tail : (m : Action) (ms : List Action) → HeardInOrder (m ∷ ms) → HeardInOrder ms
 order_tail (Sent a) ms h = h
 order_tail (Handed a reply) ms h = h.1
 order_tail (GaveUp a) ms h = h

@@ -16,22 +16,22 @@ use Rattle.gz_core.specs.declared.calls.Answer.TheVariants.{Ok, Bytes, Gone, Abs
 use Rattle.gz_core.specs.declared.calls.Call.{Call}
 use Rattle.gz_core.specs.declared.calls.Call.TheVariants.{Put, Delete, Get}
 use Rattle.gz_config.specs.declared.Config.{Config}
-use Rattle.gz_round.specs.History.{Moment, Caller, Tale}
+use Rattle.gz_round.specs.History.{Action, Caller, Trace}
 use Rattle.gz_round.specs.Sent.{vote_by, of_sent, passes_sent, voted, voted_at}
-use Rattle.gz_client.specs.Tales.{IsAnswered, AreTold}
+use Rattle.gz_client.specs.Traces.{IsAnswered, AllKeepRules}
 use Rattle.gz_history.specs.Answers.{shows, names, read_from, bytes_read, bytes_written, IsWrite, IsPut, IsDelete, Writes, MayTakeEffect}
 use Rattle.gz_history.specs.Legal.{IsBefore, IsBeforeEnd, Agree, TakeEffectOnce, ReadsAWrite, ReturnWritten, IsLegal}
 use Rattle.gz_history.specs.declared.record.CallRec.{CallRec}
-use Rattle.gz_ledger.specs.Histories.{Seen, IsIn, IsShown, VotesFor}
-use Rattle.gz_ledger.specs.Deeds.{Deed, Reads, Begins, Written, Failed, Elsewhere, AreDeeds, seen_after}
+use Rattle.gz_ledger.specs.Histories.{RowSeen, IsIn, IsShownByRows, VotesFor}
+use Rattle.gz_ledger.specs.Transitions.{Transition, Reads, Begins, Written, Failed, Elsewhere, AreTransitions, seen_after}
 use Rattle.gz_ledger.proofs.Shown.{shown_more}
-use Rattle.gz_ledger.proofs.Stores.{store_agreed, early_deeds}
+use Rattle.gz_ledger.proofs.Stores.{store_agreed, early_transitions}
 use Rattle.gz_laws.specs.Heard.{unused}
-use Rattle.gz_laws.specs.Carried.{MomentsCarried, AreCarried}
-use Rattle.gz_laws.specs.Listed.{IsTaleOf, IsAmong, AreListed}
+use Rattle.gz_laws.specs.Carried.{ActionsCarried, AreCarried}
+use Rattle.gz_laws.specs.Listed.{IsTraceOf, IsAmong, AreCallsListed}
 use Rattle.gz_laws.specs.Placed.{ArePlaced}
 use Rattle.gz_world.specs.Reached.{IsReached, AllTell}
-use Rattle.gz_laws.specs.Recorded.{IsNamedIn, TalesRecorded, AreRecorded}
+use Rattle.gz_laws.specs.Recorded.{IsNamedIn, TracesRecorded, AreRecorded}
 use Rattle.gz_laws.specs.Valued.{IsGiven, AreValued}
 use Rattle.gz_laws.specs.Runs.{IsSender, IsSentBy, IsRun}
 use Rattle.gz_world.specs.States.{State}
@@ -39,7 +39,7 @@ use Rattle.gz_laws.proofs.Agreeing.{agreed, named_shown, shown_positive, no_writ
 use Rattle.gz_laws.proofs.Keeping.{sent_most}
 use Rattle.gz_laws.proofs.Listing.{among_name}
 use Rattle.gz_world.proofs.Places.{get_below}
-use Rattle.gz_laws.proofs.RunAnswers.{call_tale, call_told}
+use Rattle.gz_laws.proofs.RunAnswers.{call_trace, call_told}
 use Rattle.gz_laws.proofs.Sending.{sent_votes, own_named}
 use Rattle.gz_laws.proofs.Carrying.{carried}
 use Rattle.gz_laws.proofs.Listing.{listed}
@@ -56,58 +56,58 @@ get_contains : {A : Type 0} (xs : List A) (i : ℕ) (x : A) → slice_get xs i �
 get_contains xs i x h = (i, get_below xs i x h, get_or_from_slice_get xs i x x h)
 
 -- what is known of a world and of one of its objects
-pub record IsKnownRun (key : List ℕ) (s : State) (ds : List Deed) : Type 0 where
+pub record IsKnownRun (key : List ℕ) (s : State) (ds : List Transition) : Type 0 where
   pub run : IsRun key s ds
-  pub listed : AreListed s
+  pub listed : AreCallsListed s
   pub carries : AreCarried s
   pub placed : ArePlaced s
   pub recorded : AreRecorded s
   pub valued : AreValued s
 
-pub agree : (key : List ℕ) (s : State) (ds : List Deed) (i j : ℕ) (a b : CallRec) → IsKnownRun key s ds → slice_get s.calls i ≡ Some a → slice_get s.calls j ≡ Some b → key_of a.call ≡ key → key_of b.call ≡ key → Agree a b
+pub agree : (key : List ℕ) (s : State) (ds : List Transition) (i j : ℕ) (a b : CallRec) → IsKnownRun key s ds → slice_get s.calls i ≡ Some a → slice_get s.calls j ≡ Some b → key_of a.call ≡ key → key_of b.call ≡ key → Agree a b
 agree key s ds i j a b k ga gb ka kb = λ v x y sa sb na nb.
-    let ta = call_told key s ds a v (call_tale key s ds i a k.run k.listed k.carries ga ka) sa in
-    let tb = call_told key s ds b v (call_tale key s ds j b k.run k.listed k.carries gb kb) sb in
+    let ta = call_told key s ds a v (call_trace key s ds i a k.run k.listed k.carries ga ka) sa in
+    let tb = call_told key s ds b v (call_trace key s ds j b k.run k.listed k.carries gb kb) sb in
     (agreed key s ds k.placed k.run).one v x y (named_shown s.cfg ds a v x ta na) (named_shown s.cfg ds b v y tb nb)
 
-pub take_effect_once : (key : List ℕ) (s : State) (ds : List Deed) (i j : ℕ) (a b : CallRec) → IsKnownRun key s ds → slice_get s.calls i ≡ Some a → slice_get s.calls j ≡ Some b → key_of a.call ≡ key → key_of b.call ≡ key → TakeEffectOnce a b
+pub take_effect_once : (key : List ℕ) (s : State) (ds : List Transition) (i j : ℕ) (a b : CallRec) → IsKnownRun key s ds → slice_get s.calls i ≡ Some a → slice_get s.calls j ≡ Some b → key_of a.call ≡ key → key_of b.call ≡ key → TakeEffectOnce a b
 take_effect_once key s ds i j a b k ga gb ka kb = λ x v w na nb sa sb.
-    let ta = call_told key s ds a v (call_tale key s ds i a k.run k.listed k.carries ga ka) sa in
-    let tb = call_told key s ds b w (call_tale key s ds j b k.run k.listed k.carries gb kb) sb in
+    let ta = call_told key s ds a v (call_trace key s ds i a k.run k.listed k.carries ga ka) sa in
+    let tb = call_told key s ds b w (call_trace key s ds j b k.run k.listed k.carries gb kb) sb in
     (agreed key s ds k.placed k.run).once v w x (named_shown s.cfg ds a v x ta na) (named_shown s.cfg ds b w x tb nb)
 
 -- the record of the call that sent a write
-sender_record : (calls : List CallRec) (key : List ℕ) (name : Name) (act : Act) (ts : List Tale) → TalesRecorded calls ts → IsSentBy key name act ts → IsNamedIn calls name
+sender_record : (calls : List CallRec) (key : List ℕ) (name : Name) (act : Act) (ts : List Trace) → TracesRecorded calls ts → IsSentBy key name act ts → IsNamedIn calls name
 sender_record calls key name act [] recorded h = absurd h
 sender_record calls key name act (t ∷ ts) recorded (inl h) = (recorded.0.0, recorded.0.1, recorded.0.2, recorded.0.3 ∙ h.name_is)
 sender_record calls key name act (t ∷ ts) recorded (inr h) = sender_record calls key name act ts recorded.1 h
 
--- and its tale
+-- and its trace
 record IsSenderOf (c : Config) (key : List ℕ) (call : CallRec) (act : Act) : Type 0 where
-  pub past : List Tale
-  pub tale : Tale
-  pub is : IsTaleOf c call past tale
-  pub sender : IsSender key call.name act tale
+  pub past : List Trace
+  pub trace : Trace
+  pub is : IsTraceOf c call past trace
+  pub sender : IsSender key call.name act trace
 
-sender_tale : (c : Config) (session : ℕ) (key : List ℕ) (call : CallRec) (act : Act) (ts : List Tale) → AreTold c session ts → IsAmong c call ts → IsSentBy key call.name act ts → IsSenderOf c key call act
-sender_tale c session key call act [] told among h = absurd h
-sender_tale c session key call act (t ∷ ts) told (inl e) (inl h) = record { past = ts; tale = t; is = e; sender = h }
-sender_tale c session key call act (t ∷ ts) told (inl e) (inr h) =
+sender_trace : (c : Config) (session : ℕ) (key : List ℕ) (call : CallRec) (act : Act) (ts : List Trace) → AllKeepRules c session ts → IsAmong c call ts → IsSentBy key call.name act ts → IsSenderOf c key call act
+sender_trace c session key call act [] told among h = absurd h
+sender_trace c session key call act (t ∷ ts) told (inl e) (inl h) = record { past = ts; trace = t; is = e; sender = h }
+sender_trace c session key call act (t ∷ ts) told (inl e) (inr h) =
     let most = sent_most c session key call.name act ts told.2 h in
     let seq : call.name.seq ≡ length ts + 1 = ap (λ (x : Name). x.seq) (sym (ap (λ (w : Caller). w.name) e.caller) ∙ told.1) in
     absurd (omega (arith, most, seq))
-sender_tale c session key call act (t ∷ ts) told (inr e) (inl h) =
+sender_trace c session key call act (t ∷ ts) told (inr e) (inl h) =
     let most = (among_name c session call ts told.2 e).1 in
     let seq : call.name.seq ≡ length ts + 1 = ap (λ (x : Name). x.seq) (sym h.name_is ∙ told.1) in
     absurd (omega (arith, most, seq))
-sender_tale c session key call act (t ∷ ts) told (inr e) (inr h) = sender_tale c session key call act ts told.2 e h
+sender_trace c session key call act (t ∷ ts) told (inr e) (inr h) = sender_trace c session key call act ts told.2 e h
 
 -- a call that voted for its own value at a version voted for it
 any_vote : (o : Option ℕ) (u : ℕ) → passes_sent (λ q. q == u) o ≡ true → passes_sent (λ (q : ℕ). true) o ≡ true
 any_vote None u h = cc
 any_vote (Some q) u h = refl
 
-voted_some : (x : Name) (ms : List Moment) (u : ℕ) → voted_at x ms u ≡ true → voted x ms ≡ true
+voted_some : (x : Name) (ms : List Action) (u : ℕ) → voted_at x ms u ≡ true → voted x ms ≡ true
 voted_some x [] u h = cc
 voted_some x (m ∷ ms) u h = elim (or_cases (passes_sent (λ q. q == u) (of_sent (vote_by x) m)) (voted_at x ms u) h) [
   | inl e ↦ or_left (passes_sent (λ (q : ℕ). true) (of_sent (vote_by x) m)) (voted x ms) (any_vote (of_sent (vote_by x) m) u e)
@@ -115,7 +115,7 @@ voted_some x (m ∷ ms) u h = elim (or_cases (passes_sent (λ q. q == u) (of_sen
 ]
 
 -- and does not answer that it took no effect
-effect_of : (c : Config) (t : Tale) (answer : Option Answer) → IsAnswered c t answer → voted t.caller.name t.moments ≡ true → MayTakeEffect answer
+effect_of : (c : Config) (t : Trace) (answer : Option Answer) → IsAnswered c t answer → voted t.caller.name t.actions ≡ true → MayTakeEffect answer
 effect_of c t None h v = tt
 effect_of c t (Some (Ok version)) h v = tt
 effect_of c t (Some (Bytes version name bytes)) h v = tt
@@ -125,8 +125,8 @@ effect_of c t (Some (NoQuorum phase heard)) h v = let bad : true ≡ false = sym
 effect_of c t (Some (Contended met)) h v = let bad : true ≡ false = sym v ∙ h.0 in cc
 effect_of c t (Some (Unsure why)) h v = tt
 
--- the rows that deeds showed before are among those that they showed later
-early_seen : (late early : List Deed) (e : Seen) → IsIn e (seen_after unused early) → IsIn e (seen_after unused (late ++ early))
+-- the rows that transitions showed before are among those that they showed later
+early_seen : (late early : List Transition) (e : RowSeen) → IsIn e (seen_after unused early) → IsIn e (seen_after unused (late ++ early))
 early_seen [] early e h = h
 early_seen (Reads s ∷ late) early e h = inr (early_seen late early e h)
 early_seen (Begins heard a ∷ late) early e h = early_seen late early e h
@@ -148,19 +148,19 @@ own_tomb name y (Put key bytes) e = cc
 own_tomb name y (Delete key) e = tt
 own_tomb name y (Get key) e = cc
 
--- what the answer of a call that reads tells: a value that was heard, and so what a call of that value writes
-pub record IsReading (c : Config) (t : Tale) (answer : Option Answer) (x : Name) : Type 0 where
+-- what the answer of a call that reads shows: a value that was heard, and so what a call of that value writes
+pub record IsReading (c : Config) (t : Trace) (answer : Option Answer) (x : Name) : Type 0 where
   pub version : ℕ
   pub value : Value
   pub shows_it : shows answer ≡ Some version
   pub names_it : (own : Name) → names own answer ≡ Some x
   pub reads : own_value t.caller.name t.caller.call ≡ None
   pub named : name_of value ≡ x
-  pub heard : IsValueHeard t.moments version value
+  pub heard : IsValueHeard t.actions version value
   pub writes : (name : Name) (call : Call) → own_value name call ≡ Some value → Writes answer call
   pub written : (name : Name) (call : Call) (bytes : List ℕ) → own_value name call ≡ Some value → bytes_read answer ≡ Some bytes → bytes_written call ≡ Some bytes
 
-pub reading : (c : Config) (t : Tale) (answer : Option Answer) (x : Name) → IsAnswered c t answer → read_from answer ≡ Some x → IsReading c t answer x
+pub reading : (c : Config) (t : Trace) (answer : Option Answer) (x : Name) → IsAnswered c t answer → read_from answer ≡ Some x → IsReading c t answer x
 reading c t None x h e = cc
 reading c t (Some (Ok version)) x h e = cc
 reading c t (Some (Bytes version name bytes)) x h e =
@@ -199,23 +199,23 @@ same_call : (xs : List CallRec) (i j : ℕ) (a b : CallRec) → i ≡ j → slic
 same_call xs i j a b at h k = let both : Some a ≡ Some b = sym h ∙ ap (slice_get xs) at ∙ k in cc
 
 -- a call whose value was shown to one that had ended had begun before that end
-not_after : (key : List ℕ) (s : State) (ds : List Deed) (i j v : ℕ) (a b : CallRec) (x : Name) → IsKnownRun key s ds → slice_get s.calls i ≡ Some a → slice_get s.calls j ≡ Some b → key_of a.call ≡ key → key_of b.call ≡ key
-    → shows a.answer ≡ Some v → IsShown s.cfg (seen_after unused ds) v x → b.name ≡ x → IsBefore a.end b.begin → ⊥
+not_after : (key : List ℕ) (s : State) (ds : List Transition) (i j v : ℕ) (a b : CallRec) (x : Name) → IsKnownRun key s ds → slice_get s.calls i ≡ Some a → slice_get s.calls j ≡ Some b → key_of a.call ≡ key → key_of b.call ≡ key
+    → shows a.answer ≡ Some v → IsShownByRows s.cfg (seen_after unused ds) v x → b.name ≡ x → IsBefore a.end b.begin → ⊥
 not_after key s ds i j v a b x k ga gb ka kb shows_it shown name before =
     let since = k.run.calls j b gb kb in
     let early = since.early in
     let late = since.late in
     elim (since.ended i v a ga ka before shows_it) [
       | inl z ↦ (let positive = shown_positive key s ds v x k.listed k.placed k.run shown in omega (arith, z, positive))
-      | inr h ↦ (let more : IsShown s.cfg (seen_after unused (late ++ early)) v h.0 = shown_more s.cfg (seen_after unused early) (seen_after unused (late ++ early)) v h.0 (early_seen late early) h.1 in
-          let same : h.0 ≡ x = (agreed key s ds k.placed k.run).one v h.0 x (subst (λ (xs : List Deed). IsShown s.cfg (seen_after unused xs) v h.0) (sym since.split) more) shown in
-          let before = early_deeds s.cfg unused late early (subst (λ xs. AreDeeds s.cfg unused xs) since.split k.run.deeds) in
+      | inr h ↦ (let more : IsShownByRows s.cfg (seen_after unused (late ++ early)) v h.0 = shown_more s.cfg (seen_after unused early) (seen_after unused (late ++ early)) v h.0 (early_seen late early) h.1 in
+          let same : h.0 ≡ x = (agreed key s ds k.placed k.run).one v h.0 x (subst (λ (xs : List Transition). IsShownByRows s.cfg (seen_after unused xs) v h.0) (sym since.split) more) shown in
+          let before = early_transitions s.cfg unused late early (subst (λ xs. AreTransitions s.cfg unused xs) since.split k.run.transitions) in
           let p = ((store_agreed s.cfg unused early k.placed.config.quorums before).chosen v h.0 h.1).1 in
           since.unsent p.write p.found (p.own ∙ same ∙ sym name))
     ]
 
-began_before : (key : List ℕ) (s : State) (ds : List Deed) (i j v : ℕ) (a b : CallRec) (x own : Name) (o : Option ℕ) → IsKnownRun key s ds → slice_get s.calls i ≡ Some a → slice_get s.calls j ≡ Some b → key_of a.call ≡ key → key_of b.call ≡ key
-    → shows a.answer ≡ Some v → IsShown s.cfg (seen_after unused ds) v x → b.name ≡ x → own_value own a.call ≡ None → IsWrite b.call → a.end ≡ o → IsBeforeEnd b.begin o
+began_before : (key : List ℕ) (s : State) (ds : List Transition) (i j v : ℕ) (a b : CallRec) (x own : Name) (o : Option ℕ) → IsKnownRun key s ds → slice_get s.calls i ≡ Some a → slice_get s.calls j ≡ Some b → key_of a.call ≡ key → key_of b.call ≡ key
+    → shows a.answer ≡ Some v → IsShownByRows s.cfg (seen_after unused ds) v x → b.name ≡ x → own_value own a.call ≡ None → IsWrite b.call → a.end ≡ o → IsBeforeEnd b.begin o
 began_before key s ds i j v a b x own None k ga gb ka kb shows_it shown name reads write e = tt
 began_before key s ds i j v a b x own (Some end) k ga gb ka kb shows_it shown name reads write e = elim (cases_lt b.begin end) [
   | inl l ↦ l
@@ -230,35 +230,35 @@ began_before key s ds i j v a b x own (Some end) k ga gb ka kb shows_it shown na
     below m n le ne = grind arith
 
 -- the value that a call read is the own one of the call that it names
-own_read : (s : State) (t : Tale) (answer : Option Answer) (x : Name) (j : ℕ) (b : CallRec) → AreListed s → AreValued s → MomentsCarried s.net t.caller.name t.moments → (r : IsReading s.cfg t answer x) → slice_get s.calls j ≡ Some b → b.name ≡ x → own_value b.name b.call ≡ Some r.value
+own_read : (s : State) (t : Trace) (answer : Option Answer) (x : Name) (j : ℕ) (b : CallRec) → AreCallsListed s → AreValued s → ActionsCarried s.net t.caller.name t.actions → (r : IsReading s.cfg t answer x) → slice_get s.calls j ≡ Some b → b.name ≡ x → own_value b.name b.call ≡ Some r.value
 own_read s t answer x j b listed valued carried r gb name =
     let heard = r.heard in
-    let given : IsGiven s.calls r.value = heard_given s.calls s.net t.caller.name t.moments (net_given s valued) carried heard.0 heard.1 heard.2 r.version r.value heard.3 in
+    let given : IsGiven s.calls r.value = heard_given s.calls s.net t.caller.name t.actions (net_given s valued) carried heard.0 heard.1 heard.2 r.version r.value heard.3 in
     let own : given.1.name ≡ b.name = sym (own_named given.1.name given.1.call r.value given.3) ∙ r.named ∙ sym name in
     let at = listed.apart given.0 j given.1 b given.2 gb own in
     let same = same_call s.calls given.0 j given.1 b at given.2 gb in
     subst (λ (q : CallRec). own_value q.name q.call ≡ Some r.value) same given.3
 
 -- the call that an answer names is in the history, and writes what was read
-pub reads_a_write : (key : List ℕ) (s : State) (ds : List Deed) (i : ℕ) (a : CallRec) → IsKnownRun key s ds → slice_get s.calls i ≡ Some a → key_of a.call ≡ key → ReadsAWrite s.calls a
+pub reads_a_write : (key : List ℕ) (s : State) (ds : List Transition) (i : ℕ) (a : CallRec) → IsKnownRun key s ds → slice_get s.calls i ≡ Some a → key_of a.call ≡ key → ReadsAWrite s.calls a
 reads_a_write key s ds i a k ga ka = λ x from.
     let c = s.cfg in
-    let h = call_tale key s ds i a k.run k.listed k.carries ga ka in
-    let r = reading c h.tale a.answer x (subst (IsAnswered c h.tale) h.is.answer h.is.told.answered) from in
+    let h = call_trace key s ds i a k.run k.listed k.carries ga ka in
+    let r = reading c h.trace a.answer x (subst (IsAnswered c h.trace) h.is.answer h.is.told.answered) from in
     let v = r.version in
     let shown = named_shown c ds a v x (call_told key s ds a v h r.shows_it) (r.names_it a.name) in
     let p = ((agreed key s ds k.placed k.run).chosen v x shown).1 in
     let q = p.write in
     let by = k.run.sent q p.found in
-    let n = sender_record s.calls key q.call q.act (s.tales q.call.session) (k.recorded q.call.session) by in
+    let n = sender_record s.calls key q.call q.act (s.traces q.call.session) (k.recorded q.call.session) by in
     let b = n.1 in
     let name : b.name ≡ x = n.3 ∙ p.own in
-    let so = sender_tale c b.name.session key b q.act (s.tales b.name.session) (k.listed.told b.name.session) (k.listed.tales n.0 b n.2) (subst (λ (y : Name). IsSentBy key y q.act (s.tales y.session)) (sym n.3) by) in
-    let t = so.tale in
+    let so = sender_trace c b.name.session key b q.act (s.traces b.name.session) (k.listed.told b.name.session) (k.listed.traces n.0 b n.2) (subst (λ (y : Name). IsSentBy key y q.act (s.traces y.session)) (sym n.3) by) in
+    let t = so.trace in
     let call : t.caller.call ≡ b.call = ap (λ (w : Caller). w.call) so.is.caller in
-    let own : a.call ≡ h.tale.caller.call = sym (ap (λ (w : Caller). w.call) h.is.caller) in
+    let own : a.call ≡ h.trace.caller.call = sym (ap (λ (w : Caller). w.call) h.is.caller) in
     let write : IsWrite b.call = subst IsWrite call (so.sender.write v (subst (VotesFor q.act v) (sym name) p.votes)) in
-    let value = own_read s h.tale a.answer x n.0 b k.listed k.valued h.carried r n.2 name in
+    let value = own_read s h.trace a.answer x n.0 b k.listed k.valued h.carried r n.2 name in
     let kb : key_of b.call ≡ key = sym (ap key_of call) ∙ so.sender.key_is in
     let cast : VotesFor q.act v t.caller.name = subst (VotesFor q.act v) (sym (so.sender.name_is ∙ name)) p.votes in (
       b,
@@ -268,22 +268,22 @@ reads_a_write key s ds i a k ga ka = λ x from.
           name = name;
           key = kb ∙ sym ka;
           write = r.writes b.name b.call value;
-          began = began_before key s ds i n.0 v a b x h.tale.caller.name a.end k ga n.2 ka kb r.shows_it shown name (ap (own_value h.tale.caller.name) own ∙ r.reads) write refl;
-          effect = effect_of c t b.answer (subst (IsAnswered c t) so.is.answer so.is.told.answered) (voted_some t.caller.name t.moments v (sent_votes t.moments q.act v t.caller.name so.sender.sent cast));
+          began = began_before key s ds i n.0 v a b x h.trace.caller.name a.end k ga n.2 ka kb r.shows_it shown name (ap (own_value h.trace.caller.name) own ∙ r.reads) write refl;
+          effect = effect_of c t b.answer (subst (IsAnswered c t) so.is.answer so.is.told.answered) (voted_some t.caller.name t.actions v (sent_votes t.actions q.act v t.caller.name so.sender.sent cast));
         },
       ),
     )
 
 -- a call that reads returns the bytes of the put that it names
-pub returns_written : (key : List ℕ) (s : State) (ds : List Deed) (i j : ℕ) (a b : CallRec) → IsKnownRun key s ds → slice_get s.calls i ≡ Some a → slice_get s.calls j ≡ Some b → key_of a.call ≡ key → ReturnWritten a b
+pub returns_written : (key : List ℕ) (s : State) (ds : List Transition) (i j : ℕ) (a b : CallRec) → IsKnownRun key s ds → slice_get s.calls i ≡ Some a → slice_get s.calls j ≡ Some b → key_of a.call ≡ key → ReturnWritten a b
 returns_written key s ds i j a b k ga gb ka = λ bytes from read.
-    let h = call_tale key s ds i a k.run k.listed k.carries ga ka in
-    let t = h.tale in
+    let h = call_trace key s ds i a k.run k.listed k.carries ga ka in
+    let t = h.trace in
     let r = reading s.cfg t a.answer b.name (subst (IsAnswered s.cfg t) h.is.answer h.is.told.answered) from in
     r.written b.name b.call bytes (own_read s t a.answer b.name j b k.listed k.valued h.carried r gb refl) read
 
 -- what is known of a world that is reached
-known : (key : List ℕ) (s : State) → IsReached s → AllTell s → (ds : List Deed) × IsKnownRun key s ds
+known : (key : List ℕ) (s : State) → IsReached s → AllTell s → (ds : List Transition) × IsKnownRun key s ds
 known key s reached tell =
     let k = runs key s reached tell in
     (k.0, record { run = k.1; listed = listed s reached; carries = carried s reached; placed = placed s reached; recorded = recorded s reached; valued = valued s reached tell })

@@ -35,7 +35,7 @@ pub mod RunTurns
 pub mod Running
 pub mod SendBounds
 pub mod Sending
-pub mod Tales
+pub mod Traces
 pub mod Values
 pub mod Valuing
 pub mod WorldBounds

@@ -15,7 +15,7 @@ use Rattle.gz_core.specs.declared.requests.Reply.TheVariants.{Row, NoRow, Writte
 use Rattle.gz_core.specs.declared.requests.RowStep.{RowStep}
 use Rattle.gz_core.specs.declared.requests.Turn.{Turn}
 use Rattle.gz_round.specs.declared.hearing.Seen.{Seen}
-use Rattle.gz_round.specs.History.{Asked, Moment, Sent, Handed, GaveUp, Rested, GaveIn, Caller, Tale, is_row_request, asked_of, sent_from}
+use Rattle.gz_round.specs.History.{Asked, Action, Sent, Handed, GaveUp, Rested, GaveIn, Caller, Trace, is_row_request, asked_of, sent_from}
 use Rattle.gz_round.specs.Sending.{AreAllowed, MayAsk}
 use Rattle.gz_round.specs.Sites.{SiteNow, site_now, after, after_reply, after_sent, is_to, can_stand, seen_under, seen_in, written_by, is_changed}
 use Rattle.gz_site.specs.Told.{Told, Tells, etag_of}
@@ -27,10 +27,10 @@ use Rattle.gz_world.specs.declared.events.Event.TheVariants as events
 use Rattle.gz_world.specs.Reached.{IsOpening, IsReached, opened, stepped}
 use Rattle.gz_world.specs.Refusals.{refusal_of}
 use Rattle.gz_world.specs.States.{RequestAt, State, tick_of, next_of, numbered, with_reply, with_handed, with_given_up, sent_request, sent_requests}
-use Rattle.gz_world.specs.Steps.{Answers, BeginsBy, DeliversBy, TurnBy, TakesTurn, Acts, Does, Skips, Step}
+use Rattle.gz_world.specs.Steps.{Answers, BeginsBy, DeliversBy, TurnBy, TakesTurn, HasEffect, Does, Skips, WorldStep}
 use Rattle.gz_world.proofs.Members.{numbered_place, place_numbered}
 use Rattle.gz_world.proofs.Places.{get_last, get_of_two, get_one, get_set_same}
-use Rattle.gz_laws.specs.Carried.{MomentCarried, MomentsCarried, TalesCarried, AreCarried}
+use Rattle.gz_laws.specs.Carried.{ActionCarried, ActionsCarried, TracesCarried, AreCarried}
 use Rattle.gz_laws.specs.Overtaken.{tag_shown, IsWriteOf, may_be_performed, IsReplyAt, IsWrittenBetween, IsShownTag, IsOvertakenAt, IsOnShownTag, StandsOrWritten, AreOvertakenBy, AreOvertaken}
 use Rattle.gz_laws.specs.Runs.{key_asked}
 use Rattle.gz_laws.proofs.Carrying.{IsLater, Grows, grows_same, grows_append, grows_set, grows_then, replied_later, handed_later, given_up_later, carried}
@@ -41,7 +41,7 @@ use Rattle.gz_laws.proofs.Nets.{IsKeptAs, kept_itself, kept_handed, kept_given_u
 use Rattle.gz_laws.proofs.Placing.{acts_journal}
 use Rattle.gz_laws.proofs.RunSends.{closing_allowed}
 use Rattle.gz_laws.proofs.RunTools.{set_cases}
-use Rattle.gz_laws.proofs.Running.{told_request, handed_moment, told_before}
+use Rattle.gz_laws.proofs.Running.{told_request, handed_action, told_before}
 
 -- what a reply showed stays as requests go on
 reply_later : (old new : List RequestAt) (n : ℕ) (r : RequestAt) (place tick : ℕ) (reply : Reply) → Grows old new → IsReplyAt old n r place tick reply → (q : RequestAt) × (IsReplyAt new n q place tick reply × IsLater r q)
@@ -150,10 +150,10 @@ reply_row None false now seen e f g = g e
 sent_row : (a : Asked) (now : SiteNow) → (after_sent a now).row ≡ now.row
 sent_row a now = elim a.awaited as (λ w. (if w then (let k : SiteNow = record { row = now.row; changed = now.changed; out = now.out; awaits = Some a; unanswered = true } in k) else now).row ≡ now.row) [ true ↦ refl | false ↦ refl ]
 
-pub row_sent : (a : Asked) (ms : List Moment) (s : ℕ) → (site_now (Sent a ∷ ms) s).row ≡ (site_now ms s).row
+pub row_sent : (a : Asked) (ms : List Action) (s : ℕ) → (site_now (Sent a ∷ ms) s).row ≡ (site_now ms s).row
 row_sent a ms s = elim (is_to a s) as (λ b. (if b then after_sent a (site_now ms s) else site_now ms s).row ≡ (site_now ms s).row) [ true ↦ sent_row a (site_now ms s) | false ↦ refl ]
 
-handed_shown : (net : List RequestAt) (w : Caller) (a : Asked) (reply : Reply) (r : RequestAt) (seen : Seen) → r.name ≡ w.name → key_asked a.op ≡ key_of w.call → is_to a r.site ≡ true → seen_in (written_by a.op) reply ≡ Some seen → MomentCarried net w.name (Handed a reply)
+handed_shown : (net : List RequestAt) (w : Caller) (a : Asked) (reply : Reply) (r : RequestAt) (seen : Seen) → r.name ≡ w.name → key_asked a.op ≡ key_of w.call → is_to a r.site ≡ true → seen_in (written_by a.op) reply ≡ Some seen → ActionCarried net w.name (Handed a reply)
     → (from : ℕ) × IsShownTag net r (key_of w.call) seen.etag from
 handed_shown net w a reply r seen own about to is carried =
     let q = carried.0 in
@@ -174,7 +174,7 @@ handed_shown net w a reply r seen own about to is carried =
       },
     )
 
-last_shown : (net : List RequestAt) (c : Config) (w : Caller) (past : List Tale) (ms : List Moment) (r : RequestAt) (seen : Seen) → r.name ≡ w.name → AreAllowed c w past ms → MomentsCarried net w.name ms → (site_now ms r.site).row ≡ Some seen → (from : ℕ) × IsShownTag net r (key_of w.call) seen.etag from
+last_shown : (net : List RequestAt) (c : Config) (w : Caller) (past : List Trace) (ms : List Action) (r : RequestAt) (seen : Seen) → r.name ≡ w.name → AreAllowed c w past ms → ActionsCarried net w.name ms → (site_now ms r.site).row ≡ Some seen → (from : ℕ) × IsShownTag net r (key_of w.call) seen.etag from
 last_shown net c w past [] r seen own allowed carried e = cc
 last_shown net c w past (Sent a ∷ ms) r seen own allowed carried e = last_shown net c w past ms r seen own allowed.1 carried.1 (sym (row_sent a ms r.site) ∙ e)
 last_shown net c w past (Handed a reply ∷ ms) r seen own allowed carried e =
@@ -189,11 +189,11 @@ last_shown net c w past (Rested ∷ ms) r seen own allowed carried e = last_show
 last_shown net c w past (GaveIn ∷ ms) r seen own allowed carried e = last_shown net c w past ms r seen own allowed.1 carried.1 e
 
 -- a write that a call sends goes out on the last row of its site
-asks_last : (c : Config) (w : Caller) (past : List Tale) (ms : List Moment) (now : SiteNow) (op : Op) (key : List ℕ) (expect : Option ℕ) (step : RowStep) (row : RowAt) → op ≡ WriteRow key expect step row → MayAsk c w past ms now op
+asks_last : (c : Config) (w : Caller) (past : List Trace) (ms : List Action) (now : SiteNow) (op : Op) (key : List ℕ) (expect : Option ℕ) (step : RowStep) (row : RowAt) → op ≡ WriteRow key expect step row → MayAsk c w past ms now op
     → (key ≡ key_of w.call) × ((before : RowAt) × (now.row ≡ Some (let k : Seen = record { etag = expect; row = before } in k)))
 asks_last c w past ms now op key expect step row is may = let k = subst (MayAsk c w past ms now) is may in (k.0, (k.1.before, k.1.last))
 
-sends_last : (c : Config) (w : Caller) (past : List Tale) (first : ℕ) (outs : List Out) (ms : List Moment) (j : ℕ) (o : Out) (key : List ℕ) (expect : Option ℕ) (step : RowStep) (row : RowAt) → AreAllowed c w past (sent_from first outs ms) → slice_get outs j ≡ Some o → o.op ≡ WriteRow key expect step row
+sends_last : (c : Config) (w : Caller) (past : List Trace) (first : ℕ) (outs : List Out) (ms : List Action) (j : ℕ) (o : Out) (key : List ℕ) (expect : Option ℕ) (step : RowStep) (row : RowAt) → AreAllowed c w past (sent_from first outs ms) → slice_get outs j ≡ Some o → o.op ≡ WriteRow key expect step row
     → (key ≡ key_of w.call) × ((before : RowAt) × ((site_now ms o.site).row ≡ Some (let k : Seen = record { etag = expect; row = before } in k)))
 sends_last c w past first [] ms j o key expect step row allowed there is = cc
 sends_last c w past first (x ∷ xs) ms zero o key expect step row allowed there is =
@@ -206,7 +206,7 @@ sends_last c w past first (x ∷ xs) ms (suc j) o key expect step row allowed th
     let k = sends_last c w past (first + 1) xs (Sent a ∷ ms) j o key expect step row allowed there is in
     (k.0, (k.1.0, sym (row_sent a ms o.site) ∙ k.1.1))
 
-sent_on : (old new : State) (ticks first : ℕ) (w : Caller) (past : List Tale) (outs : List Out) (ms : List Moment) (j : ℕ) (o : Out) → Grows old.net new.net → AreAllowed old.cfg w past (sent_from first outs ms) → MomentsCarried old.net w.name ms → AreOvertakenBy ticks old → slice_get outs j ≡ Some o
+sent_on : (old new : State) (ticks first : ℕ) (w : Caller) (past : List Trace) (outs : List Out) (ms : List Action) (j : ℕ) (o : Out) → Grows old.net new.net → AreAllowed old.cfg w past (sent_from first outs ms) → ActionsCarried old.net w.name ms → AreOvertakenBy ticks old → slice_get outs j ≡ Some o
     → IsOnShownTag new.net (sent_request w.name (ticks + 1) o)
 sent_on old new ticks first w past outs ms j o grows allowed carried over there = λ key expect step row is.
     let q = sent_request w.name (ticks + 1) o in
@@ -219,8 +219,8 @@ sent_on old new ticks first w past outs ms j o grows allowed carried over there 
     (from, (subst (λ x. IsShownTag new.net q x expect from) (sym k.0) (shown_later old.net new.net q q (key_of w.call) expect from grows refl refl tag), omega (arith, passed)))
 
 -- what a session's turn leaves
-moves_overtaken : (old new : State) (ticks first : ℕ) (w : Caller) (past : List Tale) (outs : List Out) (ms : List Moment) → ((i : ℕ) → new.sites i ≡ old.sites i) → Grows old.net new.net → AreKeptOrSent old.net new.net w.name (ticks + 1) outs → AreAllowed old.cfg w past (sent_from first outs ms)
-    → MomentsCarried old.net w.name ms → AreOvertakenBy ticks old → AreOvertakenBy (ticks + 1) new
+moves_overtaken : (old new : State) (ticks first : ℕ) (w : Caller) (past : List Trace) (outs : List Out) (ms : List Action) → ((i : ℕ) → new.sites i ≡ old.sites i) → Grows old.net new.net → AreKeptOrSent old.net new.net w.name (ticks + 1) outs → AreAllowed old.cfg w past (sent_from first outs ms)
+    → ActionsCarried old.net w.name ms → AreOvertakenBy ticks old → AreOvertakenBy (ticks + 1) new
 moves_overtaken old new ticks first w past outs ms sites grows cases allowed carried over =
     stay_overtaken old new ticks (ticks + 1) (omega arith) sites grows
     (λ n place tick q reply h. elim (cases n q h.request) [
@@ -246,24 +246,24 @@ same_overtaken old new ticks more le sites net over =
 
 begin_overtaken : (old new : State) (session : ℕ) (call : Call) (turn : Turn) (effect : Effect) → BeginsBy old session call turn effect new → AreOvertaken old → AreOvertakenBy (tick_of old) new
 begin_overtaken old new session call turn effect b over =
-    let past = old.tales session in
+    let past = old.traces session in
     let name : Name = record { session = session; seq = length past + 1 } in
     let w : Caller = record { name = name; call = call } in
     let outs = sent_requests name (tick_of old) turn.send in
     let grows : Grows old.net new.net = grows_then old.net (old.net ++ outs) new.net (grows_append old.net outs) (grows_same (old.net ++ outs) new.net b.net) in
     moves_overtaken old new (length old.journal) (next_of old) w past turn.send [] b.sites.sites grows (begin_cases old.net new.net name (tick_of old) turn.send b.net) b.moves.told.0.allowed tt over
 
-turn_overtaken : (old new : State) (n : ℕ) (r marked : RequestAt) (moment : Asked → Moment) (by : TurnBy) (effect : Effect) → TakesTurn old n r moment by marked effect new → IsKeptAs r marked → IsLater r marked → MomentCarried old.net by.tale.caller.name (moment by.asked)
+turn_overtaken : (old new : State) (n : ℕ) (r marked : RequestAt) (action : Asked → Action) (by : TurnBy) (effect : Effect) → TakesTurn old n r action by marked effect new → IsKeptAs r marked → IsLater r marked → ActionCarried old.net by.trace.caller.name (action by.asked)
     → AreCarried old → AreOvertaken old → AreOvertakenBy (tick_of old) new
-turn_overtaken old new n r marked moment by effect t kept later carry carries over =
-    let w = by.tale.caller in
+turn_overtaken old new n r marked action by effect t kept later carry carries over =
+    let w = by.trace.caller in
     let tick = tick_of old in
     let outs = by.turn.send in
     let sent = sent_requests w.name tick outs in
-    let ms = moment by.asked ∷ by.tale.moments in
+    let ms = action by.asked ∷ by.trace.actions in
     let mid = slice_set old.net (n - 1) marked in
     let place = numbered_place old.net n r t.request in
-    let mine : MomentsCarried old.net w.name by.tale.moments = (subst (TalesCarried old.net) t.tales (carries r.name.session)).0 in
+    let mine : ActionsCarried old.net w.name by.trace.actions = (subst (TracesCarried old.net) t.traces (carries r.name.session)).0 in
     let allowed = closing_allowed old.cfg w by.earlier by.closing (sent_from (next_of old) outs ms) t.closing t.moves.told.0.allowed in
     let grows : Grows old.net new.net = grows_then old.net (mid ++ sent) new.net (grows_then old.net mid (mid ++ sent) (grows_set old.net (n - 1) r marked place.1 later) (grows_append mid sent)) (grows_same (mid ++ sent) new.net t.net) in
     moves_overtaken old new (length old.journal) (next_of old) w by.earlier outs ms t.sites.sites grows (turn_cases old.net new.net n r marked w.name tick outs t.request kept t.net) allowed (carry, mine) over
@@ -502,20 +502,20 @@ does_overtaken old new events.OpenSession effect d c over = same_overtaken old n
 does_overtaken old new (events.Begin session call) effect d c over = begin_overtaken old new session call d.0 effect d.1 over
 does_overtaken old new (events.Deliver n) effect d c over = deliver_overtaken old new n d.0 d.1.0 effect d.1.1 over
 does_overtaken old new (events.Reply n which) effect d c over =
-    turn_overtaken old new n d.0 (with_handed (tick_of old) which d.0) (λ a. Handed a d.1.0.1) d.1.1.0 effect d.1.1.1.1 (kept_handed (tick_of old) which d.0) (handed_later (tick_of old) which d.0) (handed_moment old new n which d.0 d.1.0 d.1.1.0 effect d.1.1.1.0 d.1.1.1.1 c) c over
+    turn_overtaken old new n d.0 (with_handed (tick_of old) which d.0) (λ a. Handed a d.1.0.1) d.1.1.0 effect d.1.1.1.1 (kept_handed (tick_of old) which d.0) (handed_later (tick_of old) which d.0) (handed_action old new n which d.0 d.1.0 d.1.1.0 effect d.1.1.1.0 d.1.1.1.1 c) c over
 does_overtaken old new (events.GiveUp n) effect d c over =
     turn_overtaken old new n d.0 (with_given_up (tick_of old) d.0) (λ a. GaveUp a) d.1.0 effect d.1.1 (kept_given_up (tick_of old) d.0) (given_up_later (tick_of old) d.0)
     (d.0, told_request old new n d.0 (with_given_up (tick_of old) d.0) (λ a. GaveUp a) d.1.0 effect d.1.1 c) c over
 does_overtaken old new (events.Crash session) effect d c over = same_overtaken old new (length old.journal) (tick_of old) (omega arith) d.sites.sites d.net over
 
-acts_overtaken : (old new : State) (event : Event) (effect : Effect) → Acts old event effect new → AreCarried old → AreOvertaken old → AreOvertakenBy (tick_of old) new
+acts_overtaken : (old new : State) (event : Event) (effect : Effect) → HasEffect old event effect new → AreCarried old → AreOvertaken old → AreOvertakenBy (tick_of old) new
 acts_overtaken old new event effect acts c over =
     elim (refusal_of old event) as (λ o. MatchOption o (Does old event effect new) (λ why. Skips old event why effect new) → AreOvertakenBy (tick_of old) new) [
       | None ↦ λ d. does_overtaken old new event effect d c over
       | Some why ↦ λ k. same_overtaken old new (length old.journal) (tick_of old) (omega arith) k.same.sites.sites k.same.net over
     ] acts
 
-step_overtaken : (old new : State) (event : Event) → Step old event new → AreCarried old → AreOvertaken old → AreOvertaken new
+step_overtaken : (old new : State) (event : Event) → WorldStep old event new → AreCarried old → AreOvertaken old → AreOvertaken new
 step_overtaken old new event step c over =
     let mid = step.1.0 in
     let records = step.1.1.1.1 in

@@ -10,7 +10,7 @@ use Rattle.gz_config.specs.declared.Config.{Config}
 use Rattle.gz_core.specs.declared.requests.Out.{Out}
 use Rattle.gz_core.specs.declared.requests.Reply.{Reply}
 use Rattle.gz_core.specs.declared.requests.Turn.{Turn}
-use Rattle.gz_round.specs.History.{Asked, Moment, Sent, Handed, GaveUp, Caller, Tale, asked_of, sent_from, begun, turned}
+use Rattle.gz_round.specs.History.{Asked, Action, Sent, Handed, GaveUp, Caller, Trace, asked_of, sent_from, begun, turned}
 use Rattle.gz_round.specs.Sending.{AreAllowed}
 use Rattle.gz_history.specs.Broken.{IsHistory}
 use Rattle.gz_history.specs.declared.record.CallRec.{CallRec}
@@ -22,10 +22,10 @@ use Rattle.gz_laws.specs.Placed.{IsOfCall, ArePlacedBy, ArePlaced}
 use Rattle.gz_world.specs.Reached.{IsOpening, IsReached, opened, stepped}
 use Rattle.gz_world.specs.Refusals.{refusal_of}
 use Rattle.gz_world.specs.States.{RequestAt, State, tick_of, next_of, numbered, with_reply, with_handed, with_given_up, sent_request, end_at}
-use Rattle.gz_world.specs.Steps.{SessionMoves, BeginsBy, DeliversBy, TurnBy, TakesTurn, CallEnds, answered, Acts, Does, Skips, Step}
+use Rattle.gz_world.specs.Steps.{SessionMoves, BeginsBy, DeliversBy, TurnBy, TakesTurn, CallEnds, answered, HasEffect, Does, Skips, WorldStep}
 use Rattle.gz_laws.proofs.Beginning.{begun_open}
 use Rattle.gz_laws.proofs.Growing.{allowed_base}
-use Rattle.gz_laws.proofs.Listing.{listed, tales_here, tales_there}
+use Rattle.gz_laws.proofs.Listing.{listed, traces_here, traces_there}
 use Rattle.gz_world.proofs.Members.{numbered_place}
 use Rattle.gz_world.proofs.Places.{get_of_two, get_one, get_below, get_set_same, get_set_other}
 use Rattle.gz_laws.proofs.RunBegins.{begin_net}
@@ -33,32 +33,32 @@ use Rattle.gz_laws.proofs.RunSends.{NetFrom, closing_allowed, call_before}
 use Rattle.gz_laws.proofs.RunTools.{IsAlike, set_cases}
 use Rattle.gz_laws.proofs.RunTurns.{turn_net}
 
--- no session lost a tale
+-- no session lost a trace
 abbrev AreLonger : State → State → Type 0
-AreLonger old new = (n : ℕ) → length (old.tales n) ≤ length (new.tales n)
+AreLonger old new = (n : ℕ) → length (old.traces n) ≤ length (new.traces n)
 
 of_call : (old new : State) (r q : RequestAt) → new.cfg ≡ old.cfg → AreLonger old new → q.site ≡ r.site → q.name ≡ r.name → IsOfCall old r → IsOfCall new q
 of_call old new r q cfg longer site name h = record {
   site = subst (λ (c : Config). q.site < c.n) (sym cfg) (subst (λ s. s < old.cfg.n) (sym site) h.site);
-  call = subst (λ (x : Name). x.seq ≤ length (new.tales x.session)) (sym name) (let l = longer r.name.session in let k = h.call in omega (arith, l, k));
+  call = subst (λ (x : Name). x.seq ≤ length (new.traces x.session)) (sym name) (let l = longer r.name.session in let k = h.call in omega (arith, l, k));
 }
 
-same_longer : (old new : State) → ((n : ℕ) → new.tales n ≡ old.tales n) → AreLonger old new
-same_longer old new tales = λ n. let e : length (new.tales n) ≡ length (old.tales n) = ap length (tales n) in omega (arith, e)
+same_longer : (old new : State) → ((n : ℕ) → new.traces n ≡ old.traces n) → AreLonger old new
+same_longer old new traces = λ n. let e : length (new.traces n) ≡ length (old.traces n) = ap length (traces n) in omega (arith, e)
 
-moved_longer : (old new : State) (session : ℕ) (ts : List Tale) → SessionMoves old session ts new → length (old.tales session) ≤ length ts → AreLonger old new
+moved_longer : (old new : State) (session : ℕ) (ts : List Trace) → SessionMoves old session ts new → length (old.traces session) ≤ length ts → AreLonger old new
 moved_longer old new session ts moves le = λ n. elim (cases_eq n session) [
-  | inl e ↦ (let a : length (old.tales n) ≡ length (old.tales session) = ap (λ k. length (old.tales k)) e in
-      let b : length (new.tales n) ≡ length ts = ap length (ap new.tales e ∙ tales_here old new session ts moves) in
+  | inl e ↦ (let a : length (old.traces n) ≡ length (old.traces session) = ap (λ k. length (old.traces k)) e in
+      let b : length (new.traces n) ≡ length ts = ap length (ap new.traces e ∙ traces_here old new session ts moves) in
       omega (arith, a, b, le))
-  | inr ne ↦ (let b : length (new.tales n) ≡ length (old.tales n) = ap length (tales_there old new session n ts moves ne) in omega (arith, b))
+  | inr ne ↦ (let b : length (new.traces n) ≡ length (old.traces n) = ap length (traces_there old new session n ts moves ne) in omega (arith, b))
 ]
 
 -- nothing that is placed has changed, at a later tick perhaps
-placed_same : (ticks more : ℕ) (old new : State) → ticks ≤ more → new.cfg ≡ old.cfg → ((n : ℕ) → new.tales n ≡ old.tales n) → new.net ≡ old.net → new.calls ≡ old.calls → ArePlacedBy ticks old → ArePlacedBy more new
-placed_same ticks more old new le cfg tales net calls p = record {
+placed_same : (ticks more : ℕ) (old new : State) → ticks ≤ more → new.cfg ≡ old.cfg → ((n : ℕ) → new.traces n ≡ old.traces n) → new.net ≡ old.net → new.calls ≡ old.calls → ArePlacedBy ticks old → ArePlacedBy more new
+placed_same ticks more old new le cfg traces net calls p = record {
   config = subst IsConfig (sym cfg) p.config;
-  requests = λ n r h. of_call old new r r cfg (same_longer old new tales) refl refl (p.requests n r (subst (λ xs. numbered xs n ≡ Some r) net h));
+  requests = λ n r h. of_call old new r r cfg (same_longer old new traces) refl refl (p.requests n r (subst (λ xs. numbered xs n ≡ Some r) net h));
   began = λ i c h. let k = p.began i c (subst (λ xs. slice_get xs i ≡ Some c) calls h) in omega (arith, k, le);
   over = λ i end c h e. let k = p.over i end c (subst (λ xs. slice_get xs i ≡ Some c) calls h) e in omega (arith, k, le);
   apart = λ i j a b h k e. p.apart i j a b (subst (λ xs. slice_get xs i ≡ Some a) calls h) (subst (λ xs. slice_get xs j ≡ Some b) calls k) e;
@@ -69,7 +69,7 @@ placed_same ticks more old new le cfg tales net calls p = record {
 }
 
 -- each request that a call sends goes to a site
-sends_site : (c : Config) (w : Caller) (past : List Tale) (first : ℕ) (outs : List Out) (ms : List Moment) → AreAllowed c w past (sent_from first outs ms) → (j : ℕ) (o : Out) → slice_get outs j ≡ Some o → o.site < c.n
+sends_site : (c : Config) (w : Caller) (past : List Trace) (first : ℕ) (outs : List Out) (ms : List Action) → AreAllowed c w past (sent_from first outs ms) → (j : ℕ) (o : Out) → slice_get outs j ≡ Some o → o.site < c.n
 sends_site c w past first [] ms allowed j o e = cc
 sends_site c w past first (out ∷ outs) ms allowed zero o e =
     let same : out ≡ o = cc in
@@ -77,7 +77,7 @@ sends_site c w past first (out ∷ outs) ms allowed zero o e =
 sends_site c w past first (out ∷ outs) ms allowed (suc j) o e = sends_site c w past (first + 1) outs (Sent (asked_of first out) ∷ ms) allowed j o e
 
 -- the requests after a turn
-sent_placed : (old new : State) (w : Caller) (past : List Tale) (first tick : ℕ) (outs : List Out) (ms : List Moment) → new.cfg ≡ old.cfg → AreLonger old new → NetFrom old.net new.net w.name tick outs → AreAllowed old.cfg w past (sent_from first outs ms) → w.name.seq ≤ length (new.tales w.name.session)
+sent_placed : (old new : State) (w : Caller) (past : List Trace) (first tick : ℕ) (outs : List Out) (ms : List Action) → new.cfg ≡ old.cfg → AreLonger old new → NetFrom old.net new.net w.name tick outs → AreAllowed old.cfg w past (sent_from first outs ms) → w.name.seq ≤ length (new.traces w.name.session)
     → ((n : ℕ) (r : RequestAt) → numbered old.net n ≡ Some r → IsOfCall old r) → (n : ℕ) (q : RequestAt) → numbered new.net n ≡ Some q → IsOfCall new q
 sent_placed old new w past first tick outs ms cfg longer net allowed named all n q at = elim (net n q at) [
   | inl k ↦ (let same = k.1.1.1 in of_call old new k.1.0 q cfg longer same.site same.name (all k.0 k.1.0 k.1.1.0))
@@ -97,7 +97,7 @@ end_answer tick (Some answer) = refl
 
 begin_placed : (old new : State) (session : ℕ) (call : Call) (turn : Turn) (effect : Effect) → BeginsBy old session call turn effect new → ArePlaced old → ArePlacedBy (tick_of old) new
 begin_placed old new session call turn effect b p =
-    let past = old.tales session in
+    let past = old.traces session in
     let name : Name = record { session = session; seq = length past + 1 } in
     let w : Caller = record { name = name; call = call } in
     let t = begun session call (next_of old) turn past in
@@ -115,12 +115,12 @@ begin_placed old new session call turn effect b p =
       | inl k ↦ (let l = p.over i end d k e in omega (arith, l))
       | inr k ↦ (let now = end_now tick end turn.answer (ap (λ (c : CallRec). c.end) k.0 ∙ e) in omega (arith, now))
     ] in
-    let here : new.tales session ≡ t ∷ past = tales_here old new session (t ∷ past) b.moves in
+    let here : new.traces session ≡ t ∷ past = traces_here old new session (t ∷ past) b.moves in
     let unanswered : turn.answer ≡ None = begun_open old.cfg past session call (next_of old) turn past p.config b.moves.told.0 in
     record {
       config = subst IsConfig (sym b.frame.cfg) p.config;
       requests = sent_placed old new w past (next_of old) tick turn.send [] b.frame.cfg (moved_longer old new session (t ∷ past) b.moves (omega arith)) (begin_net old new name tick turn.send b.net) b.moves.told.0.allowed
-          (let e : length (new.tales session) ≡ length (t ∷ past) = ap length here in omega (arith, e)) p.requests;
+          (let e : length (new.traces session) ≡ length (t ∷ past) = ap length here in omega (arith, e)) p.requests;
       began = late;
       over = ends;
       apart = λ i j a d h k e. elim (cases i a h) [
@@ -177,14 +177,14 @@ answered_both : (tick : ℕ) (o : Option Answer) (c : CallRec) → is_some c.end
 answered_both tick None c h = h
 answered_both tick (Some answer) c h = refl
 
-turn_placed : (old new : State) (n : ℕ) (r marked : RequestAt) (moment : Asked → Moment) (by : TurnBy) (effect : Effect) → TakesTurn old n r moment by marked effect new → IsAlike r marked → ArePlaced old → ArePlacedBy (tick_of old) new
-turn_placed old new n r marked moment by effect t alike p =
-    let w = by.tale.caller in
+turn_placed : (old new : State) (n : ℕ) (r marked : RequestAt) (action : Asked → Action) (by : TurnBy) (effect : Effect) → TakesTurn old n r action by marked effect new → IsAlike r marked → ArePlaced old → ArePlacedBy (tick_of old) new
+turn_placed old new n r marked action by effect t alike p =
+    let w = by.trace.caller in
     let session = r.name.session in
     let first = next_of old in
     let tick = tick_of old in
-    let ms = moment by.asked ∷ by.tale.moments in
-    let after = turned first by.turn (moment by.asked) by.closing by.tale in
+    let ms = action by.asked ∷ by.trace.actions in
+    let after = turned first by.turn (action by.asked) by.closing by.trace in
     let ts = after ∷ by.earlier in
     let told = t.moves.told in
     let allowed = closing_allowed old.cfg w by.earlier by.closing (sent_from first by.turn.send ms) t.closing told.0.allowed in
@@ -192,9 +192,9 @@ turn_placed old new n r marked moment by effect t alike p =
     let cases = ended_cases old.calls new.calls w.name tick by.turn.answer t.calls in
     let at_end : (i : ℕ) (d : CallRec) → slice_get new.calls i ≡ Some d → d.end ≡ Some tick → i ≡ t.calls.0
     = λ i d h e. elim (cases i d h) [ inl x ↦ (let m = p.over i tick d x e in absurd (omega (arith, m))) | inr x ↦ x.0 ] in
-    let len : length (old.tales session) ≡ length (by.tale ∷ by.earlier) = ap length t.tales in
+    let len : length (old.traces session) ≡ length (by.trace ∷ by.earlier) = ap length t.traces in
     let seq : w.name.seq ≡ length by.earlier + 1 = ap (λ (x : Name). x.seq) told.1 in
-    let here : length (new.tales w.name.session) ≡ length ts = ap length (ap new.tales (ap (λ (x : Name). x.session) told.1) ∙ tales_here old new session ts t.moves) in
+    let here : length (new.traces w.name.session) ≡ length ts = ap length (ap new.traces (ap (λ (x : Name). x.session) told.1) ∙ traces_here old new session ts t.moves) in
     record {
       config = subst IsConfig (sym t.frame.cfg) p.config;
       requests = sent_placed old new w by.earlier first tick by.turn.send ms t.frame.cfg (moved_longer old new session ts t.moves (omega (arith, len))) (turn_net old new n r marked w.name tick by.turn.send t.request alike t.net) allowed (omega (arith, seq, here)) p.requests;
@@ -256,8 +256,8 @@ deliver_placed : (old new : State) (n : ℕ) (r : RequestAt) (reply : Reply) (ef
 deliver_placed old new n r reply effect d p = record {
   config = subst IsConfig (sym d.frame.cfg) p.config;
   requests = λ m q h. elim (set_cases old.net n m r (with_reply (tick_of old) reply r) q d.request (subst (λ xs. numbered xs m ≡ Some q) d.net h)) [
-    | inl e ↦ of_call old new r q d.frame.cfg (same_longer old new d.sessions.tales) (ap (λ (x : RequestAt). x.site) e) (ap (λ (x : RequestAt). x.name) e) (p.requests n r d.request)
-    | inr e ↦ of_call old new q q d.frame.cfg (same_longer old new d.sessions.tales) refl refl (p.requests m q e)
+    | inl e ↦ of_call old new r q d.frame.cfg (same_longer old new d.sessions.traces) (ap (λ (x : RequestAt). x.site) e) (ap (λ (x : RequestAt). x.name) e) (p.requests n r d.request)
+    | inr e ↦ of_call old new q q d.frame.cfg (same_longer old new d.sessions.traces) refl refl (p.requests m q e)
   ];
   began = λ i c h. let k = p.began i c (subst (λ xs. slice_get xs i ≡ Some c) d.sessions.calls h) in omega (arith, k);
   over = λ i end c h e. let k = p.over i end c (subst (λ xs. slice_get xs i ≡ Some c) d.sessions.calls h) e in omega (arith, k);
@@ -275,18 +275,18 @@ pub given_up_alike : (tick : ℕ) (r : RequestAt) → IsAlike r (with_given_up t
 given_up_alike tick r = record { name = refl; site = refl; op = refl; replies = refl }
 
 does_placed : (old new : State) (event : Event) (effect : Effect) → Does old event effect new → ArePlaced old → ArePlacedBy (tick_of old) new
-does_placed old new events.OpenSession effect d p = placed_same (length old.journal) (tick_of old) old new (omega arith) d.frame.cfg d.tales d.net d.calls p
+does_placed old new events.OpenSession effect d p = placed_same (length old.journal) (tick_of old) old new (omega arith) d.frame.cfg d.traces d.net d.calls p
 does_placed old new (events.Begin session call) effect d p = begin_placed old new session call d.0 effect d.1 p
 does_placed old new (events.Deliver n) effect d p = deliver_placed old new n d.0 d.1.0 effect d.1.1 p
 does_placed old new (events.Reply n which) effect d p = turn_placed old new n d.0 (with_handed (tick_of old) which d.0) (λ a. Handed a d.1.0.1) d.1.1.0 effect d.1.1.1.1 (handed_alike (tick_of old) which d.0) p
 does_placed old new (events.GiveUp n) effect d p = turn_placed old new n d.0 (with_given_up (tick_of old) d.0) (λ a. GaveUp a) d.1.0 effect d.1.1 (given_up_alike (tick_of old) d.0) p
-does_placed old new (events.Crash session) effect d p = placed_same (length old.journal) (tick_of old) old new (omega arith) d.frame.cfg d.tales d.net d.calls p
+does_placed old new (events.Crash session) effect d p = placed_same (length old.journal) (tick_of old) old new (omega arith) d.frame.cfg d.traces d.net d.calls p
 
-acts_placed : (old new : State) (event : Event) (effect : Effect) → Acts old event effect new → ArePlaced old → ArePlacedBy (tick_of old) new
+acts_placed : (old new : State) (event : Event) (effect : Effect) → HasEffect old event effect new → ArePlaced old → ArePlacedBy (tick_of old) new
 acts_placed old new event effect acts p =
     elim (refusal_of old event) as (λ o. MatchOption o (Does old event effect new) (λ why. Skips old event why effect new) → ArePlacedBy (tick_of old) new) [
       | None ↦ λ d. does_placed old new event effect d p
-      | Some why ↦ λ k. placed_same (length old.journal) (tick_of old) old new (omega arith) k.same.frame.cfg k.same.sessions.tales k.same.net k.same.sessions.calls p
+      | Some why ↦ λ k. placed_same (length old.journal) (tick_of old) old new (omega arith) k.same.frame.cfg k.same.sessions.traces k.same.net k.same.sessions.calls p
     ] acts
 
 does_journal : (old new : State) (event : Event) (effect : Effect) → Does old event effect new → new.journal ≡ old.journal
@@ -297,21 +297,21 @@ does_journal old new (events.Reply n which) effect d = d.1.1.1.1.frame.journal
 does_journal old new (events.GiveUp n) effect d = d.1.1.frame.journal
 does_journal old new (events.Crash session) effect d = d.frame.journal
 
-pub acts_journal : (old new : State) (event : Event) (effect : Effect) → Acts old event effect new → new.journal ≡ old.journal
+pub acts_journal : (old new : State) (event : Event) (effect : Effect) → HasEffect old event effect new → new.journal ≡ old.journal
 acts_journal old new event effect acts =
     elim (refusal_of old event) as (λ o. MatchOption o (Does old event effect new) (λ why. Skips old event why effect new) → new.journal ≡ old.journal) [
       | None ↦ λ d. does_journal old new event effect d
       | Some why ↦ λ k. k.same.frame.journal
     ] acts
 
-step_placed : (old new : State) (event : Event) → Step old event new → ArePlaced old → ArePlaced new
+step_placed : (old new : State) (event : Event) → WorldStep old event new → ArePlaced old → ArePlaced new
 step_placed old new event step p =
     let mid = step.1.0 in
     let acts = step.1.1.1.0 in
     let records = step.1.1.1.1 in
     let grew : length new.journal ≡ length old.journal + 1 =
     ap length records.journal ∙ length-append mid.journal (step.1.1.0 ∷ []) ∙ ap (λ (j : List Entry). length j + 1) (acts_journal old mid event step.0 acts) in
-    placed_same (tick_of old) (length new.journal) mid new (omega (arith, grew)) records.cfg records.sessions.tales records.net records.sessions.calls (acts_placed old mid event step.0 acts p)
+    placed_same (tick_of old) (length new.journal) mid new (omega (arith, grew)) records.cfg records.sessions.traces records.net records.sessions.calls (acts_placed old mid event step.0 acts p)
 
 opening_placed : (s : State) → IsOpening s → ArePlaced s
 opening_placed s o = record {

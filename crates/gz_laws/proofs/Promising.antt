@@ -20,16 +20,16 @@ use Rattle.gz_core.specs.declared.requests.Op.{Op}
 use Rattle.gz_core.specs.declared.requests.Op.TheVariants.{ReadRow, WriteRow}
 use Rattle.gz_pick.specs.Looks.{row_vote}
 use Rattle.gz_pick.specs.declared.heard.Heard.{Heard}
-use Rattle.gz_round.specs.History.{Asked, Moment, Sent, Handed, GaveUp, Rested, GaveIn, Caller, Tale, is_row_request}
-use Rattle.gz_round.specs.declared.hearing.Seen.{Seen as SeenRow}
+use Rattle.gz_round.specs.History.{Asked, Action, Sent, Handed, GaveUp, Rested, GaveIn, Caller, Trace, is_row_request}
+use Rattle.gz_round.specs.declared.hearing.Seen.{Seen}
 use Rattle.gz_round.specs.Sites.{SiteNow, site_now, seen_in, written_by, is_to, WasHeard}
 use Rattle.gz_round.specs.Sent.{promise_by, of_step, or_earlier, passes_sent, has_promised, has_promised_at, last_promise}
-use Rattle.gz_round.specs.Rounds.{IsUnused, cast_by, has_cast, IsPromiseHeard as IsPromiseHeardBy}
+use Rattle.gz_round.specs.Rounds.{IsUnused, cast_by, has_classic_cast, IsPromiseHeard}
 use Rattle.gz_round.specs.Sending.{AreAllowed, MayAsk, MayMake}
-use Rattle.gz_ledger.specs.Histories.{Seen, IsIn, IsVotedAt}
-use Rattle.gz_ledger.specs.Guards.{IsPromiseHeard}
-use Rattle.gz_ledger.specs.Deeds.{Store}
-use Rattle.gz_laws.specs.Heard.{IsClean, entry_of, heard_of, SeenStands, MomentsStand, IsStepOf, SentStep, PastStep}
+use Rattle.gz_ledger.specs.Histories.{RowSeen, IsIn, IsVotedAt}
+use Rattle.gz_ledger.specs.Guards.{IsPromiseSeen}
+use Rattle.gz_ledger.specs.Transitions.{Store}
+use Rattle.gz_laws.specs.Heard.{IsClean, seen_entry, heard_of, SeenStands, ActionsStand, IsStepSent, SentStep, PastStep}
 use Rattle.gz_laws.proofs.Hearing.{slots_open}
 use Rattle.gz_round.proofs.Prepares.{next_unpromised}
 
@@ -44,12 +44,12 @@ step_promises (ClassicVote u d x) v b e = cc
 step_promises (Decide u x) v b e = cc
 step_promises (Trim to x) v b e = cc
 
-pub op_promises : (op : Op) (v : ℕ) (b : BallotAt) → IsStepOf op (Promises v b) → of_step promise_by op ≡ Some (v, b)
+pub op_promises : (op : Op) (v : ℕ) (b : BallotAt) → IsStepSent op (Promises v b) → of_step promise_by op ≡ Some (v, b)
 op_promises (ReadRow key) v b h = absurd h
 op_promises (WriteRow key expect step row) v b h = step_promises step v b h
 
 -- a promise that was sent is counted as one
-pub sent_promises : (ms : List Moment) (v : ℕ) (b : BallotAt) → SentStep ms (Promises v b) → has_promised ms b ≡ true
+pub sent_promises : (ms : List Action) (v : ℕ) (b : BallotAt) → SentStep ms (Promises v b) → has_promised ms b ≡ true
 sent_promises [] v b h = absurd h
 sent_promises (Sent a ∷ ms) v b (inl h) = or_left (passes_sent (λ p. same_ballot p.1 b) (of_step promise_by a.op)) (has_promised ms b) (ap (passes_sent (λ p. same_ballot p.1 b)) (op_promises a.op v b h) ∙ same_refl b)
 sent_promises (Sent a ∷ ms) v b (inr h) = or_right (passes_sent (λ p. same_ballot p.1 b) (of_step promise_by a.op)) (has_promised ms b) (sent_promises ms v b h)
@@ -63,24 +63,24 @@ sent_promises (GaveIn ∷ ms) v b (inl h) = absurd h
 sent_promises (GaveIn ∷ ms) v b (inr h) = sent_promises ms v b h
 
 -- a ballot that no earlier call promised
-pub unused_past : (past : List Tale) (v : ℕ) (b : BallotAt) → IsUnused past b → PastStep past (Promises v b) → ⊥
+pub unused_past : (past : List Trace) (v : ℕ) (b : BallotAt) → IsUnused past b → PastStep past (Promises v b) → ⊥
 unused_past [] v b unused h = h
-unused_past (t ∷ ts) v b unused (inl h) = let e : true ≡ false = sym (sent_promises t.moments v b h) ∙ unused.0 in cc
+unused_past (t ∷ ts) v b unused (inl h) = let e : true ≡ false = sym (sent_promises t.actions v b h) ∙ unused.0 in cc
 unused_past (t ∷ ts) v b unused (inr h) = unused_past ts v b unused.1 h
 
 -- the guard of a write
-abbrev pub OpGuard : Config → Caller → List Tale → List Moment → Op → Type 0
+abbrev pub OpGuard : Config → Caller → List Trace → List Action → Op → Type 0
 OpGuard c w past ms (ReadRow key) = Unit {0}
 OpGuard c w past ms (WriteRow key expect step row) = MayMake c w past ms step
 
-asks_guard : (c : Config) (w : Caller) (past : List Tale) (ms : List Moment) (now : SiteNow) (op : Op) → MayAsk c w past ms now op → OpGuard c w past ms op
+asks_guard : (c : Config) (w : Caller) (past : List Trace) (ms : List Action) (now : SiteNow) (op : Op) → MayAsk c w past ms now op → OpGuard c w past ms op
 asks_guard c w past ms now (ReadRow key) h = tt
 asks_guard c w past ms now (WriteRow key expect step row) h = h.1.guard
 
 pair_parts : (p q : ℕ × BallotAt) → Some p ≡ Some q → (p.0 ≡ q.0) × (p.1 ≡ q.1)
 pair_parts p q e = let k : p ≡ q = cc in (ap (λ z. z.0) k, ap (λ z. z.1) k)
 
-last_step : (c : Config) (w : Caller) (past : List Tale) (step : RowStep) (ms : List Moment) (u v : ℕ) (b : BallotAt) → MayMake c w past ms step → or_earlier (promise_by step) (last_promise ms) ≡ Some (v, b)
+last_step : (c : Config) (w : Caller) (past : List Trace) (step : RowStep) (ms : List Action) (u v : ℕ) (b : BallotAt) → MayMake c w past ms step → or_earlier (promise_by step) (last_promise ms) ≡ Some (v, b)
     → (act_of step ≡ Promises u b) ⊎ SentStep ms (Promises u b) → (last_promise ms ≡ Some (v, b) → SentStep ms (Promises u b) → u ≡ v) → ((x : ℕ) → last_promise ms ≡ Some (x, b) → SentStep ms (Promises u b) → u ≡ x) → u ≡ v
 last_step c w past (FastVote n x) ms u v b guard last (inl e) same any = cc
 last_step c w past (FastVote n x) ms u v b guard last (inr k) same any = same last k
@@ -97,14 +97,14 @@ last_step c w past (Decide n x) ms u v b guard last (inl e) same any = cc
 last_step c w past (Decide n x) ms u v b guard last (inr k) same any = same last k
 last_step c w past (Trim to x) ms u v b guard last h same any = absurd guard
 
-last_op : (c : Config) (w : Caller) (past : List Tale) (op : Op) (ms : List Moment) (u v : ℕ) (b : BallotAt) → OpGuard c w past ms op → or_earlier (of_step promise_by op) (last_promise ms) ≡ Some (v, b)
-    → IsStepOf op (Promises u b) ⊎ SentStep ms (Promises u b) → (last_promise ms ≡ Some (v, b) → SentStep ms (Promises u b) → u ≡ v) → ((x : ℕ) → last_promise ms ≡ Some (x, b) → SentStep ms (Promises u b) → u ≡ x) → u ≡ v
+last_op : (c : Config) (w : Caller) (past : List Trace) (op : Op) (ms : List Action) (u v : ℕ) (b : BallotAt) → OpGuard c w past ms op → or_earlier (of_step promise_by op) (last_promise ms) ≡ Some (v, b)
+    → IsStepSent op (Promises u b) ⊎ SentStep ms (Promises u b) → (last_promise ms ≡ Some (v, b) → SentStep ms (Promises u b) → u ≡ v) → ((x : ℕ) → last_promise ms ≡ Some (x, b) → SentStep ms (Promises u b) → u ≡ x) → u ≡ v
 last_op c w past (ReadRow key) ms u v b guard last (inl h) same any = absurd h
 last_op c w past (ReadRow key) ms u v b guard last (inr h) same any = same last h
 last_op c w past (WriteRow key expect step row) ms u v b guard last h same any = last_step c w past step ms u v b guard last h same any
 
 -- all promises of the ballot that was promised last are at its version
-pub last_version : (c : Config) (w : Caller) (past : List Tale) (ms : List Moment) (u v : ℕ) (b : BallotAt) → AreAllowed c w past ms → last_promise ms ≡ Some (v, b) → SentStep ms (Promises u b) → u ≡ v
+pub last_version : (c : Config) (w : Caller) (past : List Trace) (ms : List Action) (u v : ℕ) (b : BallotAt) → AreAllowed c w past ms → last_promise ms ≡ Some (v, b) → SentStep ms (Promises u b) → u ≡ v
 last_version c w past [] u v b allowed last h = absurd h
 last_version c w past (Sent a ∷ ms) u v b allowed last h = last_op c w past a.op ms u v b (asks_guard c w past ms (site_now ms a.site) a.op allowed.0.asks) last h (λ l k. last_version c w past ms u v b allowed.1 l k) (λ x l k. last_version c w past ms u x b allowed.1 l k)
 last_version c w past (Handed a reply ∷ ms) u v b allowed last (inl h) = absurd h
@@ -128,11 +128,11 @@ step_promised (ClassicVote u d x) v b h = cc
 step_promised (Decide u x) v b h = cc
 step_promised (Trim to x) v b h = cc
 
-pub op_promised : (op : Op) (v : ℕ) (b : BallotAt) → passes_sent (λ p. (p.0 == v) && same_ballot p.1 b) (of_step promise_by op) ≡ true → IsStepOf op (Promises v b)
+pub op_promised : (op : Op) (v : ℕ) (b : BallotAt) → passes_sent (λ p. (p.0 == v) && same_ballot p.1 b) (of_step promise_by op) ≡ true → IsStepSent op (Promises v b)
 op_promised (ReadRow key) v b h = cc
 op_promised (WriteRow key expect step row) v b h = step_promised step v b h
 
-pub promised_sent : (ms : List Moment) (v : ℕ) (b : BallotAt) → has_promised_at ms v b ≡ true → SentStep ms (Promises v b)
+pub promised_sent : (ms : List Action) (v : ℕ) (b : BallotAt) → has_promised_at ms v b ≡ true → SentStep ms (Promises v b)
 promised_sent [] v b h = cc
 promised_sent (Sent a ∷ ms) v b h =
     elim (or_cases (passes_sent (λ p. (p.0 == v) && same_ballot p.1 b) (of_step promise_by a.op)) (has_promised_at ms v b) h) [ inl e ↦ inl (op_promised a.op v b e) | inr e ↦ inr (promised_sent ms v b e) ]
@@ -153,14 +153,14 @@ step_casts (ClassicVote u d x) v b y e =
 step_casts (Decide u x) v b y e = cc
 step_casts (Trim to x) v b y e = cc
 
-op_casts : (op : Op) (v : ℕ) (b : BallotAt) (y : Name) → IsStepOf op (VotesClassic v b y) → passes_sent (λ k. (k.version == v) && same_ballot k.ballot b && same_name k.name y) (of_step cast_by op) ≡ true
+op_casts : (op : Op) (v : ℕ) (b : BallotAt) (y : Name) → IsStepSent op (VotesClassic v b y) → passes_sent (λ k. (k.version == v) && same_ballot k.ballot b && same_name k.name y) (of_step cast_by op) ≡ true
 op_casts (ReadRow key) v b y h = absurd h
 op_casts (WriteRow key expect step row) v b y h = step_casts step v b y h
 
-pub sent_casts : (ms : List Moment) (v : ℕ) (b : BallotAt) (y : Name) → SentStep ms (VotesClassic v b y) → has_cast ms v b y ≡ true
+pub sent_casts : (ms : List Action) (v : ℕ) (b : BallotAt) (y : Name) → SentStep ms (VotesClassic v b y) → has_classic_cast ms v b y ≡ true
 sent_casts [] v b y h = absurd h
-sent_casts (Sent a ∷ ms) v b y (inl h) = or_left (passes_sent (λ k. (k.version == v) && same_ballot k.ballot b && same_name k.name y) (of_step cast_by a.op)) (has_cast ms v b y) (op_casts a.op v b y h)
-sent_casts (Sent a ∷ ms) v b y (inr h) = or_right (passes_sent (λ k. (k.version == v) && same_ballot k.ballot b && same_name k.name y) (of_step cast_by a.op)) (has_cast ms v b y) (sent_casts ms v b y h)
+sent_casts (Sent a ∷ ms) v b y (inl h) = or_left (passes_sent (λ k. (k.version == v) && same_ballot k.ballot b && same_name k.name y) (of_step cast_by a.op)) (has_classic_cast ms v b y) (op_casts a.op v b y h)
+sent_casts (Sent a ∷ ms) v b y (inr h) = or_right (passes_sent (λ k. (k.version == v) && same_ballot k.ballot b && same_name k.name y) (of_step cast_by a.op)) (has_classic_cast ms v b y) (sent_casts ms v b y h)
 sent_casts (Handed a reply ∷ ms) v b y (inl h) = absurd h
 sent_casts (Handed a reply ∷ ms) v b y (inr h) = sent_casts ms v b y h
 sent_casts (GaveUp a ∷ ms) v b y (inl h) = absurd h
@@ -170,22 +170,22 @@ sent_casts (Rested ∷ ms) v b y (inr h) = sent_casts ms v b y h
 sent_casts (GaveIn ∷ ms) v b y (inl h) = absurd h
 sent_casts (GaveIn ∷ ms) v b y (inr h) = sent_casts ms v b y h
 
-later : (site : ℕ) (o : Option SeenRow) (es : List Seen) (e : Seen) → IsIn e es → IsIn e (entry_of site o es)
+later : (site : ℕ) (o : Option Seen) (es : List RowSeen) (e : RowSeen) → IsIn e es → IsIn e (seen_entry site o es)
 later site None es e h = h
 later site (Some seen) es e h = inr h
 
 -- a row that was heard is among the rows
-heard_entry : (st : Store) (a : Asked) (s : ℕ) (o : Option SeenRow) (es : List Seen) (row : RowAt) → SeenStands st a.site o → is_to a s ≡ true → ((seen : SeenRow) × ((o ≡ Some seen) × (seen.row ≡ row)))
-    → IsClean row × (let e : Seen = record { site = s; row = slots row } in IsIn e (entry_of a.site o es))
+heard_entry : (st : Store) (a : Asked) (s : ℕ) (o : Option Seen) (es : List RowSeen) (row : RowAt) → SeenStands st a.site o → is_to a s ≡ true → ((seen : Seen) × ((o ≡ Some seen) × (seen.row ≡ row)))
+    → IsClean row × (let e : RowSeen = record { site = s; row = slots row } in IsIn e (seen_entry a.site o es))
 heard_entry st a s None es row stands to h = let bad = h.1.0 in cc
 heard_entry st a s (Some k) es row stands to h =
     let same : k ≡ h.0 = (let e = h.1.0 in cc) in
-    let is : k.row ≡ row = ap (λ (q : SeenRow). q.row) same ∙ h.1.1 in
+    let is : k.row ≡ row = ap (λ (q : Seen). q.row) same ∙ h.1.1 in
     let t = and_parts (is_row_request a.op) (a.site == s) to in
     let n = eqb-true a.site s t.1 in
-    (subst IsClean is stands.0, inl (λ i. let e : Seen = record { site = sym n i; row = slots (sym is i) } in e))
+    (subst IsClean is stands.0, inl (λ i. let e : RowSeen = record { site = sym n i; row = slots (sym is i) } in e))
 
-pub was_heard : (st : Store) (ms : List Moment) (s : ℕ) (row : RowAt) → MomentsStand st ms → WasHeard ms s row → IsClean row × (let e : Seen = record { site = s; row = slots row } in IsIn e (heard_of ms))
+pub was_heard : (st : Store) (ms : List Action) (s : ℕ) (row : RowAt) → ActionsStand st ms → WasHeard ms s row → IsClean row × (let e : RowSeen = record { site = s; row = slots row } in IsIn e (heard_of ms))
 was_heard st [] s row stands h = absurd h
 was_heard st (Sent a ∷ ms) s row stands (inl h) = let bad = h.2 in cc
 was_heard st (Sent a ∷ ms) s row stands (inr h) = was_heard st ms s row stands.1 h
@@ -199,11 +199,11 @@ was_heard st (GaveIn ∷ ms) s row stands (inl h) = let bad = h.2 in cc
 was_heard st (GaveIn ∷ ms) s row stands (inr h) = was_heard st ms s row stands.1 h
 
 -- the promises that were heard
-pub promises_heard : (st : Store) (ms : List Moment) (v : ℕ) (b : BallotAt) (heard : List Heard) → MomentsStand st ms → All (IsPromiseHeardBy ms v b) heard → (at : ℕ) (h : Heard) → slice_get heard at ≡ Some h → IsPromiseHeard (heard_of ms) v b h
+pub promises_heard : (st : Store) (ms : List Action) (v : ℕ) (b : BallotAt) (heard : List Heard) → ActionsStand st ms → All (IsPromiseHeard ms v b) heard → (at : ℕ) (h : Heard) → slice_get heard at ≡ Some h → IsPromiseSeen (heard_of ms) v b h
 promises_heard st ms v b heard stands all = λ at h e.
     let k = all at h (slice_get_within heard at h e) in
     let is : get_or heard at h ≡ h = get_or_from_slice_get heard at h h e in
-    let p : IsPromiseHeardBy ms v b h = subst (IsPromiseHeardBy ms v b) is k in
+    let p : IsPromiseHeard ms v b h = subst (IsPromiseHeard ms v b) is k in
     let w = was_heard st ms h.site p.0 stands p.1 in
     record { entry = record { site = h.site; row = slots p.0 }; found = w.1; site = refl; row = p.2; none = p.3 }
 
@@ -214,7 +214,7 @@ vote_open (Some (Open promise None)) b x e = cc
 vote_open (Some (Open promise (Some vote))) b x e = (promise, ap (OpenAt promise) e)
 vote_open (Some (Decided value)) b x e = cc
 
-pub vote_heard : (st : Store) (ms : List Moment) (v s : ℕ) (row : RowAt) (b : BallotAt) (x : Name) → MomentsStand st ms → WasHeard ms s row → row_vote row v ≡ Some (b, x) → IsVotedAt (heard_of ms) v x
+pub vote_heard : (st : Store) (ms : List Action) (v s : ℕ) (row : RowAt) (b : BallotAt) (x : Name) → ActionsStand st ms → WasHeard ms s row → row_vote row v ≡ Some (b, x) → IsVotedAt (heard_of ms) v x
 vote_heard st ms v s row b x stands was vote =
     let w = was_heard st ms s row stands was in
     let o = vote_open (column_in row.columns v) b x vote in

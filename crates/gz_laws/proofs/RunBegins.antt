@@ -9,31 +9,31 @@ use Rattle.gz_core.specs.declared.calls.Answer.{Answer}
 use Rattle.gz_core.specs.declared.calls.Call.{Call}
 use Rattle.gz_core.specs.declared.requests.Out.{Out}
 use Rattle.gz_core.specs.declared.requests.Turn.{Turn}
-use Rattle.gz_round.specs.History.{Caller, Tale, begun}
+use Rattle.gz_round.specs.History.{Caller, Trace, begun}
 use Rattle.gz_round.specs.Sites.{seen_in, written_by}
-use Rattle.gz_client.specs.Tales.{AreTold}
+use Rattle.gz_client.specs.Traces.{AllKeepRules}
 use Rattle.gz_history.specs.Answers.{shows}
 use Rattle.gz_history.specs.Legal.{IsBefore}
 use Rattle.gz_history.specs.declared.record.CallRec.{CallRec}
 use Rattle.gz_ledger.specs.Histories.{Write, IsIn, VotesFor}
-use Rattle.gz_ledger.specs.Deeds.{Deed, Reads, Begins, Written, Failed, Elsewhere, after_deeds, late_rows, sent_after, AreCurrentDeeds}
+use Rattle.gz_ledger.specs.Transitions.{Transition, Reads, Begins, Written, Failed, Elsewhere, after_transitions, late_rows, sent_after, AreCurrentTransitions}
 use Rattle.gz_world.specs.declared.events.Effect.{Effect}
 use Rattle.gz_laws.specs.Begun.{begins_of, IsBegunIn}
 use Rattle.gz_laws.specs.Carried.{AreCarried}
 use Rattle.gz_laws.specs.Heard.{unused}
-use Rattle.gz_laws.specs.Listed.{AreListed}
+use Rattle.gz_laws.specs.Listed.{AreCallsListed}
 use Rattle.gz_laws.specs.Placed.{ArePlaced}
 use Rattle.gz_laws.specs.Runs.{IsSentBy, IsShownAt, IsSince, IsRun}
 use Rattle.gz_world.specs.States.{State, tick_of, next_of, numbered, sent_requests, end_at}
 use Rattle.gz_world.specs.Steps.{SessionMoves, BeginsBy}
 use Rattle.gz_laws.proofs.Keeping.{keeps_fresh, sent_most}
-use Rattle.gz_laws.proofs.Listing.{tales_here, tales_there}
+use Rattle.gz_laws.proofs.Listing.{traces_here, traces_there}
 use Rattle.gz_world.proofs.Places.{get_of_two, get_one}
 use Rattle.gz_laws.proofs.RunAnswers.{call_shown}
 use Rattle.gz_laws.proofs.RunSends.{has_sent, NetFrom, sent_run}
 use Rattle.gz_laws.proofs.RunTools.{alike_itself, two_cases, fresh_request, row_in_more, since_on}
 use Rattle.gz_laws.proofs.RunTurns.{net_heard}
-use Rattle.gz_laws.proofs.Tales.{each_moved}
+use Rattle.gz_laws.proofs.Traces.{each_moved}
 use Rattle.gz_laws.proofs.Keys.{name_apart}
 
 pub begin_net : (old new : State) (name : Name) (tick : ℕ) (outs : List Out) → new.net ≡ old.net ++ sent_requests name tick outs → NetFrom old.net new.net name tick outs
@@ -43,15 +43,15 @@ begin_net old new name tick outs net = λ m q at. elim (two_cases old.net (sent_
 ]
 
 -- the name of a call that begins is new
-new_name : (old : State) (key : List ℕ) (session : ℕ) (name : Name) (act : Act) → ((n : ℕ) → AreTold old.cfg n (old.tales n)) → name ≡ record { session = session; seq = length (old.tales session) + 1 } → IsSentBy key name act (old.tales name.session) → ⊥
+new_name : (old : State) (key : List ℕ) (session : ℕ) (name : Name) (act : Act) → ((n : ℕ) → AllKeepRules old.cfg n (old.traces n)) → name ≡ record { session = session; seq = length (old.traces session) + 1 } → IsSentBy key name act (old.traces name.session) → ⊥
 new_name old key session name act told is h =
-    let most = sent_most old.cfg name.session key name act (old.tales name.session) (told name.session) h in
-    let seq : name.seq ≡ length (old.tales session) + 1 = ap (λ (x : Name). x.seq) is in
-    let same : length (old.tales name.session) ≡ length (old.tales session) = ap (λ (x : Name). length (old.tales x.session)) is in
+    let most = sent_most old.cfg name.session key name act (old.traces name.session) (told name.session) h in
+    let seq : name.seq ≡ length (old.traces session) + 1 = ap (λ (x : Name). x.seq) is in
+    let same : length (old.traces name.session) ≡ length (old.traces session) = ap (λ (x : Name). length (old.traces x.session)) is in
     omega (arith, most, seq, same)
 
 -- a call that sent no write began none
-none_begun : (name : Name) (ds : List Deed) → ((q : Write) → IsIn q (sent_after unused ds) → q.call ≡ name → ⊥) → begins_of name ds ≡ []
+none_begun : (name : Name) (ds : List Transition) → ((q : Write) → IsIn q (sent_after unused ds) → q.call ≡ name → ⊥) → begins_of name ds ≡ []
 none_begun name [] unsent = refl
 none_begun name (Reads s ∷ ds) unsent = none_begun name ds unsent
 none_begun name (Begins heard a ∷ ds) unsent =
@@ -65,16 +65,16 @@ not_yet : (tick begin : ℕ) (o : Option Answer) → begin ≤ tick → IsBefore
 not_yet tick begin None le h = h
 not_yet tick begin (Some answer) le h = omega (arith, le, h)
 
-begin_tales : (old new : State) (session : ℕ) (t : Tale) (key : List ℕ) (name : Name) (act : Act) → SessionMoves old session (t ∷ old.tales session) new → IsSentBy key name act (old.tales name.session) → IsSentBy key name act (new.tales name.session)
-begin_tales old new session t key name act moves h = elim (cases_eq name.session session) [
-  | inl e ↦ subst (IsSentBy key name act) (sym (ap new.tales e ∙ tales_here old new session (t ∷ old.tales session) moves)) (inr (subst (IsSentBy key name act) (ap old.tales e) h))
-  | inr ne ↦ subst (IsSentBy key name act) (sym (tales_there old new session name.session (t ∷ old.tales session) moves ne)) h
+begin_traces : (old new : State) (session : ℕ) (t : Trace) (key : List ℕ) (name : Name) (act : Act) → SessionMoves old session (t ∷ old.traces session) new → IsSentBy key name act (old.traces name.session) → IsSentBy key name act (new.traces name.session)
+begin_traces old new session t key name act moves h = elim (cases_eq name.session session) [
+  | inl e ↦ subst (IsSentBy key name act) (sym (ap new.traces e ∙ traces_here old new session (t ∷ old.traces session) moves)) (inr (subst (IsSentBy key name act) (ap old.traces e) h))
+  | inr ne ↦ subst (IsSentBy key name act) (sym (traces_there old new session name.session (t ∷ old.traces session) moves ne)) h
 ]
 
-pub begin_run : (key : List ℕ) (old new : State) (ds : List Deed) (session : ℕ) (call : Call) (turn : Turn) (effect : Effect) → BeginsBy old session call turn effect new → AreListed old → AreCarried old → ArePlaced old → IsRun key old ds → (more : List Deed) × IsRun key new more
+pub begin_run : (key : List ℕ) (old new : State) (ds : List Transition) (session : ℕ) (call : Call) (turn : Turn) (effect : Effect) → BeginsBy old session call turn effect new → AreCallsListed old → AreCarried old → ArePlaced old → IsRun key old ds → (more : List Transition) × IsRun key new more
 begin_run key old new ds session call turn effect b listed carries placed run =
     let c = old.cfg in
-    let past = old.tales session in
+    let past = old.traces session in
     let name : Name = record { session = session; seq = length past + 1 } in
     let w : Caller = record { name = name; call = call } in
     let first = next_of old in
@@ -82,12 +82,12 @@ begin_run key old new ds session call turn effect b listed carries placed run =
     let outs = turn.send in
     let t = begun session call first turn past in
     let fresh : CallRec = record { name = name; call = call; begin = tick; end = end_at tick turn.answer; answer = turn.answer } in
-    let s = has_sent c key w past first outs [] ds placed.config.quorums run.deeds (λ _. keeps_fresh c key old.tales (after_deeds unused ds) session name listed.told run.sent refl) b.moves.told.0.allowed in
+    let s = has_sent c key w past first outs [] ds placed.config.quorums run.transitions (λ _. keeps_fresh c key old.traces (after_transitions unused ds) session name listed.told run.sent refl) b.moves.told.0.allowed in
     let more = s.0 in
     let sent = s.1 in
     let net = begin_net old new name tick outs b.net in
     let unsent : (q : Write) → IsIn q (sent_after unused ds) → q.call ≡ name → ⊥ = λ q i same. new_name old key session q.call q.act listed.told same (run.sent q i) in
-    let ended : (at : ℕ) (early : List Deed) → at ≤ tick → ((i v : ℕ) (a : CallRec) → slice_get old.calls i ≡ Some a → key_of a.call ≡ key → IsBefore a.end at → shows a.answer ≡ Some v → IsShownAt c early v)
+    let ended : (at : ℕ) (early : List Transition) → at ≤ tick → ((i v : ℕ) (a : CallRec) → slice_get old.calls i ≡ Some a → key_of a.call ≡ key → IsBefore a.end at → shows a.answer ≡ Some v → IsShownAt c early v)
     → (i v : ℕ) (a : CallRec) → slice_get new.calls i ≡ Some a → key_of a.call ≡ key → IsBefore a.end at → shows a.answer ≡ Some v → IsShownAt c early v
     = λ at early le all i v a there own ends show. elim (get_of_two old.calls (fresh ∷ []) i a (subst (λ xs. slice_get xs i ≡ Some a) b.calls there)) [
       | inl e ↦ all i v a e own ends show
@@ -96,9 +96,9 @@ begin_run key old new ds session call turn effect b listed carries placed run =
       more,
       sent_run key old new ds more w first tick outs [] b.frame.cfg b.sites net sent
           (λ q i. elim (sent.from q i) [
-            | inl h ↦ begin_tales old new session t key q.call q.act b.moves (run.sent q h)
+            | inl h ↦ begin_traces old new session t key q.call q.act b.moves (run.sent q h)
             | inr h ↦ (let at : q.call.session ≡ session = ap (λ (x : Name). x.session) h.call in
-                subst (IsSentBy key q.call q.act) (sym (ap new.tales at ∙ tales_here old new session (t ∷ past) b.moves))
+                subst (IsSentBy key q.call q.act) (sym (ap new.traces at ∙ traces_here old new session (t ∷ past) b.moves))
                 (inl (record {
                   name_is = sym h.call;
                   key_is = h.key_is;
@@ -123,12 +123,12 @@ begin_run key old new ds session call turn effect b listed carries placed run =
                   late = on.later;
                   split = on.split;
                   unsent = unsent;
-                  current = subst (λ c. AreCurrentDeeds c unused name on.later ds) (sym b.frame.cfg) on.current;
+                  current = subst (λ c. AreCurrentTransitions c unused name on.later ds) (sym b.frame.cfg) on.current;
                   heard = net_heard key old.net new.net name tick outs name (late_rows unused on.later ds) net
                       (λ m i u q reply at asked named e.
                       let most = (placed.requests m q at).call in
                       let seq : q.name.seq ≡ length past + 1 = ap (λ (x : Name). x.seq) named in
-                      let len : length (old.tales q.name.session) ≡ length past = ap (λ (x : Name). length (old.tales x.session)) named in
+                      let len : length (old.traces q.name.session) ≡ length past = ap (λ (x : Name). length (old.traces x.session)) named in
                       absurd (omega (arith, most, seq, len)));
                   ended = λ i v a there own ends show. subst (λ c. IsShownAt c ds v) (sym b.frame.cfg)
                       (ended tick ds (omega arith) (λ i v a there own ends show. call_shown key old ds i v a run listed carries there own show) i v a there own ends show);

@@ -7,10 +7,10 @@ use Rattle.gz_round.specs.Sites.{seen_in, written_by}
 use Rattle.gz_site.specs.Told.{Told, Tells}
 use Rattle.gz_model.specs.Casts.{has_cast}
 use Rattle.gz_ledger.specs.Histories.{IsIn, cast}
-use Rattle.gz_ledger.specs.Deeds.{Store, Asked as AskedOf, Deed, after_deeds, AreDeeds, late_rows, seen_after, writes_of}
+use Rattle.gz_ledger.specs.Transitions.{Store, WriteSent, Transition, after_transitions, AreTransitions, late_rows, seen_after, writes_of}
 use Rattle.gz_world.specs.declared.events.Effect.{Effect}
 use Rattle.gz_laws.specs.Begun.{IsBegunIn}
-use Rattle.gz_laws.specs.Each.{EachTale}
+use Rattle.gz_laws.specs.Each.{EachTrace}
 use Rattle.gz_laws.specs.Heard.{unused, SeenStands}
 use Rattle.gz_laws.specs.Runs.{SiteStands, key_asked, RequestStands, IsSentBy, IsRowIn, IsRun}
 use Rattle.gz_world.specs.States.{RequestAt, State, tick_of, numbered, with_reply}
@@ -19,7 +19,7 @@ use Rattle.gz_laws.proofs.CastRuns.{or_comm, fold_has}
 use Rattle.gz_world.proofs.Places.{get_of_two, get_one}
 use Rattle.gz_laws.proofs.RunSites.{site_done}
 use Rattle.gz_laws.proofs.RunTools.{request_more, row_in_more, set_cases, since_on}
-use Rattle.gz_laws.proofs.Tales.{each_on}
+use Rattle.gz_laws.proofs.Traces.{each_on}
 
 -- a site that tells goes on to tell
 pub both_tell : (o p : Option Told) (R : Told → Told → Type 0) → IsSome o → Tells o p R → (before : Told) × ((after : Told) × ((o ≡ Some before) × ((p ≡ Some after) × R before after)))
@@ -48,37 +48,37 @@ reply_stands st su r tick reply h seen = record {
   ];
 }
 
-pub deliver_run : (key : List ℕ) (old new : State) (ds : List Deed) (n : ℕ) (r : RequestAt) (reply : Reply) (effect : Effect) → DeliversBy old n r reply effect new → IsSome (old.sites r.site) → IsRun key old ds → (more : List Deed) × IsRun key new more
+pub deliver_run : (key : List ℕ) (old new : State) (ds : List Transition) (n : ℕ) (r : RequestAt) (reply : Reply) (effect : Effect) → DeliversBy old n r reply effect new → IsSome (old.sites r.site) → IsRun key old ds → (more : List Transition) × IsRun key new more
 deliver_run key old new ds n r reply effect d tells run =
     let t = both_tell (old.sites r.site) (new.sites r.site) (λ before after. Answers before r.op reply after) tells d.site in
     let before = t.0 in
     let after = t.1.0 in
-    let k = site_done old.cfg key ds r.site r.name r.op reply before after run.deeds (run.sites r.site before t.1.1.0)
+    let k = site_done old.cfg key ds r.site r.name r.op reply before after run.transitions (run.sites r.site before t.1.1.0)
     (λ same. let s = run.requests n r d.request same in (s.asked, s.clean)) t.1.1.1.1 in
     let more = k.0 in
     let done = k.1 in
     let now = with_reply (tick_of old) reply r in
-    let keep : (q : AskedOf) → IsIn q (after_deeds unused ds).asked → IsIn q (after_deeds unused more).asked = λ q h. subst (IsIn q) (sym done.asked) h in (
+    let keep : (q : WriteSent) → IsIn q (after_transitions unused ds).asked → IsIn q (after_transitions unused more).asked = λ q h. subst (IsIn q) (sym done.asked) h in (
       more,
       record {
-        deeds = subst (λ c. AreDeeds c unused more) (sym d.frame.cfg) done.deeds;
+        transitions = subst (λ c. AreTransitions c unused more) (sym d.frame.cfg) done.transitions;
         sites = λ i told is. elim (cases_eq i r.site) [
           | inl e ↦ (let same = same_told after told (sym t.1.1.1.0 ∙ sym (ap new.sites e) ∙ is) in
-              subst (λ x. SiteStands key told (after_deeds unused more) x) (sym e) (subst (λ x. SiteStands key x (after_deeds unused more) r.site) same done.here))
+              subst (λ x. SiteStands key told (after_transitions unused more) x) (sym e) (subst (λ x. SiteStands key x (after_transitions unused more) r.site) same done.here))
           | inr ne ↦ (let s = run.sites i told (sym (d.others i ne) ∙ is) in
               record { stored = done.stored i ne ∙ s.stored; used = done.used i ne ∙ s.used; clean = s.clean })
         ];
         requests = λ m q there is. elim (set_cases old.net n m r now q d.request (subst (λ xs. numbered xs m ≡ Some q) d.net there)) [
           | inl e ↦ (let own : key_asked r.op ≡ key = sym (ap (λ (x : RequestAt). key_asked x.op) e) ∙ is in
-              subst (RequestStands (after_deeds unused more)) (sym e)
-              (reply_stands (after_deeds unused ds) (after_deeds unused more) r (tick_of old) reply (request_more (after_deeds unused ds) (after_deeds unused more) r done.replies keep (run.requests n r d.request own)) (done.seen own)))
-          | inr e ↦ request_more (after_deeds unused ds) (after_deeds unused more) q done.replies keep (run.requests m q e is)
+              subst (RequestStands (after_transitions unused more)) (sym e)
+              (reply_stands (after_transitions unused ds) (after_transitions unused more) r (tick_of old) reply (request_more (after_transitions unused ds) (after_transitions unused more) r done.replies keep (run.requests n r d.request own)) (done.seen own)))
+          | inr e ↦ request_more (after_transitions unused ds) (after_transitions unused more) q done.replies keep (run.requests m q e is)
         ];
         casts = λ v b x i.
             ap (λ cs. has_cast cs key v b x i) d.casts ∙ fold_has (casts_in r.site r.op reply) old.casts key v b x i ∙ ap (λ t. t || has_cast (casts_in r.site r.op reply) key v b x i) (run.casts v b x i)
             ∙ or_comm (cast (seen_after unused ds) v b x i) (has_cast (casts_in r.site r.op reply) key v b x i) ∙ sym (done.casts v b x i);
-        sent = λ q i. subst (IsSentBy key q.call q.act) (sym (d.sessions.tales q.call.session)) (run.sent q (subst (λ xs. IsIn q (writes_of xs)) done.asked i));
-        begun = λ m. subst (EachTale (IsBegunIn key more)) (sym (d.sessions.tales m)) (each_on (IsBegunIn key ds) (IsBegunIn key more) (old.tales m) (λ t h own. done.begun t.caller.name ∙ h own) (run.begun m));
+        sent = λ q i. subst (IsSentBy key q.call q.act) (sym (d.sessions.traces q.call.session)) (run.sent q (subst (λ xs. IsIn q (writes_of xs)) done.asked i));
+        begun = λ m. subst (EachTrace (IsBegunIn key more)) (sym (d.sessions.traces m)) (each_on (IsBegunIn key ds) (IsBegunIn key more) (old.traces m) (λ t h own. done.begun t.caller.name ∙ h own) (run.begun m));
         calls = λ j b there is.
             let since = run.calls j b (subst (λ cs. slice_get cs j ≡ Some b) d.sessions.calls there) is in
             let on = done.along b.name since.early since.late since.split since.current in

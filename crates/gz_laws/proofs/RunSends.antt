@@ -10,19 +10,19 @@ use Rattle.gz_config.specs.declared.Config.{Config}
 use Rattle.gz_core.specs.declared.requests.Op.{Op}
 use Rattle.gz_core.specs.declared.requests.Out.{Out}
 use Rattle.gz_core.specs.declared.requests.Reply.{Reply}
-use Rattle.gz_round.specs.declared.hearing.Seen.{Seen as SeenRow}
-use Rattle.gz_round.specs.History.{Moment, Sent, Handed, GaveUp, Rested, GaveIn, Caller, Tale, IsClosing, asked_of, sent_from}
+use Rattle.gz_round.specs.declared.hearing.Seen.{Seen}
+use Rattle.gz_round.specs.History.{Action, Sent, Handed, GaveUp, Rested, GaveIn, Caller, Trace, IsClosing, asked_of, sent_from}
 use Rattle.gz_round.specs.Sites.{site_now, seen_in, written_by}
 use Rattle.gz_round.specs.Sending.{AreAllowed}
 use Rattle.gz_history.specs.declared.record.CallRec.{CallRec}
 use Rattle.gz_model.specs.Casts.{has_cast}
-use Rattle.gz_ledger.specs.Histories.{Seen, Write, IsIn, cast}
+use Rattle.gz_ledger.specs.Histories.{RowSeen, Write, IsIn, cast}
 use Rattle.gz_ledger.specs.Agreements.{HasQuorums}
-use Rattle.gz_ledger.specs.Deeds.{Store, Deed, after_deeds, AreDeeds, rows_of, late_rows, sent_after, AreCurrentDeeds}
-use Rattle.gz_laws.specs.Carried.{MomentsCarried}
+use Rattle.gz_ledger.specs.Transitions.{Store, Transition, after_transitions, AreTransitions, rows_of, late_rows, sent_after, AreCurrentTransitions}
+use Rattle.gz_laws.specs.Carried.{ActionsCarried}
 use Rattle.gz_laws.specs.Begun.{begins_of, sends_of, IsBegunIn}
-use Rattle.gz_laws.specs.Each.{EachTale}
-use Rattle.gz_laws.specs.Heard.{unused, entry_of, heard_of, SentStep, Keeps, AskedHere, CleanOp}
+use Rattle.gz_laws.specs.Each.{EachTrace}
+use Rattle.gz_laws.specs.Heard.{unused, seen_entry, heard_of, SentStep, Keeps, AskedHere, CleanOp}
 use Rattle.gz_laws.specs.Runs.{key_asked, RequestStands, IsSentBy, IsRowIn, IsSince, IsRun}
 use Rattle.gz_world.specs.States.{RequestAt, State, numbered, sent_request}
 use Rattle.gz_world.specs.Steps.{SitesStay, CallEnds, answered}
@@ -33,24 +33,24 @@ use Rattle.gz_world.proofs.Places.{get_set_same, get_set_other}
 use Rattle.gz_laws.proofs.RunTools.{IsAlike, alike_stands, request_more}
 
 -- a write that the call sends now
-pub record IsOurs (key : List ℕ) (w : Caller) (ds : List Deed) (ms : List Moment) (q : Write) : Type 0 where
+pub record IsOurs (key : List ℕ) (w : Caller) (ds : List Transition) (ms : List Action) (q : Write) : Type 0 where
   pub call : q.call ≡ w.name
   pub key_is : key_of w.call ≡ key
   pub sent : SentStep ms q.act
   pub vote : IsOwnVote w ds q.act
 
--- the deeds of an object when a call has sent its requests
-pub record HasSent (c : Config) (key : List ℕ) (w : Caller) (first : ℕ) (outs : List Out) (ms : List Moment) (ds more : List Deed) : Type 0 where
-  pub deeds : AreDeeds c unused more
-  pub only : OnlyAsks (after_deeds unused ds) (after_deeds unused more)
-  pub here : (j : ℕ) (o : Out) → slice_get outs j ≡ Some o → key_asked o.op ≡ key → AskedHere w.name o.site o.op (after_deeds unused more) × CleanOp o.op
+-- the transitions of an object when a call has sent its requests
+pub record HasSent (c : Config) (key : List ℕ) (w : Caller) (first : ℕ) (outs : List Out) (ms : List Action) (ds more : List Transition) : Type 0 where
+  pub transitions : AreTransitions c unused more
+  pub only : OnlyAsks (after_transitions unused ds) (after_transitions unused more)
+  pub here : (j : ℕ) (o : Out) → slice_get outs j ≡ Some o → key_asked o.op ≡ key → AskedHere w.name o.site o.op (after_transitions unused more) × CleanOp o.op
   pub from : (q : Write) → IsIn q (sent_after unused more) → IsIn q (sent_after unused ds) ⊎ IsOurs key w ds (sent_from first outs ms) q
   pub others : (x : Name) → (w.name ≡ x → ⊥) → begins_of x more ≡ begins_of x ds
   pub own : key_of w.call ≡ key → begins_of w.name ds ≡ sends_of ms → begins_of w.name more ≡ sends_of (sent_from first outs ms)
-  pub on : (call : Name) (early late : List Deed) → ds ≡ late ++ early → AreCurrentDeeds c unused call late early → (call ≡ w.name → key_of w.call ≡ key → (e : Seen) → IsIn e (heard_of ms) → IsIn e (late_rows unused late early)) → GoesOn c call early late more
+  pub on : (call : Name) (early late : List Transition) → ds ≡ late ++ early → AreCurrentTransitions c unused call late early → (call ≡ w.name → key_of w.call ≡ key → (e : RowSeen) → IsIn e (heard_of ms) → IsIn e (late_rows unused late early)) → GoesOn c call early late more
 
 -- each request is of the call's object
-sends_key : (c : Config) (w : Caller) (past : List Tale) (first : ℕ) (outs : List Out) (ms : List Moment) → AreAllowed c w past (sent_from first outs ms) → (j : ℕ) (o : Out) → slice_get outs j ≡ Some o → key_asked o.op ≡ key_of w.call
+sends_key : (c : Config) (w : Caller) (past : List Trace) (first : ℕ) (outs : List Out) (ms : List Action) → AreAllowed c w past (sent_from first outs ms) → (j : ℕ) (o : Out) → slice_get outs j ≡ Some o → key_asked o.op ≡ key_of w.call
 sends_key c w past first [] ms allowed j o e = cc
 sends_key c w past first (out ∷ outs) ms allowed zero o e =
     let same : out ≡ o = cc in
@@ -58,14 +58,14 @@ sends_key c w past first (out ∷ outs) ms allowed zero o e =
     subst (λ (k : Out). key_asked k.op ≡ key_of w.call) same (asks_key c w past ms (site_now ms out.site) out.op (allowed_base c w past (first + 1) outs (Sent a ∷ ms) allowed).0.asks)
 sends_key c w past first (out ∷ outs) ms allowed (suc j) o e = sends_key c w past (first + 1) outs (Sent (asked_of first out) ∷ ms) allowed j o e
 
-pub has_sent : (c : Config) (key : List ℕ) (w : Caller) (past : List Tale) (first : ℕ) (outs : List Out) (ms : List Moment) (ds : List Deed) → HasQuorums c → AreDeeds c unused ds → (key_of w.call ≡ key → Keeps w.name past ms (after_deeds unused ds)) → AreAllowed c w past (sent_from first outs ms)
-    → (more : List Deed) × HasSent c key w first outs ms ds more
+pub has_sent : (c : Config) (key : List ℕ) (w : Caller) (past : List Trace) (first : ℕ) (outs : List Out) (ms : List Action) (ds : List Transition) → HasQuorums c → AreTransitions c unused ds → (key_of w.call ≡ key → Keeps w.name past ms (after_transitions unused ds)) → AreAllowed c w past (sent_from first outs ms)
+    → (more : List Transition) × HasSent c key w first outs ms ds more
 has_sent c key w past first outs ms ds quorums are keeps allowed = elim (key_cases (key_of w.call) key) [
   | inl same ↦ (let k = sends c w past first outs ms ds quorums are (keeps same) allowed in
       let s = k.1 in (
         k.0,
         record {
-          deeds = s.are;
+          transitions = s.are;
           only = s.only;
           here = λ j o e _. s.here j o e;
           from = λ q i. elim (s.from q i) [ inl h ↦ inl h | inr h ↦ inr (record { call = h.0; key_is = same; sent = s.keeps.own q i h.0; vote = h.1 }) ];
@@ -77,8 +77,8 @@ has_sent c key w past first outs ms ds quorums are keeps allowed = elim (key_cas
   | inr apart ↦ (
     ds,
     record {
-      deeds = are;
-      only = only_itself (after_deeds unused ds);
+      transitions = are;
+      only = only_itself (after_transitions unused ds);
       here = λ j o e is. absurd (apart.0 (sym (sends_key c w past first outs ms allowed j o e) ∙ is));
       from = λ q i. inl i;
       others = λ x _. refl;
@@ -97,22 +97,22 @@ fresh_stands : (st : Store) (name : Name) (tick : ℕ) (o : Out) → AskedHere n
 fresh_stands st name tick o h = record { asked = h.0; clean = h.1; replies = λ i t reply e. cc }
 
 -- the run of an object when a call has sent its requests
-pub sent_run : (key : List ℕ) (old new : State) (ds more : List Deed) (w : Caller) (first tick : ℕ) (outs : List Out) (ms : List Moment) → new.cfg ≡ old.cfg → SitesStay old new → NetFrom old.net new.net w.name tick outs → HasSent old.cfg key w first outs ms ds more
-    → ((q : Write) → IsIn q (sent_after unused more) → IsSentBy key q.call q.act (new.tales q.call.session)) → ((n : ℕ) → EachTale (IsBegunIn key more) (new.tales n))
+pub sent_run : (key : List ℕ) (old new : State) (ds more : List Transition) (w : Caller) (first tick : ℕ) (outs : List Out) (ms : List Action) → new.cfg ≡ old.cfg → SitesStay old new → NetFrom old.net new.net w.name tick outs → HasSent old.cfg key w first outs ms ds more
+    → ((q : Write) → IsIn q (sent_after unused more) → IsSentBy key q.call q.act (new.traces q.call.session)) → ((n : ℕ) → EachTrace (IsBegunIn key more) (new.traces n))
     → ((j : ℕ) (b : CallRec) → slice_get new.calls j ≡ Some b → key_of b.call ≡ key → IsSince new key more b) → IsRun key old ds → IsRun key new more
 sent_run key old new ds more w first tick outs ms cfg stay net has sent begun calls run =
     let only = has.only in
     record {
-      deeds = subst (λ c. AreDeeds c unused more) (sym cfg) has.deeds;
+      transitions = subst (λ c. AreTransitions c unused more) (sym cfg) has.transitions;
       sites = λ i told is.
           let s = run.sites i told (sym (stay.sites i) ∙ is) in
           record { stored = only.stored i ∙ s.stored; used = only.used i ∙ s.used; clean = s.clean };
       requests = λ m q there is. elim (net m q there) [
         | inl k ↦ (let same = k.1.1.1 in
-            alike_stands (after_deeds unused more) k.1.0 q same
-            (request_more (after_deeds unused ds) (after_deeds unused more) k.1.0 (λ a h. subst (IsIn a) (sym only.replies) h) only.asked (run.requests k.0 k.1.0 k.1.1.0 (sym (ap key_asked same.op) ∙ is))))
+            alike_stands (after_transitions unused more) k.1.0 q same
+            (request_more (after_transitions unused ds) (after_transitions unused more) k.1.0 (λ a h. subst (IsIn a) (sym only.replies) h) only.asked (run.requests k.0 k.1.0 k.1.1.0 (sym (ap key_asked same.op) ∙ is))))
         | inr k ↦ (let e = k.1.1.1 in
-            subst (RequestStands (after_deeds unused more)) e (fresh_stands (after_deeds unused more) w.name tick k.1.0 (has.here k.0 k.1.0 k.1.1.0 (ap (λ (x : RequestAt). key_asked x.op) e ∙ is))))
+            subst (RequestStands (after_transitions unused more)) e (fresh_stands (after_transitions unused more) w.name tick k.1.0 (has.here k.0 k.1.0 k.1.1.0 (ap (λ (x : RequestAt). key_asked x.op) e ∙ is))))
       ];
       casts = λ v b x i. ap (λ cs. has_cast cs key v b x i) stay.casts ∙ run.casts v b x i ∙ sym (ap (λ rs. cast (rows_of rs) v b x i) only.replies);
       sent = sent;
@@ -121,14 +121,14 @@ sent_run key old new ds more w first tick outs ms cfg stay net has sent begun ca
     }
 
 -- a row of a reply that was heard
-entry_in : (s : ℕ) (o : Option SeenRow) (es rows : List Seen) (e : Seen) → IsRowIn s o rows → (IsIn e es → IsIn e rows) → IsIn e (entry_of s o es) → IsIn e rows
+entry_in : (s : ℕ) (o : Option Seen) (es rows : List RowSeen) (e : RowSeen) → IsRowIn s o rows → (IsIn e es → IsIn e rows) → IsIn e (seen_entry s o es) → IsIn e rows
 entry_in s None es rows e row more h = more h
 entry_in s (Some seen) es rows e row more (inl same) = subst (λ k. IsIn k rows) (sym same) row
 entry_in s (Some seen) es rows e row more (inr h) = more h
 
 -- what a call heard is among the rows of its requests' replies
-pub heard_in_rows : (c : Config) (key : List ℕ) (net : List RequestAt) (w : Caller) (past : List Tale) (ms : List Moment) (rows : List Seen) → key_of w.call ≡ key → AreAllowed c w past ms → MomentsCarried net w.name ms
-    → ((n i tick : ℕ) (r : RequestAt) (reply : Reply) → numbered net n ≡ Some r → key_asked r.op ≡ key → r.name ≡ w.name → slice_get r.replies i ≡ Some (tick, reply) → IsRowIn r.site (seen_in (written_by r.op) reply) rows) → (e : Seen) → IsIn e (heard_of ms) → IsIn e rows
+pub heard_in_rows : (c : Config) (key : List ℕ) (net : List RequestAt) (w : Caller) (past : List Trace) (ms : List Action) (rows : List RowSeen) → key_of w.call ≡ key → AreAllowed c w past ms → ActionsCarried net w.name ms
+    → ((n i tick : ℕ) (r : RequestAt) (reply : Reply) → numbered net n ≡ Some r → key_asked r.op ≡ key → r.name ≡ w.name → slice_get r.replies i ≡ Some (tick, reply) → IsRowIn r.site (seen_in (written_by r.op) reply) rows) → (e : RowSeen) → IsIn e (heard_of ms) → IsIn e rows
 heard_in_rows c key net w past [] rows is allowed carried all e h = absurd h
 heard_in_rows c key net w past (Sent a ∷ ms) rows is allowed carried all e h = heard_in_rows c key net w past ms rows is allowed.1 carried.1 all e h
 heard_in_rows c key net w past (Handed a reply ∷ ms) rows is allowed carried all e h =
@@ -145,21 +145,21 @@ heard_in_rows c key net w past (Rested ∷ ms) rows is allowed carried all e h =
 heard_in_rows c key net w past (GaveIn ∷ ms) rows is allowed carried all e h = heard_in_rows c key net w past ms rows is allowed.1 carried.1 all e h
 
 -- how an event closes sends nothing
-pub closing_allowed : (c : Config) (w : Caller) (past : List Tale) (closing ms : List Moment) → IsClosing closing → AreAllowed c w past (closing ++ ms) → AreAllowed c w past ms
+pub closing_allowed : (c : Config) (w : Caller) (past : List Trace) (closing ms : List Action) → IsClosing closing → AreAllowed c w past (closing ++ ms) → AreAllowed c w past ms
 closing_allowed c w past closing ms (inl e) h = subst (λ ks. AreAllowed c w past (ks ++ ms)) e h
 closing_allowed c w past closing ms (inr e) h = (subst (λ ks. AreAllowed c w past (ks ++ ms)) e h).1
 
-pub closing_sent : (closing ms : List Moment) (act : Act) → IsClosing closing → SentStep ms act → SentStep (closing ++ ms) act
+pub closing_sent : (closing ms : List Action) (act : Act) → IsClosing closing → SentStep ms act → SentStep (closing ++ ms) act
 closing_sent closing ms act (inl e) h = subst (λ ks. SentStep (ks ++ ms) act) (sym e) h
 closing_sent closing ms act (inr e) h = subst (λ ks. SentStep (ks ++ ms) act) (sym e) (inr h)
 
 -- and begins no write
-pub closing_sends : (closing ms : List Moment) → IsClosing closing → sends_of (closing ++ ms) ≡ sends_of ms
+pub closing_sends : (closing ms : List Action) → IsClosing closing → sends_of (closing ++ ms) ≡ sends_of ms
 closing_sends closing ms (inl e) = ap (λ ks. sends_of (ks ++ ms)) e
 closing_sends closing ms (inr e) = ap (λ ks. sends_of (ks ++ ms)) e
 
 -- what a call sent before it sent
-pub sent_before : (first : ℕ) (outs : List Out) (ms : List Moment) (act : Act) → SentStep ms act → SentStep (sent_from first outs ms) act
+pub sent_before : (first : ℕ) (outs : List Out) (ms : List Action) (act : Act) → SentStep ms act → SentStep (sent_from first outs ms) act
 sent_before first [] ms act h = h
 sent_before first (o ∷ os) ms act h = sent_before (first + 1) os (Sent (asked_of first o) ∷ ms) act (inr h)
 

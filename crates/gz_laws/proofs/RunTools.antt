@@ -9,13 +9,13 @@ use Rattle.gz_core.specs.declared.requests.Op.{Op}
 use Rattle.gz_core.specs.declared.requests.Op.TheVariants.{ReadRow, WriteRow}
 use Rattle.gz_core.specs.declared.requests.Out.{Out}
 use Rattle.gz_core.specs.declared.requests.Reply.{Reply}
-use Rattle.gz_round.specs.declared.hearing.Seen.{Seen as SeenRow}
+use Rattle.gz_round.specs.declared.hearing.Seen.{Seen}
 use Rattle.gz_round.specs.Sites.{seen_in, written_by}
 use Rattle.gz_history.specs.Answers.{shows}
 use Rattle.gz_history.specs.Legal.{IsBefore}
 use Rattle.gz_history.specs.declared.record.CallRec.{CallRec}
-use Rattle.gz_ledger.specs.Histories.{Seen, IsIn}
-use Rattle.gz_ledger.specs.Deeds.{Store, Answered, Asked as AskedOf, Deed, late_rows, AreCurrentDeeds}
+use Rattle.gz_ledger.specs.Histories.{RowSeen, IsIn}
+use Rattle.gz_ledger.specs.Transitions.{Store, Answered, WriteSent, Transition, late_rows, AreCurrentTransitions}
 use Rattle.gz_laws.specs.Heard.{unused, SeenStands, AskedHere, CleanOp}
 use Rattle.gz_laws.specs.Runs.{key_asked, RequestStands, IsShownAt, IsRowIn, IsSince}
 use Rattle.gz_world.specs.States.{RequestAt, State, numbered, sent_request, sent_requests}
@@ -25,18 +25,18 @@ use Rattle.gz_world.proofs.Members.{numbered_place, place_numbered}
 use Rattle.gz_world.proofs.Places.{get_set_same, get_set_other, get_of_two, get_mapped}
 
 -- requests of a store that has more replies and requests
-asked_more : (st su : Store) (name : Name) (site : ℕ) (op : Op) → ((q : AskedOf) → IsIn q st.asked → IsIn q su.asked) → AskedHere name site op st → AskedHere name site op su
+asked_more : (st su : Store) (name : Name) (site : ℕ) (op : Op) → ((q : WriteSent) → IsIn q st.asked → IsIn q su.asked) → AskedHere name site op st → AskedHere name site op su
 asked_more st su name site (ReadRow key) f h = tt
 asked_more st su name site (WriteRow key expect step row) f h = (h.0, (h.1.0, f h.0 h.1.1))
 
-pub request_more : (st su : Store) (r : RequestAt) → ((a : Answered) → IsIn a st.replies → IsIn a su.replies) → ((q : AskedOf) → IsIn q st.asked → IsIn q su.asked) → RequestStands st r → RequestStands su r
+pub request_more : (st su : Store) (r : RequestAt) → ((a : Answered) → IsIn a st.replies → IsIn a su.replies) → ((q : WriteSent) → IsIn q st.asked → IsIn q su.asked) → RequestStands st r → RequestStands su r
 request_more st su r f g h = record {
   asked = asked_more st su r.name r.site r.op g h.asked;
   clean = h.clean;
   replies = λ i tick reply e. seen_more st su r.site (seen_in (written_by r.op) reply) f (h.replies i tick reply e);
 }
 
-pub row_in_more : (s : ℕ) (o : Option SeenRow) (rows more : List Seen) → ((e : Seen) → IsIn e rows → IsIn e more) → IsRowIn s o rows → IsRowIn s o more
+pub row_in_more : (s : ℕ) (o : Option Seen) (rows more : List RowSeen) → ((e : RowSeen) → IsIn e rows → IsIn e more) → IsRowIn s o rows → IsRowIn s o more
 row_in_more s None rows more f h = tt
 row_in_more s (Some seen) rows more f h = f (record { site = s; row = slots seen.row }) h
 
@@ -60,7 +60,7 @@ alike_stands st r q same h = record {
       (h.replies i tick reply (subst (λ xs. slice_get xs i ≡ Some (tick, reply)) same.replies e)));
 }
 
-pub alike_in : (rows : List Seen) (r q : RequestAt) (reply : Reply) → IsAlike r q → IsRowIn r.site (seen_in (written_by r.op) reply) rows → IsRowIn q.site (seen_in (written_by q.op) reply) rows
+pub alike_in : (rows : List RowSeen) (r q : RequestAt) (reply : Reply) → IsAlike r q → IsRowIn r.site (seen_in (written_by r.op) reply) rows → IsRowIn q.site (seen_in (written_by q.op) reply) rows
 alike_in rows r q reply same h =
     subst (λ (o : Op). IsRowIn q.site (seen_in (written_by o) reply) rows) (sym same.op) (subst (λ (s : ℕ). IsRowIn s (seen_in (written_by r.op) reply) rows) (sym same.site) h)
 
@@ -84,8 +84,8 @@ two_cases xs ys m q h =
 pub fresh_request : (name : Name) (tick : ℕ) (outs : List Out) (j : ℕ) (q : RequestAt) → slice_get (sent_requests name tick outs) j ≡ Some q → (o : Out) × ((slice_get outs j ≡ Some o) × (sent_request name tick o ≡ q))
 fresh_request name tick outs j q h = get_mapped (sent_request name tick) outs j q h
 
--- a call since it began, with more deeds
-pub since_on : (key : List ℕ) (old new : State) (ds more : List Deed) (b d : CallRec) → new.cfg ≡ old.cfg → d.name ≡ b.name → d.begin ≡ b.begin → (since : IsSince old key ds b) → (on : GoesOn old.cfg b.name since.early since.late more)
+-- a call since it began, with more transitions
+pub since_on : (key : List ℕ) (old new : State) (ds more : List Transition) (b d : CallRec) → new.cfg ≡ old.cfg → d.name ≡ b.name → d.begin ≡ b.begin → (since : IsSince old key ds b) → (on : GoesOn old.cfg b.name since.early since.late more)
     → ((n i tick : ℕ) (r : RequestAt) (reply : Reply) → numbered new.net n ≡ Some r → key_asked r.op ≡ key → r.name ≡ b.name → slice_get r.replies i ≡ Some (tick, reply) → IsRowIn r.site (seen_in (written_by r.op) reply) (late_rows unused on.later since.early))
     → ((i v : ℕ) (a : CallRec) → slice_get new.calls i ≡ Some a → key_of a.call ≡ key → IsBefore a.end b.begin → shows a.answer ≡ Some v → IsShownAt old.cfg since.early v) → IsSince new key more d
 since_on key old new ds more b d cfg name begin since on heard ended = record {
@@ -93,7 +93,7 @@ since_on key old new ds more b d cfg name begin since on heard ended = record {
   late = on.later;
   split = on.split;
   unsent = λ q i same. since.unsent q i (same ∙ name);
-  current = subst (λ c. AreCurrentDeeds c unused d.name on.later since.early) (sym cfg) (subst (λ x. AreCurrentDeeds old.cfg unused x on.later since.early) (sym name) on.current);
+  current = subst (λ c. AreCurrentTransitions c unused d.name on.later since.early) (sym cfg) (subst (λ x. AreCurrentTransitions old.cfg unused x on.later since.early) (sym name) on.current);
   heard = λ n i tick r reply there is same at. heard n i tick r reply there is (same ∙ name) at;
   ended = λ i v a there is before show. subst (λ c. IsShownAt c since.early v) (sym cfg) (ended i v a there is (subst (IsBefore a.end) begin before) show);
 }

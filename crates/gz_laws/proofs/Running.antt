@@ -4,25 +4,25 @@ use Rattle.std.proofs.lemmas.Bool.{cases_eq}
 use Rattle.std.specs.Prelude.{Option, MatchOption, IfSome, IsSome, slice_get}
 use Rattle.gz_config.specs.declared.Config.{Config}
 use Rattle.gz_core.specs.declared.requests.Reply.{Reply}
-use Rattle.gz_round.specs.History.{Asked, Moment, Handed, GaveUp}
-use Rattle.gz_client.specs.Tales.{AreTold}
+use Rattle.gz_round.specs.History.{Asked, Action, Handed, GaveUp}
+use Rattle.gz_client.specs.Traces.{AllKeepRules}
 use Rattle.gz_site.specs.Told.{Told, Tells, IsEmpty}
 use Rattle.gz_model.specs.Casts.{has_cast}
-use Rattle.gz_ledger.specs.Deeds.{Deed, after_deeds, AreDeeds}
+use Rattle.gz_ledger.specs.Transitions.{Transition, after_transitions, AreTransitions}
 use Rattle.gz_world.specs.declared.events.Effect.{Effect}
 use Rattle.gz_world.specs.declared.events.Event.{Event}
 use Rattle.gz_world.specs.declared.events.Event.TheVariants as events
 use Rattle.gz_laws.specs.Begun.{IsBegunIn}
-use Rattle.gz_laws.specs.Carried.{IsRequestOf, HasReply, MomentCarried, TalesCarried, AreCarried}
-use Rattle.gz_laws.specs.Each.{EachTale}
+use Rattle.gz_laws.specs.Carried.{IsRequestOf, HasReply, ActionCarried, TracesCarried, AreCarried}
+use Rattle.gz_laws.specs.Each.{EachTrace}
 use Rattle.gz_laws.specs.Heard.{unused}
-use Rattle.gz_laws.specs.Listed.{AreListed}
+use Rattle.gz_laws.specs.Listed.{AreCallsListed}
 use Rattle.gz_laws.specs.Placed.{ArePlaced}
 use Rattle.gz_world.specs.Reached.{IsOpening, IsReached, opened, stepped, AllTell}
 use Rattle.gz_world.specs.Refusals.{refusal_of}
 use Rattle.gz_laws.specs.Runs.{stored_of, IsCleanStored, IsSentBy, IsRun}
 use Rattle.gz_world.specs.States.{RequestAt, State, tick_of, numbered, with_handed, with_given_up}
-use Rattle.gz_world.specs.Steps.{Answers, DeliversBy, SitesStay, TurnBy, TakesTurn, Acts, Does, Skips, Step}
+use Rattle.gz_world.specs.Steps.{Answers, DeliversBy, SitesStay, TurnBy, TakesTurn, HasEffect, Does, Skips, WorldStep}
 use Rattle.gz_laws.proofs.Carrying.{carried, awaited_carried}
 use Rattle.gz_laws.proofs.Keeping.{awaited_key, handed_stands}
 use Rattle.gz_laws.proofs.Listing.{listed}
@@ -34,16 +34,16 @@ use Rattle.gz_laws.proofs.RunTools.{since_on}
 use Rattle.gz_laws.proofs.RunTurns.{turn_run}
 
 -- nothing that the run reads has changed
-same_run : (key : List ℕ) (old new : State) (ds : List Deed) → new.cfg ≡ old.cfg → ((i : ℕ) → new.sites i ≡ old.sites i) → ((n : ℕ) → new.tales n ≡ old.tales n) → new.net ≡ old.net → new.calls ≡ old.calls → new.casts ≡ old.casts → IsRun key old ds → (more : List Deed) × IsRun key new more
-same_run key old new ds cfg sites tales net calls casts run = (
+same_run : (key : List ℕ) (old new : State) (ds : List Transition) → new.cfg ≡ old.cfg → ((i : ℕ) → new.sites i ≡ old.sites i) → ((n : ℕ) → new.traces n ≡ old.traces n) → new.net ≡ old.net → new.calls ≡ old.calls → new.casts ≡ old.casts → IsRun key old ds → (more : List Transition) × IsRun key new more
+same_run key old new ds cfg sites traces net calls casts run = (
   ds,
   record {
-    deeds = subst (λ c. AreDeeds c unused ds) (sym cfg) run.deeds;
+    transitions = subst (λ c. AreTransitions c unused ds) (sym cfg) run.transitions;
     sites = λ i told is. run.sites i told (sym (sites i) ∙ is);
     requests = λ n r there is. run.requests n r (subst (λ xs. numbered xs n ≡ Some r) net there) is;
     casts = λ v b x i. ap (λ cs. has_cast cs key v b x i) casts ∙ run.casts v b x i;
-    sent = λ q i. subst (IsSentBy key q.call q.act) (sym (tales q.call.session)) (run.sent q i);
-    begun = λ n. subst (EachTale (IsBegunIn key ds)) (sym (tales n)) (run.begun n);
+    sent = λ q i. subst (IsSentBy key q.call q.act) (sym (traces q.call.session)) (run.sent q i);
+    begun = λ n. subst (EachTrace (IsBegunIn key ds)) (sym (traces n)) (run.begun n);
     calls = λ j b there is.
         let since = run.calls j b (subst (λ xs. slice_get xs j ≡ Some b) calls there) is in
         since_on key old new ds ds b b cfg refl refl since (record { later = since.late; split = since.split; current = since.current; rows = λ e h. h })
@@ -55,50 +55,50 @@ same_run key old new ds cfg sites tales net calls casts run = (
 same_request : (a b : RequestAt) → Some a ≡ Some b → a ≡ b
 same_request a b e = cc
 
--- the request that a running call is told of is the one that it awaits
-pub told_request : (old new : State) (n : ℕ) (r marked : RequestAt) (moment : Asked → Moment) (by : TurnBy) (effect : Effect) → TakesTurn old n r moment by marked effect new → AreCarried old → IsRequestOf old.net by.tale.caller.name by.asked r
-told_request old new n r marked moment by effect t carries =
-    let mine : TalesCarried old.net (by.tale ∷ by.earlier) = subst (TalesCarried old.net) t.tales (carries r.name.session) in
-    let k = awaited_carried old.net by.tale.caller.name by.tale.moments by.asked.site by.asked mine.0 t.awaited.awaits in
+-- the request that a running call learns of is the one that it awaits
+pub told_request : (old new : State) (n : ℕ) (r marked : RequestAt) (action : Asked → Action) (by : TurnBy) (effect : Effect) → TakesTurn old n r action by marked effect new → AreCarried old → IsRequestOf old.net by.trace.caller.name by.asked r
+told_request old new n r marked action by effect t carries =
+    let mine : TracesCarried old.net (by.trace ∷ by.earlier) = subst (TracesCarried old.net) t.traces (carries r.name.session) in
+    let k = awaited_carried old.net by.trace.caller.name by.trace.actions by.asked.site by.asked mine.0 t.awaited.awaits in
     let same = same_request k.0 r (sym k.1.there ∙ ap (numbered old.net) t.awaited.number_is ∙ t.request) in
-    subst (λ (q : RequestAt). IsRequestOf old.net by.tale.caller.name by.asked q) same k.1
+    subst (λ (q : RequestAt). IsRequestOf old.net by.trace.caller.name by.asked q) same k.1
 
--- the reply that it is told of is one of that request
-pub handed_moment : (old new : State) (n which : ℕ) (r : RequestAt) (reply : ℕ × Reply) (by : TurnBy) (effect : Effect) → numbered r.replies which ≡ Some reply → TakesTurn old n r (λ a. Handed a reply.1) by (with_handed (tick_of old) which r) effect new → AreCarried old
-    → MomentCarried old.net by.tale.caller.name (Handed by.asked reply.1)
-handed_moment old new n which r reply by effect there t carries =
+-- the reply that it learns of is one of that request
+pub handed_action : (old new : State) (n which : ℕ) (r : RequestAt) (reply : ℕ × Reply) (by : TurnBy) (effect : Effect) → numbered r.replies which ≡ Some reply → TakesTurn old n r (λ a. Handed a reply.1) by (with_handed (tick_of old) which r) effect new → AreCarried old
+    → ActionCarried old.net by.trace.caller.name (Handed by.asked reply.1)
+handed_action old new n which r reply by effect there t carries =
     let has : HasReply r reply.1 = record { place = which - 1; tick = reply.0; there = (numbered_place r.replies which reply there).1 } in
     (r, (told_request old new n r (with_handed (tick_of old) which r) (λ a. Handed a reply.1) by effect t carries, has))
 
-hand_run : (key : List ℕ) (old new : State) (ds : List Deed) (n which : ℕ) (r : RequestAt) (reply : ℕ × Reply) (by : TurnBy) (effect : Effect) → numbered r.replies which ≡ Some reply → TakesTurn old n r (λ a. Handed a reply.1) by (with_handed (tick_of old) which r) effect new
-    → AreListed old → AreCarried old → ArePlaced old → IsRun key old ds → (more : List Deed) × IsRun key new more
+hand_run : (key : List ℕ) (old new : State) (ds : List Transition) (n which : ℕ) (r : RequestAt) (reply : ℕ × Reply) (by : TurnBy) (effect : Effect) → numbered r.replies which ≡ Some reply → TakesTurn old n r (λ a. Handed a reply.1) by (with_handed (tick_of old) which r) effect new
+    → AreCallsListed old → AreCarried old → ArePlaced old → IsRun key old ds → (more : List Transition) × IsRun key new more
 hand_run key old new ds n which r reply by effect there t listed carries placed run =
-    let name = by.tale.caller.name in
-    let moment = handed_moment old new n which r reply by effect there t carries in
-    let told : AreTold old.cfg r.name.session (by.tale ∷ by.earlier) = subst (AreTold old.cfg r.name.session) t.tales (listed.told r.name.session) in
+    let name = by.trace.caller.name in
+    let action = handed_action old new n which r reply by effect there t carries in
+    let told : AllKeepRules old.cfg r.name.session (by.trace ∷ by.earlier) = subst (AllKeepRules old.cfg r.name.session) t.traces (listed.told r.name.session) in
     turn_run key old new ds n r (with_handed (tick_of old) which r) (λ a. Handed a reply.1) by effect t (handed_alike (tick_of old) which r)
-    (λ same. handed_stands key old.net (after_deeds unused ds) name by.asked reply.1 run.requests (awaited_key old.cfg by.tale.caller by.earlier by.tale.moments by.asked.site by.asked told.0.allowed t.awaited.awaits ∙ same) moment)
-    (λ act h. h) (λ a. refl) moment listed carries placed run
+    (λ same. handed_stands key old.net (after_transitions unused ds) name by.asked reply.1 run.requests (awaited_key old.cfg by.trace.caller by.earlier by.trace.actions by.asked.site by.asked told.0.allowed t.awaited.awaits ∙ same) action)
+    (λ act h. h) (λ a. refl) action listed carries placed run
 
-give_up_run : (key : List ℕ) (old new : State) (ds : List Deed) (n : ℕ) (r : RequestAt) (by : TurnBy) (effect : Effect) → TakesTurn old n r (λ a. GaveUp a) by (with_given_up (tick_of old) r) effect new
-    → AreListed old → AreCarried old → ArePlaced old → IsRun key old ds → (more : List Deed) × IsRun key new more
+give_up_run : (key : List ℕ) (old new : State) (ds : List Transition) (n : ℕ) (r : RequestAt) (by : TurnBy) (effect : Effect) → TakesTurn old n r (λ a. GaveUp a) by (with_given_up (tick_of old) r) effect new
+    → AreCallsListed old → AreCarried old → ArePlaced old → IsRun key old ds → (more : List Transition) × IsRun key new more
 give_up_run key old new ds n r by effect t listed carries placed run =
     turn_run key old new ds n r (with_given_up (tick_of old) r) (λ a. GaveUp a) by effect t (given_up_alike (tick_of old) r) (λ _. tt) (λ act h. h) (λ a. refl)
     (r, told_request old new n r (with_given_up (tick_of old) r) (λ a. GaveUp a) by effect t carries) listed carries placed run
 
-does_run : (key : List ℕ) (old new : State) (ds : List Deed) (event : Event) (effect : Effect) → Does old event effect new → AllTell old → AreListed old → AreCarried old → ArePlaced old → IsRun key old ds → (more : List Deed) × IsRun key new more
-does_run key old new ds events.OpenSession effect d tell l c p run = same_run key old new ds d.frame.cfg d.sites.sites d.tales d.net d.calls d.sites.casts run
+does_run : (key : List ℕ) (old new : State) (ds : List Transition) (event : Event) (effect : Effect) → Does old event effect new → AllTell old → AreCallsListed old → AreCarried old → ArePlaced old → IsRun key old ds → (more : List Transition) × IsRun key new more
+does_run key old new ds events.OpenSession effect d tell l c p run = same_run key old new ds d.frame.cfg d.sites.sites d.traces d.net d.calls d.sites.casts run
 does_run key old new ds (events.Begin session call) effect d tell l c p run = begin_run key old new ds session call d.0 effect d.1 l c p run
 does_run key old new ds (events.Deliver n) effect d tell l c p run = deliver_run key old new ds n d.0 d.1.0 effect d.1.1 (tell d.0.site (p.requests n d.0 d.1.1.request).site) run
 does_run key old new ds (events.Reply n which) effect d tell l c p run = hand_run key old new ds n which d.0 d.1.0 d.1.1.0 effect d.1.1.1.0 d.1.1.1.1 l c p run
 does_run key old new ds (events.GiveUp n) effect d tell l c p run = give_up_run key old new ds n d.0 d.1.0 effect d.1.1 l c p run
-does_run key old new ds (events.Crash session) effect d tell l c p run = same_run key old new ds d.frame.cfg d.sites.sites d.tales d.net d.calls d.sites.casts run
+does_run key old new ds (events.Crash session) effect d tell l c p run = same_run key old new ds d.frame.cfg d.sites.sites d.traces d.net d.calls d.sites.casts run
 
-pub acts_run : (key : List ℕ) (old new : State) (ds : List Deed) (event : Event) (effect : Effect) → Acts old event effect new → AllTell old → AreListed old → AreCarried old → ArePlaced old → IsRun key old ds → (more : List Deed) × IsRun key new more
+pub acts_run : (key : List ℕ) (old new : State) (ds : List Transition) (event : Event) (effect : Effect) → HasEffect old event effect new → AllTell old → AreCallsListed old → AreCarried old → ArePlaced old → IsRun key old ds → (more : List Transition) × IsRun key new more
 acts_run key old new ds event effect acts tell l c p run =
-    elim (refusal_of old event) as (λ o. MatchOption o (Does old event effect new) (λ why. Skips old event why effect new) → (more : List Deed) × IsRun key new more) [
+    elim (refusal_of old event) as (λ o. MatchOption o (Does old event effect new) (λ why. Skips old event why effect new) → (more : List Transition) × IsRun key new more) [
       | None ↦ λ d. does_run key old new ds event effect d tell l c p run
-      | Some why ↦ λ k. same_run key old new ds k.same.frame.cfg k.same.sites.sites k.same.sessions.tales k.same.net k.same.sessions.calls k.same.sites.casts run
+      | Some why ↦ λ k. same_run key old new ds k.same.frame.cfg k.same.sites.sites k.same.sessions.traces k.same.net k.same.sessions.calls k.same.sites.casts run
     ] acts
 
 -- a site that tells has always told
@@ -127,26 +127,26 @@ does_tell old new (events.Reply n which) effect d = (stay_tell old new d.1.1.1.1
 does_tell old new (events.GiveUp n) effect d = (stay_tell old new d.1.1.sites, d.1.1.frame.cfg)
 does_tell old new (events.Crash session) effect d = (stay_tell old new d.sites, d.frame.cfg)
 
-acts_tell : (old new : State) (event : Event) (effect : Effect) → Acts old event effect new → StillTell old new × (new.cfg ≡ old.cfg)
+acts_tell : (old new : State) (event : Event) (effect : Effect) → HasEffect old event effect new → StillTell old new × (new.cfg ≡ old.cfg)
 acts_tell old new event effect acts =
     elim (refusal_of old event) as (λ o. MatchOption o (Does old event effect new) (λ why. Skips old event why effect new) → StillTell old new × (new.cfg ≡ old.cfg)) [
       | None ↦ λ d. does_tell old new event effect d
       | Some why ↦ λ k. (stay_tell old new k.same.sites, k.same.frame.cfg)
     ] acts
 
-pub step_tell : (old new : State) (event : Event) → Step old event new → AllTell new → AllTell old
+pub step_tell : (old new : State) (event : Event) → WorldStep old event new → AllTell new → AllTell old
 step_tell old new event step tell =
     let mid = step.1.0 in
     let records = step.1.1.1.1 in
     let k = acts_tell old mid event step.0 step.1.1.1.0 in
     λ i l. k.0 i (stay_tell mid new records.sites i (tell i (subst (λ (c : Config). i < c.n) (sym (records.cfg ∙ k.1)) l)))
 
-step_run : (key : List ℕ) (old new : State) (ds : List Deed) (event : Event) → Step old event new → AllTell old → AreListed old → AreCarried old → ArePlaced old → IsRun key old ds → (more : List Deed) × IsRun key new more
+step_run : (key : List ℕ) (old new : State) (ds : List Transition) (event : Event) → WorldStep old event new → AllTell old → AreCallsListed old → AreCarried old → ArePlaced old → IsRun key old ds → (more : List Transition) × IsRun key new more
 step_run key old new ds event step tell l c p run =
     let mid = step.1.0 in
     let records = step.1.1.1.1 in
     let k = acts_run key old mid ds event step.0 step.1.1.1.0 tell l c p run in
-    same_run key mid new k.0 records.cfg records.sites.sites records.sessions.tales records.net records.sessions.calls records.sites.casts k.1
+    same_run key mid new k.0 records.cfg records.sites.sites records.sessions.traces records.net records.sessions.calls records.sites.casts k.1
 
 -- a site that holds nothing
 empty_site : (key : List ℕ) (o : Option Told) (told : Told) → IfSome o IsEmpty → o ≡ Some told → IsEmpty told
@@ -155,19 +155,19 @@ empty_site key (Some other) told empty e = let same : other ≡ told = cc in sub
 
 opening_run : (key : List ℕ) (s : State) → IsOpening s → IsRun key s []
 opening_run key s o = record {
-  deeds = tt;
+  transitions = tt;
   sites = λ i told is.
       let empty = empty_site key (s.sites i) told (o.sites i) is in
       record { stored = sym (ap stored_of (empty.rows key)); used = sym empty.top; clean = subst IsCleanStored (sym (empty.rows key)) tt };
   requests = λ n r there is. let bad : numbered [] n ≡ Some r = subst (λ xs. numbered xs n ≡ Some r) o.net there in let k = (numbered_place [] n r bad).1 in cc;
   casts = λ v b x i. ap (λ cs. has_cast cs key v b x i) o.casts;
   sent = λ q i. absurd i;
-  begun = λ n. subst (EachTale (IsBegunIn key [])) (sym (o.tales n)) tt;
+  begun = λ n. subst (EachTrace (IsBegunIn key [])) (sym (o.traces n)) tt;
   calls = λ j b there is. let bad : slice_get [] j ≡ Some b = subst (λ xs. slice_get xs j ≡ Some b) o.calls there in cc;
 }
 
 -- what happened to an object in a world that is reached is a run, where its sites tell what they hold
-pub runs : (key : List ℕ) (s : State) → IsReached s → AllTell s → (ds : List Deed) × IsRun key s ds
+pub runs : (key : List ℕ) (s : State) → IsReached s → AllTell s → (ds : List Transition) × IsRun key s ds
 runs key _ (opened s o) tell = ([], opening_run key s o)
 runs key _ (stepped old new event h step) tell =
     let before = step_tell old new event step tell in

@@ -20,7 +20,7 @@ use Rattle.gz_core.specs.declared.requests.Op.{Op}
 use Rattle.gz_core.specs.declared.requests.Op.TheVariants.{ReadRow, WriteRow}
 use Rattle.gz_core.specs.declared.requests.Out.{Out}
 use Rattle.gz_core.proofs.Counting.{count_added, count_weaker, count_most}
-use Rattle.gz_round.specs.History.{Asked, Moment, Sent, Caller, Tale, asked_of, sent_from}
+use Rattle.gz_round.specs.History.{Asked, Action, Sent, Caller, Trace, asked_of, sent_from}
 use Rattle.gz_round.specs.Rounds.{top_rounds, rounds_used, round_known, greatest, MayPromise}
 use Rattle.gz_round.specs.Sending.{AreAllowed, MaySend, MayAsk, MayMake, IsMade, made_by, is_awaited, rows_known}
 use Rattle.gz_round.specs.Sent.{of_step, passes_sent, promise_by, has_promised_at, round_after, top_round, is_notice}
@@ -33,7 +33,7 @@ use Rattle.gz_laws.proofs.RowBounds.{row_wider, columns_with, greatest_within}
 use Rattle.gz_laws.proofs.Bounding.{AreHeardWithin, last_within, shown_within, next_within, grounded_within, known_within, promised_low}
 
 -- what a call knows and has promised: the rows that it heard are within these bounds, its session's rounds within `used`
-pub record IsCallWithin (versions rounds used : ℕ) (c : Config) (past : List Tale) (ms : List Moment) : Type 0 where
+pub record IsCallWithin (versions rounds used : ℕ) (c : Config) (past : List Trace) (ms : List Action) : Type 0 where
   pub sizes : IsConfig c
   pub heard : AreHeardWithin versions rounds ms
   pub above : rounds ≤ used
@@ -42,7 +42,7 @@ pub record IsCallWithin (versions rounds used : ℕ) (c : Config) (past : List T
   pub low : (v : ℕ) (b : BallotAt) → has_promised_at ms v b ≡ true → v ≤ versions + 1
 
 -- a promise is of the next round at most
-promise_next : (versions rounds used : ℕ) (c : Config) (w : Caller) (past : List Tale) (ms : List Moment) (v : ℕ) (b : BallotAt) → IsCallWithin versions rounds used c past ms → MayPromise c w past ms v b → b.round ≤ used + 1
+promise_next : (versions rounds used : ℕ) (c : Config) (w : Caller) (past : List Trace) (ms : List Action) (v : ℕ) (b : BallotAt) → IsCallWithin versions rounds used c past ms → MayPromise c w past ms v b → b.round ≤ used + 1
 promise_next versions rounds used c w past ms v b k may = elim may.round [
   | inl e ↦ (let g = greatest_within c.n rounds (λ s. round_known v (rows_known ms s)) (λ s. known_within versions rounds v ms s k.heard) in
       let a = k.above in
@@ -57,7 +57,7 @@ column_made : (versions rounds next v : ℕ) (column : Column) (before : RowAt) 
 column_made versions rounds next v column before h wide le is = columns_with (versions + 1) next v column before.columns le is (row_wider versions (versions + 1) rounds next before (omega arith) wide h).columns
 
 -- the row that a step makes
-made_columns : (versions rounds used next : ℕ) (c : Config) (w : Caller) (past : List Tale) (ms : List Moment) (step : RowStep) (before : RowAt) → IsCallWithin versions rounds used c past ms → used ≤ next → (is_notice step ≡ false → used + 1 ≤ next)
+made_columns : (versions rounds used next : ℕ) (c : Config) (w : Caller) (past : List Trace) (ms : List Action) (step : RowStep) (before : RowAt) → IsCallWithin versions rounds used c past ms → used ≤ next → (is_notice step ≡ false → used + 1 ≤ next)
     → MayMake c w past ms step → IsRowWithin versions rounds before → AreColumnsWithin (versions + 1) next (made_by step before).columns
 made_columns versions rounds used next c w past ms (FastVote v x) before k le more may h =
     let a = k.above in
@@ -80,7 +80,7 @@ made_columns versions rounds used next c w past ms (Decide v x) before k le more
     column_made versions rounds next v (Decided x) before h (omega (arith, a, le)) (omega (arith, version)) tt
 made_columns versions rounds used next c w past ms (Trim to x) before k le more may h = absurd may
 
-made_within : (versions rounds used next : ℕ) (c : Config) (w : Caller) (past : List Tale) (ms : List Moment) (step : RowStep) (before row : RowAt) → IsCallWithin versions rounds used c past ms → used ≤ next → (is_notice step ≡ false → used + 1 ≤ next)
+made_within : (versions rounds used next : ℕ) (c : Config) (w : Caller) (past : List Trace) (ms : List Action) (step : RowStep) (before row : RowAt) → IsCallWithin versions rounds used c past ms → used ≤ next → (is_notice step ≡ false → used + 1 ≤ next)
     → MayMake c w past ms step → IsMade step before row → IsRowWithin versions rounds before → IsRowWithin (versions + 1) next row
 made_within versions rounds used next c w past ms step before row k le more may m h = record {
   clean = clean_made c w past ms step before row (λ v x shown. (shown_within versions rounds c ms v x k.sizes k.heard shown).above) may m h.clean;
@@ -88,25 +88,25 @@ made_within versions rounds used next c w past ms step before row k le more may 
 }
 
 -- the row that a request writes
-asks_within : (versions rounds used next : ℕ) (c : Config) (w : Caller) (past : List Tale) (ms : List Moment) (s : ℕ) (op : Op) → IsCallWithin versions rounds used c past ms → used ≤ next → (is_awaited op ≡ true → used + 1 ≤ next) → MayAsk c w past ms (site_now ms s) op → IfWritten (IsRowWithin (versions + 1) next) op
+asks_within : (versions rounds used next : ℕ) (c : Config) (w : Caller) (past : List Trace) (ms : List Action) (s : ℕ) (op : Op) → IsCallWithin versions rounds used c past ms → used ≤ next → (is_awaited op ≡ true → used + 1 ≤ next) → MayAsk c w past ms (site_now ms s) op → IfWritten (IsRowWithin (versions + 1) next) op
 asks_within versions rounds used next c w past ms s (ReadRow key) k le more may = tt
 asks_within versions rounds used next c w past ms s (WriteRow key expect step row) k le more may =
     let m = may.1 in
     made_within versions rounds used next c w past ms step m.before row k le (λ e. more (ap not e)) m.guard m.made (last_within versions rounds ms s (record { etag = expect; row = m.before }) k.heard m.last)
 
 -- the rounds of the session's ballots, and the versions, once it is sent
-step_round : (versions rounds used next : ℕ) (c : Config) (w : Caller) (past : List Tale) (ms : List Moment) (step : RowStep) → IsCallWithin versions rounds used c past ms → used ≤ next → (is_notice step ≡ false → used + 1 ≤ next) → MayMake c w past ms step → round_after (promise_by step) (top_round ms) ≤ next
+step_round : (versions rounds used next : ℕ) (c : Config) (w : Caller) (past : List Trace) (ms : List Action) (step : RowStep) → IsCallWithin versions rounds used c past ms → used ≤ next → (is_notice step ≡ false → used + 1 ≤ next) → MayMake c w past ms step → round_after (promise_by step) (top_round ms) ≤ next
 step_round versions rounds used next c w past ms (FastVote v x) k le more may = let n = k.now in omega (arith, n, le)
 step_round versions rounds used next c w past ms (Promise v b) k le more may = let n = k.now in let r = promise_next versions rounds used c w past ms v b k may in let up = more refl in omega (arith, n, r, up, le)
 step_round versions rounds used next c w past ms (ClassicVote v b x) k le more may = let n = k.now in omega (arith, n, le)
 step_round versions rounds used next c w past ms (Decide v x) k le more may = let n = k.now in omega (arith, n, le)
 step_round versions rounds used next c w past ms (Trim to x) k le more may = absurd may
 
-asks_round : (versions rounds used next : ℕ) (c : Config) (w : Caller) (past : List Tale) (ms : List Moment) (now : SiteNow) (op : Op) → IsCallWithin versions rounds used c past ms → used ≤ next → (is_awaited op ≡ true → used + 1 ≤ next) → MayAsk c w past ms now op → round_after (of_step promise_by op) (top_round ms) ≤ next
+asks_round : (versions rounds used next : ℕ) (c : Config) (w : Caller) (past : List Trace) (ms : List Action) (now : SiteNow) (op : Op) → IsCallWithin versions rounds used c past ms → used ≤ next → (is_awaited op ≡ true → used + 1 ≤ next) → MayAsk c w past ms now op → round_after (of_step promise_by op) (top_round ms) ≤ next
 asks_round versions rounds used next c w past ms now (ReadRow key) k le more may = let n = k.now in omega (arith, n, le)
 asks_round versions rounds used next c w past ms now (WriteRow key expect step row) k le more may = step_round versions rounds used next c w past ms step k le (λ e. more (ap not e)) may.1.guard
 
-step_version : (versions rounds used : ℕ) (c : Config) (w : Caller) (past : List Tale) (ms : List Moment) (step : RowStep) (u : ℕ) (d : BallotAt) → IsCallWithin versions rounds used c past ms → MayMake c w past ms step → passes_sent (λ p. (p.0 == u) && same_ballot p.1 d) (promise_by step) ≡ true → u ≤ versions + 1
+step_version : (versions rounds used : ℕ) (c : Config) (w : Caller) (past : List Trace) (ms : List Action) (step : RowStep) (u : ℕ) (d : BallotAt) → IsCallWithin versions rounds used c past ms → MayMake c w past ms step → passes_sent (λ p. (p.0 == u) && same_ballot p.1 d) (promise_by step) ≡ true → u ≤ versions + 1
 step_version versions rounds used c w past ms (FastVote v x) u d k may h = cc
 step_version versions rounds used c w past ms (Promise v b) u d k may h =
     let same : v ≡ u = eqb-true v u (and_parts (v == u) (same_ballot b d) h).0 in
@@ -116,7 +116,7 @@ step_version versions rounds used c w past ms (ClassicVote v b x) u d k may h = 
 step_version versions rounds used c w past ms (Decide v x) u d k may h = cc
 step_version versions rounds used c w past ms (Trim to x) u d k may h = cc
 
-asks_version : (versions rounds used : ℕ) (c : Config) (w : Caller) (past : List Tale) (ms : List Moment) (now : SiteNow) (op : Op) (u : ℕ) (d : BallotAt) → IsCallWithin versions rounds used c past ms → MayAsk c w past ms now op → passes_sent (λ p. (p.0 == u) && same_ballot p.1 d) (of_step promise_by op) ≡ true → u ≤ versions + 1
+asks_version : (versions rounds used : ℕ) (c : Config) (w : Caller) (past : List Trace) (ms : List Action) (now : SiteNow) (op : Op) (u : ℕ) (d : BallotAt) → IsCallWithin versions rounds used c past ms → MayAsk c w past ms now op → passes_sent (λ p. (p.0 == u) && same_ballot p.1 d) (of_step promise_by op) ≡ true → u ≤ versions + 1
 asks_version versions rounds used c w past ms now (ReadRow key) u d k may h = cc
 asks_version versions rounds used c w past ms now (WriteRow key expect step row) u d k may h = step_version versions rounds used c w past ms step u d k may.1.guard h
 
@@ -124,11 +124,11 @@ asks_version versions rounds used c w past ms now (WriteRow key expect step row)
 abbrev pub cost_of : Bool → ℕ
 cost_of b = if b then 1 else 0
 
-pub record Measures (c : Config) (measure : List Moment → ℕ) : Type 0 where
-  pub grows : (w : Caller) (past : List Tale) (ms : List Moment) (a : Asked) → MaySend c w past ms a → measure ms + cost_of a.awaited ≤ measure (Sent a ∷ ms)
+pub record Measures (c : Config) (measure : List Action → ℕ) : Type 0 where
+  pub grows : (w : Caller) (past : List Trace) (ms : List Action) (a : Asked) → MaySend c w past ms a → measure ms + cost_of a.awaited ≤ measure (Sent a ∷ ms)
 
 -- once the call has sent its requests
-pub record HasSentWithin (versions used : ℕ) (measure : List Moment → ℕ) (first : ℕ) (outs : List Out) (ms : List Moment) : Type 0 where
+pub record HasSentWithin (versions used : ℕ) (measure : List Action → ℕ) (first : ℕ) (outs : List Out) (ms : List Action) : Type 0 where
   pub next : ℕ
   pub low : used ≤ next
   pub cost : next + measure ms ≤ used + measure (sent_from first outs ms)
@@ -147,7 +147,7 @@ ops_cons : (v r : ℕ) (out : Out) (outs : List Out) → IfWritten (IsRowWithin 
 ops_cons v r out outs one more zero o e = let same : out ≡ o = cc in subst (λ (k : Out). IfWritten (IsRowWithin v r) k.op) same one
 ops_cons v r out outs one more (suc j) o e = more j o e
 
-pub sends_within : (versions rounds used : ℕ) (measure : List Moment → ℕ) (c : Config) (w : Caller) (past : List Tale) (first : ℕ) (outs : List Out) (ms : List Moment) → IsCallWithin versions rounds used c past ms → Measures c measure → AreAllowed c w past (sent_from first outs ms) → HasSentWithin versions used measure first outs ms
+pub sends_within : (versions rounds used : ℕ) (measure : List Action → ℕ) (c : Config) (w : Caller) (past : List Trace) (first : ℕ) (outs : List Out) (ms : List Action) → IsCallWithin versions rounds used c past ms → Measures c measure → AreAllowed c w past (sent_from first outs ms) → HasSentWithin versions used measure first outs ms
 sends_within versions rounds used measure c w past first [] ms k measures allowed = record { next = used; low = omega arith; cost = omega arith; now = k.now; versions_are = k.low; ops = λ j o e. cc }
 sends_within versions rounds used measure c w past first (out ∷ outs) ms k measures allowed =
     let a = asked_of first out in
@@ -188,15 +188,15 @@ sends_within versions rounds used measure c w past first (out ∷ outs) ms k mea
 pub sent_measures : (c : Config) → Measures c (λ ms. length ms)
 sent_measures c = record { grows = λ w past ms a may. elim a.awaited as (λ b. length ms + cost_of b ≤ suc (length ms)) [ true ↦ omega arith | false ↦ omega arith ] }
 
-pub sent_length : (first : ℕ) (outs : List Out) (ms : List Moment) → length (sent_from first outs ms) ≡ length outs + length ms
+pub sent_length : (first : ℕ) (outs : List Out) (ms : List Action) → length (sent_from first outs ms) ≡ length outs + length ms
 sent_length first [] ms = omega arith
 sent_length first (o ∷ os) ms = let r = sent_length (first + 1) os (Sent (asked_of first o) ∷ ms) in omega (arith, r)
 
 -- and so is how many sites are awaited, of which there are only so many
-abbrev pub awaited_at : List Moment → ℕ → Bool
+abbrev pub awaited_at : List Action → ℕ → Bool
 awaited_at ms s = is_some (site_now ms s).awaits
 
-abbrev pub busy : Config → List Moment → ℕ
+abbrev pub busy : Config → List Action → ℕ
 busy c ms = count_sites c.n (awaited_at ms)
 
 sent_awaited : (a : Asked) (now : SiteNow) → a.awaited ≡ true → is_some (after_sent a now).awaits ≡ true
@@ -209,13 +209,13 @@ if_awaited : (b : Bool) (x y : SiteNow) → (is_some y.awaits ≡ true → is_so
 if_awaited true x y f h = f h
 if_awaited false x y f h = h
 
-still_awaited : (a : Asked) (ms : List Moment) (s : ℕ) → awaited_at ms s ≡ true → awaited_at (Sent a ∷ ms) s ≡ true
+still_awaited : (a : Asked) (ms : List Action) (s : ℕ) → awaited_at ms s ≡ true → awaited_at (Sent a ∷ ms) s ≡ true
 still_awaited a ms s h = if_awaited (is_to a s) (after_sent a (site_now ms s)) (site_now ms s) (kept_awaited a (site_now ms s)) h
 
-now_awaited : (a : Asked) (ms : List Moment) (s : ℕ) → a.awaited ≡ true → a.site ≡ s → awaited_at (Sent a ∷ ms) s ≡ true
+now_awaited : (a : Asked) (ms : List Action) (s : ℕ) → a.awaited ≡ true → a.site ≡ s → awaited_at (Sent a ∷ ms) s ≡ true
 now_awaited a ms s e same = ap (λ b. is_some (if b then after_sent a (site_now ms s) else site_now ms s).awaits) (to_here a s same) ∙ sent_awaited a (site_now ms s) e
 
-busy_more : (c : Config) (ms : List Moment) (a : Asked) → a.site < c.n → (site_now ms a.site).awaits ≡ None → busy c ms + cost_of a.awaited ≤ busy c (Sent a ∷ ms)
+busy_more : (c : Config) (ms : List Action) (a : Asked) → a.site < c.n → (site_now ms a.site).awaits ≡ None → busy c ms + cost_of a.awaited ≤ busy c (Sent a ∷ ms)
 busy_more c ms a below idle = elim (cases_Bool a.awaited) [
   | inl e ↦ (let one = count_added c.n a.site (awaited_at ms) below (ap is_some idle) in
       let all = count_weaker c.n (λ s. (a.site == s) || awaited_at ms s) (awaited_at (Sent a ∷ ms)) (λ s h. elim (or_cases (a.site == s) (awaited_at ms s) h) [ inl t ↦ now_awaited a ms s e (eqb-true a.site s t) | inr t ↦ still_awaited a ms s t ]) in

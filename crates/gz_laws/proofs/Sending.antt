@@ -19,14 +19,14 @@ use Rattle.gz_core.specs.declared.requests.Op.{Op}
 use Rattle.gz_core.specs.declared.requests.Op.TheVariants.{ReadRow, WriteRow}
 use Rattle.gz_accept.specs.Steps.{fast_voted, promised, classic_voted, decided, trimmed_to}
 use Rattle.gz_accept.proofs.Making.{makes_fast, makes_promise, makes_classic, makes_decision, makes_trim, made}
-use Rattle.gz_round.specs.History.{Moment, Sent, Handed, GaveUp, Rested, GaveIn, Caller, Tale}
+use Rattle.gz_round.specs.History.{Action, Sent, Handed, GaveUp, Rested, GaveIn, Caller, Trace}
 use Rattle.gz_round.specs.Sent.{vote_by, of_step, passes_sent, voted_at}
-use Rattle.gz_round.specs.Shown.{IsClear as IsClearTo}
+use Rattle.gz_round.specs.Shown.{IsClear}
 use Rattle.gz_round.specs.Sending.{IsMade}
 use Rattle.gz_ledger.specs.Histories.{VotesFor}
-use Rattle.gz_ledger.specs.Guards.{IsClear}
-use Rattle.gz_ledger.specs.Deeds.{Store, writes_of}
-use Rattle.gz_laws.specs.Heard.{heard_of, IsStepOf, SentStep, Keeps}
+use Rattle.gz_ledger.specs.Guards.{IsClearByRows}
+use Rattle.gz_ledger.specs.Transitions.{Store, writes_of}
+use Rattle.gz_laws.specs.Heard.{heard_of, IsStepSent, SentStep, Keeps}
 use Rattle.gz_laws.proofs.Hearing.{shown_heard}
 
 -- a step that was made on a row makes the acceptor's
@@ -54,11 +54,11 @@ step_votes : (step : RowStep) (act : Act) (u : ℕ) (x : Name) → act_of step �
 step_votes step act u x e votes = votes_by step u x (subst (λ k. VotesFor k u x) (sym e) votes)
 
 -- a write that a call sent with a vote is counted as one
-op_votes : (op : Op) (act : Act) (u : ℕ) (x : Name) → IsStepOf op act → VotesFor act u x → passes_sent (λ q. q == u) (of_step (vote_by x) op) ≡ true
+op_votes : (op : Op) (act : Act) (u : ℕ) (x : Name) → IsStepSent op act → VotesFor act u x → passes_sent (λ q. q == u) (of_step (vote_by x) op) ≡ true
 op_votes (ReadRow key) act u x h votes = absurd h
 op_votes (WriteRow key expect step row) act u x h votes = step_votes step act u x h votes
 
-pub sent_votes : (ms : List Moment) (act : Act) (u : ℕ) (x : Name) → SentStep ms act → VotesFor act u x → voted_at x ms u ≡ true
+pub sent_votes : (ms : List Action) (act : Act) (u : ℕ) (x : Name) → SentStep ms act → VotesFor act u x → voted_at x ms u ≡ true
 sent_votes [] act u x h votes = absurd h
 sent_votes (Sent a ∷ ms) act u x (inl h) votes = or_left (passes_sent (λ q. q == u) (of_step (vote_by x) a.op)) (voted_at x ms u) (op_votes a.op act u x h votes)
 sent_votes (Sent a ∷ ms) act u x (inr h) votes = or_right (passes_sent (λ q. q == u) (of_step (vote_by x) a.op)) (voted_at x ms u) (sent_votes ms act u x h votes)
@@ -72,7 +72,7 @@ sent_votes (GaveIn ∷ ms) act u x (inl h) votes = absurd h
 sent_votes (GaveIn ∷ ms) act u x (inr h) votes = sent_votes ms act u x h votes
 
 -- a call that is clear at a version is so by what it heard
-pub clear_heard : (c : Config) (w : Caller) (past : List Tale) (ms : List Moment) (st : Store) (v : ℕ) → Keeps w.name past ms st → IsClearTo c w.name ms v → IsClear c (heard_of ms) (writes_of st.asked) w.name v
+pub clear_heard : (c : Config) (w : Caller) (past : List Trace) (ms : List Action) (st : Store) (v : ℕ) → Keeps w.name past ms st → IsClear c w.name ms v → IsClearByRows c (heard_of ms) (writes_of st.asked) w.name v
 clear_heard c w past ms st v keeps clear = λ q u found own votes apart.
     let k = clear u apart (sent_votes ms q.act u w.name (keeps.own q found own) votes) in
     (k.0, k.1, shown_heard c st ms u k.0 keeps.stands k.2)

@@ -16,14 +16,14 @@ use Rattle.gz_core.specs.declared.requests.Reply.{Reply}
 use Rattle.gz_core.specs.declared.requests.Reply.TheVariants.{Row, NoRow, Written, Changed, Failed}
 use Rattle.gz_accept.specs.Steps.{vote_in, with_column_at}
 use Rattle.gz_accept.proofs.Seen.{column_in_with}
-use Rattle.gz_round.specs.declared.hearing.Seen.{Seen as SeenRow}
-use Rattle.gz_round.specs.History.{Asked, Moment, Sent, Handed, GaveUp, Rested, GaveIn, Caller, Tale}
+use Rattle.gz_round.specs.declared.hearing.Seen.{Seen}
+use Rattle.gz_round.specs.History.{Asked, Action, Sent, Handed, GaveUp, Rested, GaveIn, Caller, Trace}
 use Rattle.gz_round.specs.Rounds.{IsValueKnown}
 use Rattle.gz_round.specs.Sending.{MayMake, MayAsk, IsMade}
 use Rattle.gz_round.specs.Shown.{column_value, vote_value}
 use Rattle.gz_round.specs.Sites.{SiteNow, site_now, after, after_reply, seen_in, written_by, can_stand, is_changed, is_to, WasHeard}
 use Rattle.gz_history.specs.declared.record.CallRec.{CallRec}
-use Rattle.gz_laws.specs.Carried.{MomentsCarried}
+use Rattle.gz_laws.specs.Carried.{ActionsCarried}
 use Rattle.gz_world.specs.States.{RequestAt, numbered}
 use Rattle.gz_laws.specs.Valued.{IsGiven, AreGiven, IsGivenOp, IsGivenReply}
 
@@ -49,18 +49,18 @@ kept_vote (Some (Open promise vote)) x e = e
 kept_vote (Some (Decided value)) x e = cc
 
 -- what a known value was given by
-abbrev pub AreHeardGiven : List CallRec → List Moment → Type 0
+abbrev pub AreHeardGiven : List CallRec → List Action → Type 0
 AreHeardGiven calls ms = (s : ℕ) (row : RowAt) → WasHeard ms s row → AreGiven calls row
 
 abbrev pub IsOwnGiven : List CallRec → Caller → Type 0
 IsOwnGiven calls w = (x : Value) → own_value w.name w.call ≡ Some x → IsGiven calls x
 
-known_given : (calls : List CallRec) (w : Caller) (ms : List Moment) (v : ℕ) (x : Value) → IsOwnGiven calls w → AreHeardGiven calls ms → IsValueKnown w ms v x → IsGiven calls x
+known_given : (calls : List CallRec) (w : Caller) (ms : List Action) (v : ℕ) (x : Value) → IsOwnGiven calls w → AreHeardGiven calls ms → IsValueKnown w ms v x → IsGiven calls x
 known_given calls w ms v x own heard (inl e) = own x e
 known_given calls w ms v x own heard (inr h) = heard h.0 h.1 h.2 v x h.3
 
 -- a step that a call may make on a row
-pub made_given : (calls : List CallRec) (c : Config) (w : Caller) (past : List Tale) (ms : List Moment) (step : RowStep) (old new : RowAt) → IsOwnGiven calls w → AreHeardGiven calls ms → MayMake c w past ms step → IsMade step old new → AreGiven calls old → AreGiven calls new
+pub made_given : (calls : List CallRec) (c : Config) (w : Caller) (past : List Trace) (ms : List Action) (step : RowStep) (old new : RowAt) → IsOwnGiven calls w → AreHeardGiven calls ms → MayMake c w past ms step → IsMade step old new → AreGiven calls old → AreGiven calls new
 made_given calls c w past ms (FastVote v x) old new own heard may m row = subst (AreGiven calls) (sym m.1) (with_given calls old v (Open fast (Some (record { ballot = fast; value = x }))) row (λ y e. given_same calls x y (own x may.0) e))
 made_given calls c w past ms (Promise v b) old new own heard may m row =
     subst (AreGiven calls) (sym m.1) (with_given calls old v (Open b (vote_in (column_in old.columns v))) row (λ y e. row v y (kept_vote (column_in old.columns v) y e)))
@@ -73,7 +73,7 @@ empty_given : (calls : List CallRec) → AreGiven calls empty_row
 empty_given calls = λ v x e. cc
 
 -- the row that a reply shows
-abbrev IsGivenSeen : List CallRec → Option SeenRow → Type 0
+abbrev IsGivenSeen : List CallRec → Option Seen → Type 0
 IsGivenSeen calls None = Unit {0}
 IsGivenSeen calls (Some seen) = AreGiven calls seen.row
 
@@ -94,19 +94,19 @@ pub record AreNetGiven (calls : List CallRec) (net : List RequestAt) : Type 0 wh
   pub requests : (n : ℕ) (r : RequestAt) → numbered net n ≡ Some r → IsGivenOp calls r.op
   pub replies : (n i tick : ℕ) (r : RequestAt) (reply : Reply) → numbered net n ≡ Some r → slice_get r.replies i ≡ Some (tick, reply) → IsGivenReply calls reply
 
-handed_given : (calls : List CallRec) (net : List RequestAt) (name : Name) (a : Asked) (reply : Reply) (ms : List Moment) → AreNetGiven calls net → MomentsCarried net name (Handed a reply ∷ ms) → IsGivenSeen calls (seen_in (written_by a.op) reply)
+handed_given : (calls : List CallRec) (net : List RequestAt) (name : Name) (a : Asked) (reply : Reply) (ms : List Action) → AreNetGiven calls net → ActionsCarried net name (Handed a reply ∷ ms) → IsGivenSeen calls (seen_in (written_by a.op) reply)
 handed_given calls net name a reply ms all carried =
     let r = carried.0.0 in
     let req = carried.0.1.0 in
     let has = carried.0.1.1 in
     seen_given calls a.op reply (subst (IsGivenOp calls) req.op_is (all.requests a.number r req.there)) (all.replies a.number has.place has.tick r reply req.there has.there)
 
-seen_row : (calls : List CallRec) (o : Option SeenRow) (seen : SeenRow) → o ≡ Some seen → IsGivenSeen calls o → AreGiven calls seen.row
+seen_row : (calls : List CallRec) (o : Option Seen) (seen : Seen) → o ≡ Some seen → IsGivenSeen calls o → AreGiven calls seen.row
 seen_row calls None seen e h = cc
-seen_row calls (Some other) seen e h = let same : other ≡ seen = cc in subst (λ (k : SeenRow). AreGiven calls k.row) same h
+seen_row calls (Some other) seen e h = let same : other ≡ seen = cc in subst (λ (k : Seen). AreGiven calls k.row) same h
 
 -- what a call heard was given
-pub heard_given : (calls : List CallRec) (net : List RequestAt) (name : Name) (ms : List Moment) → AreNetGiven calls net → MomentsCarried net name ms → AreHeardGiven calls ms
+pub heard_given : (calls : List CallRec) (net : List RequestAt) (name : Name) (ms : List Action) → AreNetGiven calls net → ActionsCarried net name ms → AreHeardGiven calls ms
 heard_given calls net name [] all carried s row h = absurd h
 heard_given calls net name (Sent a ∷ ms) all carried s row (inl h) = let bad = h.2 in cc
 heard_given calls net name (Sent a ∷ ms) all carried s row (inr h) = heard_given calls net name ms all carried.1 s row h
@@ -120,10 +120,10 @@ heard_given calls net name (GaveIn ∷ ms) all carried s row (inl h) = let bad =
 heard_given calls net name (GaveIn ∷ ms) all carried s row (inr h) = heard_given calls net name ms all carried.1 s row h
 
 -- the last row of a site, as a call heard it
-abbrev pub IsLastGiven : List CallRec → Option SeenRow → Type 0
-IsLastGiven calls o = (seen : SeenRow) → o ≡ Some seen → AreGiven calls seen.row
+abbrev pub IsLastGiven : List CallRec → Option Seen → Type 0
+IsLastGiven calls o = (seen : Seen) → o ≡ Some seen → AreGiven calls seen.row
 
-reply_given : (calls : List CallRec) (o : Option SeenRow) (changed : Bool) (now : SiteNow) → IsGivenSeen calls o → IsLastGiven calls now.row → IsLastGiven calls (after_reply o changed now).row
+reply_given : (calls : List CallRec) (o : Option Seen) (changed : Bool) (now : SiteNow) → IsGivenSeen calls o → IsLastGiven calls now.row → IsLastGiven calls (after_reply o changed now).row
 reply_given calls (Some seen) changed now here last = λ k e. seen_row calls (Some seen) k e here
 reply_given calls None true now here last = last
 reply_given calls None false now here last = last
@@ -135,7 +135,7 @@ chosen_given calls false now next here last = last
 pub awaited_given : (calls : List CallRec) (a : Asked) (now : SiteNow) → IsLastGiven calls now.row → IsLastGiven calls (after (Sent a) now).row
 awaited_given calls a now last = elim a.awaited as (λ b. IsLastGiven calls (if b then (let k : SiteNow = record { row = now.row; changed = now.changed; out = now.out; awaits = Some a; unanswered = true } in k) else now).row) [ true ↦ last | false ↦ last ]
 
-pub last_given : (calls : List CallRec) (net : List RequestAt) (name : Name) (ms : List Moment) (s : ℕ) → AreNetGiven calls net → MomentsCarried net name ms → IsLastGiven calls (site_now ms s).row
+pub last_given : (calls : List CallRec) (net : List RequestAt) (name : Name) (ms : List Action) (s : ℕ) → AreNetGiven calls net → ActionsCarried net name ms → IsLastGiven calls (site_now ms s).row
 last_given calls net name [] s all carried = λ k e. cc
 last_given calls net name (Sent a ∷ ms) s all carried = let r = last_given calls net name ms s all carried.1 in chosen_given calls (is_to a s) (site_now ms s) (after (Sent a) (site_now ms s)) (awaited_given calls a (site_now ms s) r) r
 last_given calls net name (Handed a reply ∷ ms) s all carried =
@@ -146,7 +146,7 @@ last_given calls net name (Rested ∷ ms) s all carried = last_given calls net n
 last_given calls net name (GaveIn ∷ ms) s all carried = last_given calls net name ms s all carried.1
 
 -- a request that a call may send
-pub ask_given : (calls : List CallRec) (c : Config) (w : Caller) (past : List Tale) (ms : List Moment) (now : SiteNow) (op : Op) → IsOwnGiven calls w → AreHeardGiven calls ms → IsLastGiven calls now.row → MayAsk c w past ms now op → IsGivenOp calls op
+pub ask_given : (calls : List CallRec) (c : Config) (w : Caller) (past : List Trace) (ms : List Action) (now : SiteNow) (op : Op) → IsOwnGiven calls w → AreHeardGiven calls ms → IsLastGiven calls now.row → MayAsk c w past ms now op → IsGivenOp calls op
 ask_given calls c w past ms now (ReadRow key) own heard last may = tt
 ask_given calls c w past ms now (WriteRow key expect step row) own heard last may =
     let m = may.1 in

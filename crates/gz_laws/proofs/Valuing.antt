@@ -15,23 +15,23 @@ use Rattle.gz_core.specs.declared.requests.Out.{Out}
 use Rattle.gz_core.specs.declared.requests.Reply.{Reply}
 use Rattle.gz_core.specs.declared.requests.Reply.TheVariants.{Row, NoRow, Written, Changed, Failed}
 use Rattle.gz_core.specs.declared.requests.Turn.{Turn}
-use Rattle.gz_round.specs.History.{Asked, Moment, Sent, Handed, GaveUp, Caller, Tale, asked_of, sent_from}
+use Rattle.gz_round.specs.History.{Asked, Action, Sent, Handed, GaveUp, Caller, Trace, asked_of, sent_from}
 use Rattle.gz_round.specs.Sites.{site_now, after, is_to}
 use Rattle.gz_round.specs.Sending.{AreAllowed}
-use Rattle.gz_client.specs.Tales.{AreTold}
+use Rattle.gz_client.specs.Traces.{AllKeepRules}
 use Rattle.gz_site.specs.Told.{Told, IsEmpty, same_key}
 use Rattle.gz_site.specs.Steps.{RowStored}
 use Rattle.gz_history.specs.declared.record.CallRec.{CallRec}
 use Rattle.gz_world.specs.declared.events.Effect.{Effect}
 use Rattle.gz_world.specs.declared.events.Event.{Event}
 use Rattle.gz_world.specs.declared.events.Event.TheVariants as events
-use Rattle.gz_laws.specs.Carried.{MomentCarried, MomentsCarried, TalesCarried, AreCarried}
-use Rattle.gz_laws.specs.Listed.{IsAmong, AreListed}
+use Rattle.gz_laws.specs.Carried.{ActionCarried, ActionsCarried, TracesCarried, AreCarried}
+use Rattle.gz_laws.specs.Listed.{IsAmong, AreCallsListed}
 use Rattle.gz_laws.specs.Placed.{ArePlaced}
 use Rattle.gz_world.specs.Reached.{IsOpening, IsReached, opened, stepped, AllTell}
 use Rattle.gz_world.specs.Refusals.{refusal_of}
 use Rattle.gz_world.specs.States.{RequestAt, State, tick_of, next_of, numbered, with_reply, with_handed, with_given_up, end_at}
-use Rattle.gz_world.specs.Steps.{Answers, SitesStay, BeginsBy, DeliversBy, TurnBy, TakesTurn, CallEnds, answered, Acts, Does, Skips, Step}
+use Rattle.gz_world.specs.Steps.{Answers, SitesStay, BeginsBy, DeliversBy, TurnBy, TakesTurn, CallEnds, answered, HasEffect, Does, Skips, WorldStep}
 use Rattle.gz_laws.specs.Valued.{IsGiven, AreGiven, IsGivenKept, IsGivenOp, IsGivenReply, AreValued}
 use Rattle.gz_laws.proofs.Carrying.{carried}
 use Rattle.gz_laws.proofs.Growing.{allowed_base}
@@ -44,7 +44,7 @@ use Rattle.gz_laws.proofs.RunDelivers.{both_tell, same_told, more_replies}
 use Rattle.gz_laws.proofs.RunSends.{NetFrom, closing_allowed}
 use Rattle.gz_laws.proofs.RunTools.{IsAlike, set_cases}
 use Rattle.gz_laws.proofs.RunTurns.{turn_net}
-use Rattle.gz_laws.proofs.Running.{step_tell, handed_moment, told_request}
+use Rattle.gz_laws.proofs.Running.{step_tell, handed_action, told_request}
 use Rattle.gz_laws.proofs.Values.{AreHeardGiven, IsOwnGiven, IsLastGiven, AreNetGiven, chosen_given, awaited_given, heard_given, last_given, ask_given}
 
 -- what was given stays given
@@ -145,14 +145,14 @@ deliver_valued old new n r reply effect d tells v =
     }
 
 -- what a call heard was given, and so was the last row of each site
-abbrev AreWellHeard : List CallRec → List Moment → Type 0
+abbrev AreWellHeard : List CallRec → List Action → Type 0
 AreWellHeard calls ms = AreHeardGiven calls ms × ((s : ℕ) → IsLastGiven calls (site_now ms s).row)
 
-sent_heard : (calls : List CallRec) (a : Asked) (ms : List Moment) → AreWellHeard calls ms → AreWellHeard calls (Sent a ∷ ms)
+sent_heard : (calls : List CallRec) (a : Asked) (ms : List Action) → AreWellHeard calls ms → AreWellHeard calls (Sent a ∷ ms)
 sent_heard calls a ms h = (λ s row k. elim k [ inl e ↦ (let bad = e.2 in cc) | inr e ↦ h.0 s row e ], λ s. chosen_given calls (is_to a s) (site_now ms s) (after (Sent a) (site_now ms s)) (awaited_given calls a (site_now ms s) (h.1 s)) (h.1 s))
 
 -- the requests that a call sends
-sends_given : (calls : List CallRec) (c : Config) (w : Caller) (past : List Tale) (first : ℕ) (outs : List Out) (ms : List Moment) → IsOwnGiven calls w → AreWellHeard calls ms → AreAllowed c w past (sent_from first outs ms) → (j : ℕ) (o : Out) → slice_get outs j ≡ Some o → IsGivenOp calls o.op
+sends_given : (calls : List CallRec) (c : Config) (w : Caller) (past : List Trace) (first : ℕ) (outs : List Out) (ms : List Action) → IsOwnGiven calls w → AreWellHeard calls ms → AreAllowed c w past (sent_from first outs ms) → (j : ℕ) (o : Out) → slice_get outs j ≡ Some o → IsGivenOp calls o.op
 sends_given calls c w past first [] ms own heard allowed j o e = cc
 sends_given calls c w past first (out ∷ outs) ms own heard allowed zero o e =
     let same : out ≡ o = cc in
@@ -175,7 +175,7 @@ sent_valued old new name tick outs stay net more sent v = record {
 
 begin_valued : (old new : State) (session : ℕ) (call : Call) (turn : Turn) (effect : Effect) → BeginsBy old session call turn effect new → AreValued old → AreValued new
 begin_valued old new session call turn effect b v =
-    let past = old.tales session in
+    let past = old.traces session in
     let name : Name = record { session = session; seq = length past + 1 } in
     let w : Caller = record { name = name; call = call } in
     let tick = tick_of old in
@@ -187,44 +187,44 @@ begin_valued old new session call turn effect b v =
 pub net_given : (s : State) → AreValued s → AreNetGiven s.calls s.net
 net_given s v = record { requests = v.requests; replies = v.replies }
 
-turn_valued : (old new : State) (n : ℕ) (r marked : RequestAt) (moment : Asked → Moment) (by : TurnBy) (effect : Effect) → TakesTurn old n r moment by marked effect new → IsAlike r marked → MomentCarried old.net by.tale.caller.name (moment by.asked) → AreListed old → AreCarried old → AreValued old → AreValued new
-turn_valued old new n r marked moment by effect t alike moment_carried listed carries v =
-    let w = by.tale.caller in
+turn_valued : (old new : State) (n : ℕ) (r marked : RequestAt) (action : Asked → Action) (by : TurnBy) (effect : Effect) → TakesTurn old n r action by marked effect new → IsAlike r marked → ActionCarried old.net by.trace.caller.name (action by.asked) → AreCallsListed old → AreCarried old → AreValued old → AreValued new
+turn_valued old new n r marked action by effect t alike action_carried listed carries v =
+    let w = by.trace.caller in
     let session = r.name.session in
     let first = next_of old in
     let tick = tick_of old in
     let outs = by.turn.send in
-    let ms = moment by.asked ∷ by.tale.moments in
-    let told : AreTold old.cfg session (by.tale ∷ by.earlier) = subst (AreTold old.cfg session) t.tales (listed.told session) in
+    let ms = action by.asked ∷ by.trace.actions in
+    let told : AllKeepRules old.cfg session (by.trace ∷ by.earlier) = subst (AllKeepRules old.cfg session) t.traces (listed.told session) in
     let c = t.calls.1.0 in
     let here : c.name.session ≡ session = ap (λ (x : Name). x.session) (t.calls.1.1.1.0 ∙ told.1) in
-    let among : IsAmong old.cfg c (by.tale ∷ by.earlier) = subst (IsAmong old.cfg c) (ap old.tales here ∙ t.tales) (listed.tales t.calls.0 c t.calls.1.1.0) in
-    let caller = (newest old.cfg session c by.tale by.earlier told among t.calls.1.1.1.0).caller in
+    let among : IsAmong old.cfg c (by.trace ∷ by.earlier) = subst (IsAmong old.cfg c) (ap old.traces here ∙ t.traces) (listed.traces t.calls.0 c t.calls.1.1.0) in
+    let caller = (newest old.cfg session c by.trace by.earlier told among t.calls.1.1.1.0).caller in
     let own : IsOwnGiven old.calls w = λ x e. (t.calls.0, c, t.calls.1.1.0, sym (ap (λ (k : Caller). own_value k.name k.call) caller) ∙ e) in
-    let heard : MomentsCarried old.net w.name ms = (moment_carried, (subst (TalesCarried old.net) t.tales (carries session)).0) in
+    let heard : ActionsCarried old.net w.name ms = (action_carried, (subst (TracesCarried old.net) t.traces (carries session)).0) in
     let allowed = closing_allowed old.cfg w by.earlier by.closing (sent_from first outs ms) t.closing t.moves.told.0.allowed in
     let more = gives_ends old.calls new.calls w.name tick by.turn.answer t.calls in
     let given = sends_given old.calls old.cfg w by.earlier first outs ms own (heard_given old.calls old.net w.name ms (net_given old v) heard, λ s. last_given old.calls old.net w.name ms s (net_given old v) heard) allowed in
     sent_valued old new w.name tick outs t.sites (turn_net old new n r marked w.name tick outs t.request alike t.net) more (λ j o e. op_more old.calls new.calls o.op more (given j o e)) v
 
-does_valued : (old new : State) (event : Event) (effect : Effect) → Does old event effect new → AllTell old → AreListed old → AreCarried old → ArePlaced old → AreValued old → AreValued new
+does_valued : (old new : State) (event : Event) (effect : Effect) → Does old event effect new → AllTell old → AreCallsListed old → AreCarried old → ArePlaced old → AreValued old → AreValued new
 does_valued old new events.OpenSession effect d tell l c p v = same_valued old new d.sites.sites d.net d.calls v
 does_valued old new (events.Begin session call) effect d tell l c p v = begin_valued old new session call d.0 effect d.1 v
 does_valued old new (events.Deliver n) effect d tell l c p v = deliver_valued old new n d.0 d.1.0 effect d.1.1 (tell d.0.site (p.requests n d.0 d.1.1.request).site) v
 does_valued old new (events.Reply n which) effect d tell l c p v =
-    turn_valued old new n d.0 (with_handed (tick_of old) which d.0) (λ a. Handed a d.1.0.1) d.1.1.0 effect d.1.1.1.1 (handed_alike (tick_of old) which d.0) (handed_moment old new n which d.0 d.1.0 d.1.1.0 effect d.1.1.1.0 d.1.1.1.1 c) l c v
+    turn_valued old new n d.0 (with_handed (tick_of old) which d.0) (λ a. Handed a d.1.0.1) d.1.1.0 effect d.1.1.1.1 (handed_alike (tick_of old) which d.0) (handed_action old new n which d.0 d.1.0 d.1.1.0 effect d.1.1.1.0 d.1.1.1.1 c) l c v
 does_valued old new (events.GiveUp n) effect d tell l c p v =
     turn_valued old new n d.0 (with_given_up (tick_of old) d.0) (λ a. GaveUp a) d.1.0 effect d.1.1 (given_up_alike (tick_of old) d.0) (d.0, told_request old new n d.0 (with_given_up (tick_of old) d.0) (λ a. GaveUp a) d.1.0 effect d.1.1 c) l c v
 does_valued old new (events.Crash session) effect d tell l c p v = same_valued old new d.sites.sites d.net d.calls v
 
-acts_valued : (old new : State) (event : Event) (effect : Effect) → Acts old event effect new → AllTell old → AreListed old → AreCarried old → ArePlaced old → AreValued old → AreValued new
+acts_valued : (old new : State) (event : Event) (effect : Effect) → HasEffect old event effect new → AllTell old → AreCallsListed old → AreCarried old → ArePlaced old → AreValued old → AreValued new
 acts_valued old new event effect acts tell l c p v =
     elim (refusal_of old event) as (λ o. MatchOption o (Does old event effect new) (λ why. Skips old event why effect new) → AreValued new) [
       | None ↦ λ d. does_valued old new event effect d tell l c p v
       | Some why ↦ λ k. same_valued old new k.same.sites.sites k.same.net k.same.sessions.calls v
     ] acts
 
-step_valued : (old new : State) (event : Event) → Step old event new → AllTell old → AreListed old → AreCarried old → ArePlaced old → AreValued old → AreValued new
+step_valued : (old new : State) (event : Event) → WorldStep old event new → AllTell old → AreCallsListed old → AreCarried old → ArePlaced old → AreValued old → AreValued new
 step_valued old new event step tell l c p v =
     let mid = step.1.0 in
     let records = step.1.1.1.1 in

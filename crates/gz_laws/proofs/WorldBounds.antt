@@ -16,7 +16,7 @@ use Rattle.gz_core.specs.declared.requests.Reply.TheVariants.{Row, NoRow, Writte
 use Rattle.gz_core.specs.declared.requests.Turn.{Turn}
 use Rattle.gz_core.proofs.Counting.{count_most}
 use Rattle.gz_round.specs.declared.hearing.Seen.{Seen}
-use Rattle.gz_round.specs.History.{Asked, Moment, Sent, Handed, GaveUp, GaveIn, Caller, Tale, IsClosing, sent_from, begun, turned}
+use Rattle.gz_round.specs.History.{Asked, Action, Sent, Handed, GaveUp, GaveIn, Caller, Trace, IsClosing, sent_from, begun, turned}
 use Rattle.gz_round.specs.Rounds.{top_rounds}
 use Rattle.gz_round.specs.Sending.{AreAllowed}
 use Rattle.gz_round.specs.Sent.{has_promised_at, top_round}
@@ -30,12 +30,12 @@ use Rattle.gz_world.specs.declared.events.Event.TheVariants as events
 use Rattle.gz_world.specs.Reached.{IsOpening, IsReached, opened, stepped, AllTell}
 use Rattle.gz_world.specs.Refusals.{refusal_of}
 use Rattle.gz_world.specs.States.{RequestAt, State, tick_of, next_of, numbered, with_reply, with_handed, with_given_up, sent_request, sent_requests}
-use Rattle.gz_world.specs.Steps.{Answers, SessionMoves, SitesStay, BeginsBy, DeliversBy, TurnBy, TakesTurn, Acts, Does, Skips, Step}
+use Rattle.gz_world.specs.Steps.{Answers, SessionMoves, SitesStay, BeginsBy, DeliversBy, TurnBy, TakesTurn, HasEffect, Does, Skips, WorldStep}
 use Rattle.gz_world.proofs.Members.{numbered_place}
 use Rattle.gz_laws.specs.Bounded.{IsRowWithin, IfKept, IfWritten, IfShown, EachRow, ArePromisesWithin, AreWithin, IsHeard, CanStand}
-use Rattle.gz_laws.specs.Carried.{MomentCarried, MomentsCarried, TalesCarried, AreCarried}
-use Rattle.gz_laws.specs.Each.{EachTale}
-use Rattle.gz_laws.specs.Listed.{AreListed}
+use Rattle.gz_laws.specs.Carried.{ActionCarried, ActionsCarried, TracesCarried, AreCarried}
+use Rattle.gz_laws.specs.Each.{EachTrace}
+use Rattle.gz_laws.specs.Listed.{AreCallsListed}
 use Rattle.gz_laws.specs.Placed.{ArePlaced}
 use Rattle.gz_laws.proofs.Bounding.{heard_within}
 use Rattle.gz_laws.proofs.Carrying.{carried}
@@ -46,9 +46,9 @@ use Rattle.gz_laws.proofs.RowBounds.{row_wider, row_can}
 use Rattle.gz_laws.proofs.RunDelivers.{both_tell, same_told, more_replies}
 use Rattle.gz_laws.proofs.RunSends.{closing_allowed}
 use Rattle.gz_laws.proofs.RunTools.{set_cases}
-use Rattle.gz_laws.proofs.Running.{told_request, handed_moment, step_tell}
+use Rattle.gz_laws.proofs.Running.{told_request, handed_action, step_tell}
 use Rattle.gz_laws.proofs.SendBounds.{Measures, HasSentWithin, sends_within, sent_measures, sent_length, awaited_at, busy, busy_measures}
-use Rattle.gz_laws.proofs.Tales.{each_on, each_moved}
+use Rattle.gz_laws.proofs.Traces.{each_on, each_moved}
 
 -- rows of which less is asked
 kept_on : (P Q : RowAt → Type 0) (o : Option (ℕ × RowAt)) → ((row : RowAt) → P row → Q row) → IfKept P o → IfKept Q o
@@ -149,7 +149,7 @@ deliver_rows P old new n r reply effect d tells h =
     }
 
 -- wider bounds
-promises_wider : (v w r q : ℕ) (t : Tale) → v ≤ w → r ≤ q → ArePromisesWithin v r t → ArePromisesWithin w q t
+promises_wider : (v w r q : ℕ) (t : Trace) → v ≤ w → r ≤ q → ArePromisesWithin v r t → ArePromisesWithin w q t
 promises_wider v w r q t a b h = record {
   rounds_low = (let l = h.rounds_low in omega (arith, l, b));
   versions_low = λ u d e. let l = h.versions_low u d e in omega (arith, l, a);
@@ -158,36 +158,36 @@ promises_wider v w r q t a b h = record {
 within_wider : (v w r q : ℕ) (s : State) → v ≤ w → r ≤ q → AreWithin v r s → AreWithin w q s
 within_wider v w r q s a b h = record {
   rows = rows_on (IsRowWithin v r) (IsRowWithin w q) s (λ row k. row_wider v w r q row a b k) h.rows;
-  tales = λ n. each_on (ArePromisesWithin v r) (ArePromisesWithin w q) (s.tales n) (λ t k. promises_wider v w r q t a b k) (h.tales n);
+  traces = λ n. each_on (ArePromisesWithin v r) (ArePromisesWithin w q) (s.traces n) (λ t k. promises_wider v w r q t a b k) (h.traces n);
 }
 
-within_same : (v r : ℕ) (old new : State) → ((i : ℕ) → new.sites i ≡ old.sites i) → ((n : ℕ) → new.tales n ≡ old.tales n) → new.net ≡ old.net → AreWithin v r old → AreWithin v r new
-within_same v r old new sites tales net h = record {
+within_same : (v r : ℕ) (old new : State) → ((i : ℕ) → new.sites i ≡ old.sites i) → ((n : ℕ) → new.traces n ≡ old.traces n) → new.net ≡ old.net → AreWithin v r old → AreWithin v r new
+within_same v r old new sites traces net h = record {
   rows = rows_same (IsRowWithin v r) old new sites net h.rows;
-  tales = λ n. subst (EachTale (ArePromisesWithin v r)) (sym (tales n)) (h.tales n);
+  traces = λ n. subst (EachTrace (ArePromisesWithin v r)) (sym (traces n)) (h.traces n);
 }
 
-past_within : (v r : ℕ) (ts : List Tale) → EachTale (ArePromisesWithin v r) ts → top_rounds ts ≤ r
+past_within : (v r : ℕ) (ts : List Trace) → EachTrace (ArePromisesWithin v r) ts → top_rounds ts ≤ r
 past_within v r [] h = omega arith
 past_within v r (t ∷ ts) h = let a = h.0.rounds_low in let b = past_within v r ts h.1 in omega (arith, a, b)
 
-closing_round : (closing ms : List Moment) → IsClosing closing → top_round (closing ++ ms) ≡ top_round ms
+closing_round : (closing ms : List Action) → IsClosing closing → top_round (closing ++ ms) ≡ top_round ms
 closing_round closing ms (inl e) = ap (λ ks. top_round (ks ++ ms)) e
 closing_round closing ms (inr e) = ap (λ ks. top_round (ks ++ ms)) e
 
-closing_promised : (closing ms : List Moment) (v : ℕ) (b : BallotAt) → IsClosing closing → has_promised_at (closing ++ ms) v b ≡ has_promised_at ms v b
+closing_promised : (closing ms : List Action) (v : ℕ) (b : BallotAt) → IsClosing closing → has_promised_at (closing ++ ms) v b ≡ has_promised_at ms v b
 closing_promised closing ms v b (inl e) = ap (λ ks. has_promised_at (ks ++ ms) v b) e
 closing_promised closing ms v b (inr e) = ap (λ ks. has_promised_at (ks ++ ms) v b) e
 
 -- a session's turn, where the bound on rounds makes room for what is sent
 record HasRoom (old new : State) (c : Config) (rounds next : ℕ) : Type 0 where
-  measure : List Moment → ℕ
+  measure : List Action → ℕ
   measures : Measures c measure
-  room : (first : ℕ) (outs : List Out) (ms : List Moment) → length new.net ≡ length old.net + length outs → rounds + measure (sent_from first outs ms) ≤ next + measure ms
+  room : (first : ℕ) (outs : List Out) (ms : List Action) → length new.net ≡ length old.net + length outs → rounds + measure (sent_from first outs ms) ≤ next + measure ms
 
-moves_within : (v r q : ℕ) (old new : State) (session first : ℕ) (w : Caller) (past : List Tale) (outs : List Out) (ms : List Moment) (after : Tale) → HasRoom old new old.cfg r q → length new.net ≡ length old.net + length outs → IsConfig old.cfg → ((i : ℕ) → new.sites i ≡ old.sites i)
-    → AreKeptOrSent old.net new.net w.name (tick_of old) outs → AreAllowed old.cfg w past (sent_from first outs ms) → MomentsCarried old.net w.name ms → EachTale (ArePromisesWithin v r) past → top_round ms ≤ r → ((u : ℕ) (b : BallotAt) → has_promised_at ms u b ≡ true → u ≤ v)
-    → SessionMoves old session (after ∷ past) new → top_round after.moments ≡ top_round (sent_from first outs ms) → ((u : ℕ) (b : BallotAt) → has_promised_at after.moments u b ≡ has_promised_at (sent_from first outs ms) u b) → AreListed old → AreWithin v r old → AreWithin (v + 1) q new
+moves_within : (v r q : ℕ) (old new : State) (session first : ℕ) (w : Caller) (past : List Trace) (outs : List Out) (ms : List Action) (after : Trace) → HasRoom old new old.cfg r q → length new.net ≡ length old.net + length outs → IsConfig old.cfg → ((i : ℕ) → new.sites i ≡ old.sites i)
+    → AreKeptOrSent old.net new.net w.name (tick_of old) outs → AreAllowed old.cfg w past (sent_from first outs ms) → ActionsCarried old.net w.name ms → EachTrace (ArePromisesWithin v r) past → top_round ms ≤ r → ((u : ℕ) (b : BallotAt) → has_promised_at ms u b ≡ true → u ≤ v)
+    → SessionMoves old session (after ∷ past) new → top_round after.actions ≡ top_round (sent_from first outs ms) → ((u : ℕ) (b : BallotAt) → has_promised_at after.actions u b ≡ has_promised_at (sent_from first outs ms) u b) → AreCallsListed old → AreWithin v r old → AreWithin (v + 1) q new
 moves_within v r q old new session first w past outs ms after room len sizes sites cases allowed carried before now versions moves same_round same_promised l h =
     let k = sends_within v r r room.measure old.cfg w past first outs ms
     (record {
@@ -211,63 +211,63 @@ moves_within v r q old new session first w past outs ms after room len sizes sit
       rows = rows_sent (IsRowWithin (v + 1) q) old new w.name (tick_of old) outs sites cases
           (λ j o e. written_on (IsRowWithin (v + 1) k.next) (IsRowWithin (v + 1) q) o.op (λ row x. row_wider (v + 1) (v + 1) k.next q row (omega arith) le x) (k.ops j o e))
           (rows_on (IsRowWithin v r) (IsRowWithin (v + 1) q) old (λ row x. row_wider v (v + 1) r q row (omega arith) wide x) h.rows);
-      tales = each_moved (ArePromisesWithin v r) (ArePromisesWithin (v + 1) q) old new session after past moves l.told (λ u apart x. promises_wider v (v + 1) r q u (omega arith) wide x) here
-          before h.tales;
+      traces = each_moved (ArePromisesWithin v r) (ArePromisesWithin (v + 1) q) old new session after past moves l.told (λ u apart x. promises_wider v (v + 1) r q u (omega arith) wide x) here
+          before h.traces;
     }
 
 sent_count : (name : Name) (tick : ℕ) (outs : List Out) → length (sent_requests name tick outs) ≡ length outs
 sent_count name tick [] = refl
 sent_count name tick (o ∷ os) = ap suc (sent_count name tick os)
 
-begin_within : (v r q : ℕ) (old new : State) (session : ℕ) (call : Call) (turn : Turn) (effect : Effect) → BeginsBy old session call turn effect new → HasRoom old new old.cfg r q → AreListed old → ArePlaced old → AreWithin v r old → AreWithin (v + 1) q new
+begin_within : (v r q : ℕ) (old new : State) (session : ℕ) (call : Call) (turn : Turn) (effect : Effect) → BeginsBy old session call turn effect new → HasRoom old new old.cfg r q → AreCallsListed old → ArePlaced old → AreWithin v r old → AreWithin (v + 1) q new
 begin_within v r q old new session call turn effect b room l p h =
-    let past = old.tales session in
+    let past = old.traces session in
     let name : Name = record { session = session; seq = length past + 1 } in
     let w : Caller = record { name = name; call = call } in
     let len : length new.net ≡ length old.net + length turn.send = ap length b.net ∙ length-append old.net (sent_requests name (tick_of old) turn.send) ∙ ap (λ k. length old.net + k) (sent_count name (tick_of old) turn.send) in
-    moves_within v r q old new session (next_of old) w past turn.send [] (begun session call (next_of old) turn past) room len p.config b.sites.sites (begin_cases old.net new.net name (tick_of old) turn.send b.net) b.moves.told.0.allowed tt (h.tales session) (omega arith)
+    moves_within v r q old new session (next_of old) w past turn.send [] (begun session call (next_of old) turn past) room len p.config b.sites.sites (begin_cases old.net new.net name (tick_of old) turn.send b.net) b.moves.told.0.allowed tt (h.traces session) (omega arith)
     (λ u d e. cc) b.moves refl (λ u d. refl) l h
 
-turn_within : (v r q : ℕ) (old new : State) (n : ℕ) (x marked : RequestAt) (moment : Asked → Moment) (by : TurnBy) (effect : Effect) → TakesTurn old n x moment by marked effect new → IsKeptAs x marked → HasRoom old new old.cfg r q → ((a : Asked) (ms : List Moment) → top_round (moment a ∷ ms) ≡ top_round ms)
-    → ((a : Asked) (ms : List Moment) (u : ℕ) (b : BallotAt) → has_promised_at (moment a ∷ ms) u b ≡ has_promised_at ms u b) → MomentCarried old.net by.tale.caller.name (moment by.asked) → AreListed old → AreCarried old → ArePlaced old → AreWithin v r old → AreWithin (v + 1) q new
-turn_within v r q old new n x marked moment by effect t kept room rounds promises carry l c p h =
+turn_within : (v r q : ℕ) (old new : State) (n : ℕ) (x marked : RequestAt) (action : Asked → Action) (by : TurnBy) (effect : Effect) → TakesTurn old n x action by marked effect new → IsKeptAs x marked → HasRoom old new old.cfg r q → ((a : Asked) (ms : List Action) → top_round (action a ∷ ms) ≡ top_round ms)
+    → ((a : Asked) (ms : List Action) (u : ℕ) (b : BallotAt) → has_promised_at (action a ∷ ms) u b ≡ has_promised_at ms u b) → ActionCarried old.net by.trace.caller.name (action by.asked) → AreCallsListed old → AreCarried old → ArePlaced old → AreWithin v r old → AreWithin (v + 1) q new
+turn_within v r q old new n x marked action by effect t kept room rounds promises carry l c p h =
     let session = x.name.session in
-    let w = by.tale.caller in
+    let w = by.trace.caller in
     let outs = by.turn.send in
     let first = next_of old in
-    let ms = moment by.asked ∷ by.tale.moments in
-    let after = turned first by.turn (moment by.asked) by.closing by.tale in
+    let ms = action by.asked ∷ by.trace.actions in
+    let after = turned first by.turn (action by.asked) by.closing by.trace in
     let sent = sent_requests w.name (tick_of old) outs in
     let mid = slice_set old.net (n - 1) marked in
     let len : length new.net ≡ length old.net + length outs = ap length t.net ∙ length-append mid sent ∙ ap (λ k. k + length sent) (length-set old.net (n - 1) marked) ∙ ap (λ k. length old.net + k) (sent_count w.name (tick_of old) outs) in
-    let before : EachTale (ArePromisesWithin v r) (by.tale ∷ by.earlier) = subst (EachTale (ArePromisesWithin v r)) t.tales (h.tales session) in
-    let mine : TalesCarried old.net (by.tale ∷ by.earlier) = subst (TalesCarried old.net) t.tales (c session) in
+    let before : EachTrace (ArePromisesWithin v r) (by.trace ∷ by.earlier) = subst (EachTrace (ArePromisesWithin v r)) t.traces (h.traces session) in
+    let mine : TracesCarried old.net (by.trace ∷ by.earlier) = subst (TracesCarried old.net) t.traces (c session) in
     let top = before.0.rounds_low in
-    let same = rounds by.asked by.tale.moments in
+    let same = rounds by.asked by.trace.actions in
     moves_within v r q old new session first w by.earlier outs ms after room len p.config t.sites.sites (turn_cases old.net new.net n x marked w.name (tick_of old) outs t.request kept t.net)
     (closing_allowed old.cfg w by.earlier by.closing (sent_from first outs ms) t.closing t.moves.told.0.allowed) (carry, mine.0) before.1 (omega (arith, top, same))
-    (λ u b e. before.0.versions_low u b (sym (promises by.asked by.tale.moments u b) ∙ e)) t.moves (closing_round by.closing (sent_from first outs ms) t.closing) (λ u b. closing_promised by.closing (sent_from first outs ms) u b t.closing) l h
+    (λ u b e. before.0.versions_low u b (sym (promises by.asked by.trace.actions u b) ∙ e)) t.moves (closing_round by.closing (sent_from first outs ms) t.closing) (λ u b. closing_promised by.closing (sent_from first outs ms) u b t.closing) l h
 
-does_within : (v r q : ℕ) (old new : State) (event : Event) (effect : Effect) → Does old event effect new → r ≤ q → HasRoom old new old.cfg r q → AllTell old → AreListed old → AreCarried old → ArePlaced old → AreWithin v r old → AreWithin (v + 1) q new
-does_within v r q old new events.OpenSession effect d le room tells l c p h = within_wider v (v + 1) r q new (omega arith) le (within_same v r old new d.sites.sites d.tales d.net h)
+does_within : (v r q : ℕ) (old new : State) (event : Event) (effect : Effect) → Does old event effect new → r ≤ q → HasRoom old new old.cfg r q → AllTell old → AreCallsListed old → AreCarried old → ArePlaced old → AreWithin v r old → AreWithin (v + 1) q new
+does_within v r q old new events.OpenSession effect d le room tells l c p h = within_wider v (v + 1) r q new (omega arith) le (within_same v r old new d.sites.sites d.traces d.net h)
 does_within v r q old new (events.Begin session call) effect d le room tells l c p h = begin_within v r q old new session call d.0 effect d.1 room l p h
 does_within v r q old new (events.Deliver n) effect d le room tells l c p h =
     within_wider v (v + 1) r q new (omega arith) le (record {
       rows = deliver_rows (IsRowWithin v r) old new n d.0 d.1.0 effect d.1.1 (tells d.0.site (p.requests n d.0 d.1.1.request).site) h.rows;
-      tales = λ m. subst (EachTale (ArePromisesWithin v r)) (sym (d.1.1.sessions.tales m)) (h.tales m);
+      traces = λ m. subst (EachTrace (ArePromisesWithin v r)) (sym (d.1.1.sessions.traces m)) (h.traces m);
     })
 does_within v r q old new (events.Reply n which) effect d le room tells l c p h =
-    turn_within v r q old new n d.0 (with_handed (tick_of old) which d.0) (λ a. Handed a d.1.0.1) d.1.1.0 effect d.1.1.1.1 (kept_handed (tick_of old) which d.0) room (λ a ms. refl) (λ a ms u b. refl) (handed_moment old new n which d.0 d.1.0 d.1.1.0 effect d.1.1.1.0 d.1.1.1.1 c) l c p h
+    turn_within v r q old new n d.0 (with_handed (tick_of old) which d.0) (λ a. Handed a d.1.0.1) d.1.1.0 effect d.1.1.1.1 (kept_handed (tick_of old) which d.0) room (λ a ms. refl) (λ a ms u b. refl) (handed_action old new n which d.0 d.1.0 d.1.1.0 effect d.1.1.1.0 d.1.1.1.1 c) l c p h
 does_within v r q old new (events.GiveUp n) effect d le room tells l c p h =
     turn_within v r q old new n d.0 (with_given_up (tick_of old) d.0) (λ a. GaveUp a) d.1.0 effect d.1.1 (kept_given_up (tick_of old) d.0) room (λ a ms. refl) (λ a ms u b. refl)
     (d.0, told_request old new n d.0 (with_given_up (tick_of old) d.0) (λ a. GaveUp a) d.1.0 effect d.1.1 c) l c p h
-does_within v r q old new (events.Crash session) effect d le room tells l c p h = within_wider v (v + 1) r q new (omega arith) le (within_same v r old new d.sites.sites d.tales d.net h)
+does_within v r q old new (events.Crash session) effect d le room tells l c p h = within_wider v (v + 1) r q new (omega arith) le (within_same v r old new d.sites.sites d.traces d.net h)
 
-acts_within : (v r q : ℕ) (old new : State) (event : Event) (effect : Effect) → Acts old event effect new → r ≤ q → HasRoom old new old.cfg r q → AllTell old → AreListed old → AreCarried old → ArePlaced old → AreWithin v r old → AreWithin (v + 1) q new
+acts_within : (v r q : ℕ) (old new : State) (event : Event) (effect : Effect) → HasEffect old event effect new → r ≤ q → HasRoom old new old.cfg r q → AllTell old → AreCallsListed old → AreCarried old → ArePlaced old → AreWithin v r old → AreWithin (v + 1) q new
 acts_within v r q old new event effect acts le room tells l c p h =
     elim (refusal_of old event) as (λ o. MatchOption o (Does old event effect new) (λ why. Skips old event why effect new) → AreWithin (v + 1) q new) [
       | None ↦ λ d. does_within v r q old new event effect d le room tells l c p h
-      | Some why ↦ λ k. within_wider v (v + 1) r q new (omega arith) le (within_same v r old new k.same.sites.sites k.same.sessions.tales k.same.net h)
+      | Some why ↦ λ k. within_wider v (v + 1) r q new (omega arith) le (within_same v r old new k.same.sites.sites k.same.sessions.traces k.same.net h)
     ] acts
 
 opening_within : (v r : ℕ) (s : State) → IsOpening s → AreWithin v r s
@@ -277,7 +277,7 @@ opening_within v r s o = record {
     requests = λ n q h. absurd (none_there n q (subst (λ ks. numbered ks n ≡ Some q) o.net h));
     replies = λ n place tick q reply h has. absurd (none_there n q (subst (λ ks. numbered ks n ≡ Some q) o.net h));
   };
-  tales = λ n. subst (EachTale (ArePromisesWithin v r)) (sym (o.tales n)) tt;
+  traces = λ n. subst (EachTrace (ArePromisesWithin v r)) (sym (o.traces n)) tt;
 }
   where
     none_there : (n : ℕ) (q : RequestAt) → numbered [] n ≡ Some q → ⊥
@@ -288,17 +288,17 @@ opening_within v r s o = record {
     empty_there (Some y) told e is = let same : y ≡ told = cc in subst IsEmpty same e
 
 -- one step, with the journal one event longer
-step_within : (r q : ℕ) (old new : State) (event : Event) → (step : Step old event new) → r ≤ q → HasRoom old step.1.0 old.cfg r q → AllTell new → AreListed old → AreCarried old → ArePlaced old → AreWithin (length old.journal) r old → AreWithin (length new.journal) q new
+step_within : (r q : ℕ) (old new : State) (event : Event) → (step : WorldStep old event new) → r ≤ q → HasRoom old step.1.0 old.cfg r q → AllTell new → AreCallsListed old → AreCarried old → ArePlaced old → AreWithin (length old.journal) r old → AreWithin (length new.journal) q new
 step_within r q old new event step le room tells l c p h =
     let mid = step.1.0 in
     let records = step.1.1.1.1 in
     let grew : length new.journal ≡ length old.journal + 1 =
     ap length records.journal ∙ length-append mid.journal (step.1.1.0 ∷ []) ∙ ap (λ (j : List Entry). length j + 1) (acts_journal old mid event step.0 step.1.1.1.0) in
     subst (λ k. AreWithin k q new) (sym grew)
-    (within_same (length old.journal + 1) q mid new records.sites.sites records.sessions.tales records.net (acts_within (length old.journal) r q old mid event step.0 step.1.1.1.0 le room (step_tell old new event step tells) l c p h))
+    (within_same (length old.journal + 1) q mid new records.sites.sites records.sessions.traces records.net (acts_within (length old.journal) r q old mid event step.0 step.1.1.1.0 le room (step_tell old new event step tells) l c p h))
 
 -- no round is above the number of requests
-net_grows : (old new : State) (event : Event) → (step : Step old event new) → length old.net ≤ length step.1.0.net
+net_grows : (old new : State) (event : Event) → (step : WorldStep old event new) → length old.net ≤ length step.1.0.net
 net_grows old new event step =
     let mid = step.1.0 in
     elim (refusal_of old event) as (λ o. MatchOption o (Does old event step.0 mid) (λ why. Skips old event why step.0 mid) → length old.net ≤ length mid.net) [
@@ -311,10 +311,10 @@ net_grows old new event step =
 
     does_grow : (event : Event) (effect : Effect) → Does old event effect step.1.0 → length old.net ≤ length step.1.0.net
     does_grow events.OpenSession effect d = let e = ap length d.net in omega (arith, e)
-    does_grow (events.Begin session call) effect d = let e = ap length d.1.net in let a = length-append old.net (sent_requests (record { session = session; seq = length (old.tales session) + 1 }) (tick_of old) d.0.send) in omega (arith, e, a)
+    does_grow (events.Begin session call) effect d = let e = ap length d.1.net in let a = length-append old.net (sent_requests (record { session = session; seq = length (old.traces session) + 1 }) (tick_of old) d.0.send) in omega (arith, e, a)
     does_grow (events.Deliver n) effect d = let e = ap length d.1.1.net in let a = length-set old.net (n - 1) (with_reply (tick_of old) d.1.0 d.0) in omega (arith, e, a)
-    does_grow (events.Reply n which) effect d = set_more old.net (sent_requests d.1.1.0.tale.caller.name (tick_of old) d.1.1.0.turn.send) (n - 1) (with_handed (tick_of old) which d.0) step.1.0.net d.1.1.1.1.net
-    does_grow (events.GiveUp n) effect d = set_more old.net (sent_requests d.1.0.tale.caller.name (tick_of old) d.1.0.turn.send) (n - 1) (with_given_up (tick_of old) d.0) step.1.0.net d.1.1.net
+    does_grow (events.Reply n which) effect d = set_more old.net (sent_requests d.1.1.0.trace.caller.name (tick_of old) d.1.1.0.turn.send) (n - 1) (with_handed (tick_of old) which d.0) step.1.0.net d.1.1.1.1.net
+    does_grow (events.GiveUp n) effect d = set_more old.net (sent_requests d.1.0.trace.caller.name (tick_of old) d.1.0.turn.send) (n - 1) (with_given_up (tick_of old) d.0) step.1.0.net d.1.1.net
     does_grow (events.Crash session) effect d = let e = ap length d.net in omega (arith, e)
 
 pub by_requests : (s : State) → IsReached s → AllTell s → AreWithin (length s.journal) (length s.net) s

@@ -8,7 +8,7 @@ use Rattle.gz_core.specs.Rows.{RowAt}
 use Rattle.gz_core.specs.Slots.{Act, VotesClassic, slots}
 use Rattle.gz_core.specs.declared.slots.Slot.TheVariants.{DecidedAs}
 use Rattle.gz_config.specs.declared.Config.{Config}
-use Rattle.gz_round.specs.History.{Tale}
+use Rattle.gz_round.specs.History.{Trace}
 use Rattle.gz_round.specs.Shown.{IsShown}
 use Rattle.gz_site.specs.Told.{Told}
 use Rattle.gz_history.specs.Answers.{shows, names}
@@ -49,29 +49,29 @@ abbrev pub stands_for : State → List ℕ → ℕ → Votes
 stands_for s key v b x i = has_voted s key v b x i || (not (has_voted_in s key v b i) && slot_lets (acceptor_at s key i v) b)
 
 -- a value is shown to a call of the object
-abbrev pub IsShownTo : Config → List ℕ → ℕ → Name → List Tale → Type 0
+abbrev pub IsShownTo : Config → List ℕ → ℕ → Name → List Trace → Type 0
 IsShownTo c key v x [] = ⊥
-IsShownTo c key v x (t ∷ ts) = ((key_of t.caller.call ≡ key) × IsShown c t.moments v x) ⊎ IsShownTo c key v x ts
+IsShownTo c key v x (t ∷ ts) = ((key_of t.caller.call ≡ key) × IsShown c t.actions v x) ⊎ IsShownTo c key v x ts
 
 abbrev pub IsShownIn : State → List ℕ → ℕ → Name → Type 0
-IsShownIn s key v x = (session : ℕ) × IsShownTo s.cfg key v x (s.tales session)
+IsShownIn s key v x = (session : ℕ) × IsShownTo s.cfg key v x (s.traces session)
 
 -- a value is shown to the call of this name
-abbrev pub IsShownToCall : Config → Name → ℕ → Name → List Tale → Type 0
+abbrev pub IsShownToCall : Config → Name → ℕ → Name → List Trace → Type 0
 IsShownToCall c name v x [] = ⊥
-IsShownToCall c name v x (t ∷ ts) = ((t.caller.name ≡ name) × IsShown c t.moments v x) ⊎ IsShownToCall c name v x ts
+IsShownToCall c name v x (t ∷ ts) = ((t.caller.name ≡ name) × IsShown c t.actions v x) ⊎ IsShownToCall c name v x ts
 
 -- a call of the object sent this step
-abbrev pub IsSentIn : List ℕ → Act → List Tale → Type 0
+abbrev pub IsSentIn : List ℕ → Act → List Trace → Type 0
 IsSentIn key act [] = ⊥
-IsSentIn key act (t ∷ ts) = ((key_of t.caller.call ≡ key) × SentStep t.moments act) ⊎ IsSentIn key act ts
+IsSentIn key act (t ∷ ts) = ((key_of t.caller.call ≡ key) × SentStep t.actions act) ⊎ IsSentIn key act ts
 
 -- agreement on the object: on votes, on what is chosen, and on what calls are shown and answer
 pub record AreAgreed (key : List ℕ) (s : State) : Type 0 where
   -- each vote of a classic ballot that was sent is safe, and so is each that stands or was cast
-  pub sent : (session v : ℕ) (b : BallotAt) (x : Name) → IsSentIn key (VotesClassic v b x) (s.tales session) → IsSafe s.cfg.n s.cfg.qc s.cfg.qf (stands_for s key v) b x
+  pub sent : (session v : ℕ) (b : BallotAt) (x : Name) → IsSentIn key (VotesClassic v b x) (s.traces session) → IsSafe s.cfg.n s.cfg.qc s.cfg.qf (stands_for s key v) b x
   pub standing : (v i : ℕ) (b : BallotAt) (x : Name) → i < s.cfg.n → same_ballot b fast ≡ false → has_voted s key v b x i ≡ true → IsSafe s.cfg.n s.cfg.qc s.cfg.qf (stands_for s key v) b x
-  -- a vote that was cast at a version tells that a value is chosen at the one before
+  -- a vote that was cast at a version shows that a value is chosen at the one before
   pub chained : (v i : ℕ) (b : BallotAt) (x : Name) → 1 ≤ v → has_cast s.casts key (v + 1) b x i ≡ true → (y : Name) × IsChosen s.cfg s.casts key v y
   -- a vote or a decision that a site has at a version tells it too
   pub founded : (v i : ℕ) → 1 ≤ v → i < s.cfg.n → HasValue (acceptor_at s key i (v + 1)) → (y : Name) × IsChosen s.cfg s.casts key v y
@@ -85,4 +85,4 @@ pub record AreAgreed (key : List ℕ) (s : State) : Type 0 where
   -- what is chosen is backed by the rows of a classic quorum
   pub backed : (v : ℕ) (x : Name) → IsChosen s.cfg s.casts key v x → s.cfg.qc ≤ count_sites s.cfg.n (λ i. slot_backs (acceptor_at s key i v) x)
   -- what the answer of a call of the object names is shown to the call itself, and chosen
-  pub answers : (i v : ℕ) (a : CallRec) (x : Name) → slice_get s.calls i ≡ Some a → key_of a.call ≡ key → shows a.answer ≡ Some v → names a.name a.answer ≡ Some x → IsShownToCall s.cfg a.name v x (s.tales a.name.session) × IsChosen s.cfg s.casts key v x
+  pub answers : (i v : ℕ) (a : CallRec) (x : Name) → slice_get s.calls i ≡ Some a → key_of a.call ≡ key → shows a.answer ≡ Some v → names a.name a.answer ≡ Some x → IsShownToCall s.cfg a.name v x (s.traces a.name.session) × IsChosen s.cfg s.casts key v x

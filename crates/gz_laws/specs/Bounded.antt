@@ -9,12 +9,12 @@ use Rattle.gz_core.specs.declared.requests.Op.{Op}
 use Rattle.gz_core.specs.declared.requests.Op.TheVariants.{ReadRow, WriteRow}
 use Rattle.gz_core.specs.declared.requests.Reply.{Reply}
 use Rattle.gz_core.specs.declared.requests.Reply.TheVariants.{Row, NoRow, Written, Changed, Failed}
-use Rattle.gz_round.specs.History.{Tale}
+use Rattle.gz_round.specs.History.{Trace}
 use Rattle.gz_round.specs.Sent.{has_promised_at, top_round}
 use Rattle.gz_round.specs.Sites.{can_stand, seen_in, written_by}
 use Rattle.gz_round.specs.declared.hearing.Seen.{Seen}
 use Rattle.gz_site.specs.Told.{Told}
-use Rattle.gz_laws.specs.Each.{EachTale}
+use Rattle.gz_laws.specs.Each.{EachTrace}
 use Rattle.gz_laws.specs.Heard.{IsClean}
 use Rattle.gz_world.specs.States.{RequestAt, State, numbered}
 
@@ -55,13 +55,13 @@ pub record EachRow (P : RowAt → Type 0) (s : State) : Type 0 where
   pub replies : (n place tick : ℕ) (r : RequestAt) (reply : Reply) → numbered s.net n ≡ Some r → slice_get r.replies place ≡ Some (tick, reply) → IfShown P reply
 
 -- a call promised no ballot of a round above this one, and none at a version above the other number
-pub record ArePromisesWithin (versions rounds : ℕ) (t : Tale) : Type 0 where
-  pub rounds_low : top_round t.moments ≤ rounds
-  pub versions_low : (v : ℕ) (b : BallotAt) → has_promised_at t.moments v b ≡ true → v ≤ versions
+pub record ArePromisesWithin (versions rounds : ℕ) (t : Trace) : Type 0 where
+  pub rounds_low : top_round t.actions ≤ rounds
+  pub versions_low : (v : ℕ) (b : BallotAt) → has_promised_at t.actions v b ≡ true → v ≤ versions
 
 pub record AreWithin (versions rounds : ℕ) (s : State) : Type 0 where
   pub rows : EachRow (IsRowWithin versions rounds) s
-  pub tales : (session : ℕ) → EachTale (ArePromisesWithin versions rounds) (s.tales session)
+  pub traces : (session : ℕ) → EachTrace (ArePromisesWithin versions rounds) (s.traces session)
 
 -- a row that is shown is heard
 abbrev pub IsHeard : Op → Reply → Type 0

@@ -1,8 +1,8 @@
--- What the sessions' tales tell of requests and replies is what the world carried.
+-- What the sessions' traces say of requests and replies is what the world carried.
 use Rattle.std.specs.Prelude.{ℕ, ◌≡◌, List, [], ◌∷◌, Some, slice_get}
 use Rattle.gz_core.specs.Names.{Name}
 use Rattle.gz_core.specs.declared.requests.Reply.{Reply}
-use Rattle.gz_round.specs.History.{Asked, Moment, Sent, Handed, GaveUp, Rested, GaveIn, Tale}
+use Rattle.gz_round.specs.History.{Asked, Action, Sent, Handed, GaveUp, Rested, GaveIn, Trace}
 use Rattle.gz_world.specs.States.{RequestAt, State, numbered}
 
 -- a call's request is the world's of its number
@@ -19,20 +19,20 @@ pub record HasReply (r : RequestAt) (reply : Reply) : Type 0 where
   pub there : slice_get r.replies place ≡ Some (tick, reply)
 
 -- what is sent is a request of the world, and what is handed is a reply of that request
-abbrev pub MomentCarried : List RequestAt → Name → Moment → Type 0
-MomentCarried net name (Sent a) = (r : RequestAt) × IsRequestOf net name a r
-MomentCarried net name (Handed a reply) = (r : RequestAt) × (IsRequestOf net name a r × HasReply r reply)
-MomentCarried net name (GaveUp a) = (r : RequestAt) × IsRequestOf net name a r
-MomentCarried net name Rested = Unit {0}
-MomentCarried net name GaveIn = Unit {0}
+abbrev pub ActionCarried : List RequestAt → Name → Action → Type 0
+ActionCarried net name (Sent a) = (r : RequestAt) × IsRequestOf net name a r
+ActionCarried net name (Handed a reply) = (r : RequestAt) × (IsRequestOf net name a r × HasReply r reply)
+ActionCarried net name (GaveUp a) = (r : RequestAt) × IsRequestOf net name a r
+ActionCarried net name Rested = Unit {0}
+ActionCarried net name GaveIn = Unit {0}
 
-abbrev pub MomentsCarried : List RequestAt → Name → List Moment → Type 0
-MomentsCarried net name [] = Unit {0}
-MomentsCarried net name (m ∷ ms) = MomentCarried net name m × MomentsCarried net name ms
+abbrev pub ActionsCarried : List RequestAt → Name → List Action → Type 0
+ActionsCarried net name [] = Unit {0}
+ActionsCarried net name (m ∷ ms) = ActionCarried net name m × ActionsCarried net name ms
 
-abbrev pub TalesCarried : List RequestAt → List Tale → Type 0
-TalesCarried net [] = Unit {0}
-TalesCarried net (t ∷ ts) = MomentsCarried net t.caller.name t.moments × TalesCarried net ts
+abbrev pub TracesCarried : List RequestAt → List Trace → Type 0
+TracesCarried net [] = Unit {0}
+TracesCarried net (t ∷ ts) = ActionsCarried net t.caller.name t.actions × TracesCarried net ts
 
 abbrev pub AreCarried : State → Type 0
-AreCarried s = (session : ℕ) → TalesCarried s.net (s.tales session)
+AreCarried s = (session : ℕ) → TracesCarried s.net (s.traces session)

@@ -1,7 +1,7 @@
--- What holds of each tale.
+-- What holds of each trace.
 use Rattle.std.specs.Prelude.{List, [], ◌∷◌}
-use Rattle.gz_round.specs.History.{Tale}
+use Rattle.gz_round.specs.History.{Trace}
 
-abbrev pub EachTale : (Tale → Type 0) → List Tale → Type 0
-EachTale P [] = Unit {0}
-EachTale P (t ∷ ts) = P t × EachTale P ts
+abbrev pub EachTrace : (Trace → Type 0) → List Trace → Type 0
+EachTrace P [] = Unit {0}
+EachTrace P (t ∷ ts) = P t × EachTrace P ts

@@ -1,10 +1,10 @@
--- What a call sent and what came of it, as the world's requests have it and as the call's tale has it: the two agree, so
+-- What a call sent and what came of it, as the world's requests have it and as the call's trace has it: the two agree, so
 -- that whatever counts requests, replies and give-ups of a call can be read off the world.
 use Rattle.std.specs.Prelude.{ℕ, ◌≡◌, ◌+◌, ◌==◌, ◌⊎◌, Bool, true, false, if◌then◌else◌, List, [], ◌∷◌, ◌++◌, map, Option, Some, None, option_map, is_some}
 use Rattle.gz_core.specs.Names.{Name, same_name}
 use Rattle.gz_core.specs.declared.requests.Reply.{Reply}
-use Rattle.gz_round.specs.History.{Asked, Moment, Sent, Handed, GaveUp, Rested, GaveIn, Tale}
-use Rattle.gz_laws.specs.Each.{EachTale}
+use Rattle.gz_round.specs.History.{Asked, Action, Sent, Handed, GaveUp, Rested, GaveIn, Trace}
+use Rattle.gz_laws.specs.Each.{EachTrace}
 use Rattle.gz_world.specs.States.{RequestAt, State, numbered}
 
 -- a request that was sent, the reply of it that was handed to its call, if one was, and whether it was given up
@@ -49,7 +49,7 @@ abbrev pub changed_at : ℕ → (Exchange → Exchange) → Exchange → Exchang
 changed_at number f x = if x.asked.number == number then f x else x
 
 -- the exchanges of a call, by what happened to it
-abbrev pub exchanges_told : List Moment → List Exchange
+abbrev pub exchanges_told : List Action → List Exchange
 exchanges_told [] = []
 exchanges_told (Sent a ∷ ms) = exchanges_told ms ++ just_sent a ∷ []
 exchanges_told (Handed a reply ∷ ms) = map (changed_at a.number (with_answer reply)) (exchanges_told ms)
@@ -57,12 +57,12 @@ exchanges_told (GaveUp a ∷ ms) = map (changed_at a.number without_answer) (exc
 exchanges_told (Rested ∷ ms) = exchanges_told ms
 exchanges_told (GaveIn ∷ ms) = exchanges_told ms
 
--- the world's requests and the tale of a call have the same exchanges
-abbrev pub IsExchanged : List RequestAt → Tale → Type 0
-IsExchanged net t = exchanges_in net t.caller.name ≡ exchanges_told t.moments
+-- the world's requests and the trace of a call have the same exchanges
+abbrev pub IsExchanged : List RequestAt → Trace → Type 0
+IsExchanged net t = exchanges_in net t.caller.name ≡ exchanges_told t.actions
 
 -- one of these calls has the name
-abbrev pub IsCallOf : List Tale → Name → Type 0
+abbrev pub IsCallOf : List Trace → Name → Type 0
 IsCallOf [] name = ⊥
 IsCallOf (t ∷ ts) name = (t.caller.name ≡ name) ⊎ IsCallOf ts name
 
@@ -70,9 +70,9 @@ IsCallOf (t ∷ ts) name = (t.caller.name ≡ name) ⊎ IsCallOf ts name
 abbrev pub IsHandedOne : RequestAt → Type 0
 IsHandedOne r = (tick which : ℕ) → r.handed ≡ Some (tick, which) → (reply : ℕ × Reply) × (numbered r.replies which ≡ Some reply)
 
--- the world's requests and the calls' tales agree in both directions: each tale has its call's requests, and each
--- request is of a tale's call
+-- the world's requests and the calls' traces agree in both directions: each trace has its call's requests, and each
+-- request is of a trace's call
 pub record AreExchanged (s : State) : Type 0 where
-  pub tales : (session : ℕ) → EachTale (IsExchanged s.net) (s.tales session)
-  pub calls : (n : ℕ) (r : RequestAt) → numbered s.net n ≡ Some r → IsCallOf (s.tales r.name.session) r.name
+  pub traces : (session : ℕ) → EachTrace (IsExchanged s.net) (s.traces session)
+  pub calls : (n : ℕ) (r : RequestAt) → numbered s.net n ≡ Some r → IsCallOf (s.traces r.name.session) r.name
   pub handed : (n : ℕ) (r : RequestAt) → numbered s.net n ≡ Some r → IsHandedOne r

@@ -1,10 +1,10 @@
 -- That no call gives in, and which sites are out for a call.
 use Rattle.std.specs.Prelude.{ℕ, ◌≡◌, ◌↔◌, ◌⊎◌, true, false, List, [], ◌∷◌, None}
-use Rattle.gz_round.specs.History.{Moment, Sent, Handed, GaveUp, Rested, GaveIn, Tale}
+use Rattle.gz_round.specs.History.{Action, Sent, Handed, GaveUp, Rested, GaveIn, Trace}
 use Rattle.gz_round.specs.Sites.{site_now, seen_in, written_by, is_changed}
 
 -- a call never gave in
-abbrev pub NeverGaveIn : List Moment → Type 0
+abbrev pub NeverGaveIn : List Action → Type 0
 NeverGaveIn [] = Unit {0}
 NeverGaveIn (Sent a ∷ ms) = NeverGaveIn ms
 NeverGaveIn (Handed a reply ∷ ms) = NeverGaveIn ms
@@ -13,18 +13,18 @@ NeverGaveIn (Rested ∷ ms) = NeverGaveIn ms
 NeverGaveIn (GaveIn ∷ ms) = ⊥
 
 -- a request to the site was given up, or answered by a fault or by a row that isn't heard
-abbrev pub LeavesAt : ℕ → Moment → Type 0
+abbrev pub LeavesAt : ℕ → Action → Type 0
 LeavesAt s (Sent a) = ⊥
 LeavesAt s (Handed a reply) = (a.site ≡ s) × ((seen_in (written_by a.op) reply ≡ None) × (is_changed reply ≡ false))
 LeavesAt s (GaveUp a) = a.site ≡ s
 LeavesAt s Rested = ⊥
 LeavesAt s GaveIn = ⊥
 
-abbrev pub WasLeft : ℕ → List Moment → Type 0
+abbrev pub WasLeft : ℕ → List Action → Type 0
 WasLeft s [] = ⊥
 WasLeft s (m ∷ ms) = LeavesAt s m ⊎ WasLeft s ms
 
 -- the call never gave in, and exactly those sites are out of which a request was given up, or answered so
-pub record IsGoingOn (t : Tale) : Type 0 where
-  pub never : NeverGaveIn t.moments
-  pub out : (s : ℕ) → ((site_now t.moments s).out ≡ true) ↔ WasLeft s t.moments
+pub record IsGoingOn (t : Trace) : Type 0 where
+  pub never : NeverGaveIn t.actions
+  pub out : (s : ℕ) → ((site_now t.actions s).out ≡ true) ↔ WasLeft s t.actions

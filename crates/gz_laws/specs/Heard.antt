@@ -5,23 +5,23 @@ use Rattle.gz_core.specs.Rows.{RowAt, Rises}
 use Rattle.gz_core.specs.Slots.{Act, Promises, act_of, slots}
 use Rattle.gz_core.specs.declared.requests.Op.{Op}
 use Rattle.gz_core.specs.declared.requests.Op.TheVariants.{ReadRow, WriteRow}
-use Rattle.gz_round.specs.History.{Tale, Moment, Sent, Handed, GaveUp, Rested, GaveIn}
-use Rattle.gz_round.specs.declared.hearing.Seen.{Seen as SeenRow}
+use Rattle.gz_round.specs.History.{Trace, Action, Sent, Handed, GaveUp, Rested, GaveIn}
+use Rattle.gz_round.specs.declared.hearing.Seen.{Seen}
 use Rattle.gz_round.specs.Sites.{seen_in, written_by}
 use Rattle.gz_ledger.specs.Acceptors.{Acceptor}
-use Rattle.gz_ledger.specs.Histories.{Seen, Write, IsIn}
-use Rattle.gz_ledger.specs.Deeds.{Store, Answered, Asked as AskedOf, writes_of}
+use Rattle.gz_ledger.specs.Histories.{RowSeen, Write, IsIn}
+use Rattle.gz_ledger.specs.Transitions.{Store, Answered, WriteSent, writes_of}
 
 -- a row that was heard from a site, with those that were heard before
-abbrev pub entry_of : ℕ → Option SeenRow → List Seen → List Seen
-entry_of s None es = es
-entry_of s (Some seen) es = record { site = s; row = slots seen.row } ∷ es
+abbrev pub seen_entry : ℕ → Option Seen → List RowSeen → List RowSeen
+seen_entry s None es = es
+seen_entry s (Some seen) es = record { site = s; row = slots seen.row } ∷ es
 
 -- the rows that a call heard, the newest first
-abbrev pub heard_of : List Moment → List Seen
+abbrev pub heard_of : List Action → List RowSeen
 heard_of [] = []
 heard_of (Sent a ∷ ms) = heard_of ms
-heard_of (Handed a reply ∷ ms) = entry_of a.site (seen_in (written_by a.op) reply) (heard_of ms)
+heard_of (Handed a reply ∷ ms) = seen_entry a.site (seen_in (written_by a.op) reply) (heard_of ms)
 heard_of (GaveUp a ∷ ms) = heard_of ms
 heard_of (Rested ∷ ms) = heard_of ms
 heard_of (GaveIn ∷ ms) = heard_of ms
@@ -32,49 +32,49 @@ pub record IsClean (row : RowAt) : Type 0 where
   pub rises : Rises 0 row.columns
 
 -- a row that was heard is one of which nothing was collected, and a reply of the store showed it
-abbrev pub SeenStands : Store → ℕ → Option SeenRow → Type 0
+abbrev pub SeenStands : Store → ℕ → Option Seen → Type 0
 SeenStands st s None = Unit {0}
 SeenStands st s (Some seen) = IsClean seen.row × (let r : Answered = record { site = s; etag = seen.etag; row = slots seen.row } in IsIn r st.replies)
 
--- the step of the write that a moment sends
-abbrev pub IsStepOf : Op → Act → Type 0
-IsStepOf (ReadRow key) act = ⊥
-IsStepOf (WriteRow key expect step row) act = act_of step ≡ act
+-- the step of the write that an action sends
+abbrev pub IsStepSent : Op → Act → Type 0
+IsStepSent (ReadRow key) act = ⊥
+IsStepSent (WriteRow key expect step row) act = act_of step ≡ act
 
-abbrev pub MomentStands : Store → Moment → Type 0
-MomentStands st (Sent a) = Unit {0}
-MomentStands st (Handed a reply) = SeenStands st a.site (seen_in (written_by a.op) reply)
-MomentStands st (GaveUp a) = Unit {0}
-MomentStands st Rested = Unit {0}
-MomentStands st GaveIn = Unit {0}
+abbrev pub ActionStands : Store → Action → Type 0
+ActionStands st (Sent a) = Unit {0}
+ActionStands st (Handed a reply) = SeenStands st a.site (seen_in (written_by a.op) reply)
+ActionStands st (GaveUp a) = Unit {0}
+ActionStands st Rested = Unit {0}
+ActionStands st GaveIn = Unit {0}
 
 -- what a call heard was shown by replies of the store
-abbrev pub MomentsStand : Store → List Moment → Type 0
-MomentsStand st [] = Unit {0}
-MomentsStand st (m ∷ ms) = MomentStands st m × MomentsStand st ms
+abbrev pub ActionsStand : Store → List Action → Type 0
+ActionsStand st [] = Unit {0}
+ActionsStand st (m ∷ ms) = ActionStands st m × ActionsStand st ms
 
 -- a call sent a write of this step
-abbrev pub SendsStep : Moment → Act → Type 0
-SendsStep (Sent a) act = IsStepOf a.op act
+abbrev pub SendsStep : Action → Act → Type 0
+SendsStep (Sent a) act = IsStepSent a.op act
 SendsStep (Handed a reply) act = ⊥
 SendsStep (GaveUp a) act = ⊥
 SendsStep Rested act = ⊥
 SendsStep GaveIn act = ⊥
 
-abbrev pub SentStep : List Moment → Act → Type 0
+abbrev pub SentStep : List Action → Act → Type 0
 SentStep [] act = ⊥
 SentStep (m ∷ ms) act = SendsStep m act ⊎ SentStep ms act
 
--- a write that moments send is this one's step
-abbrev pub PastStep : List Tale → Act → Type 0
+-- a write that actions send is this one's step
+abbrev pub PastStep : List Trace → Act → Type 0
 PastStep [] act = ⊥
-PastStep (t ∷ ts) act = SentStep t.moments act ⊎ PastStep ts act
+PastStep (t ∷ ts) act = SentStep t.actions act ⊎ PastStep ts act
 
 -- a request, as the store of its object keeps it
-abbrev pub IsAskedOf : Name → ℕ → Op → AskedOf → Type 0
+abbrev pub IsAskedOf : Name → ℕ → Op → WriteSent → Type 0
 IsAskedOf name site (ReadRow key) q = ⊥
 IsAskedOf name site (WriteRow key expect step row) q =
-    (before : Acceptor) × (let k : AskedOf = record { expect = expect; write = record { call = name; site = site; before = before; act = act_of step; after = slots row } } in q ≡ k)
+    (before : Acceptor) × (let k : WriteSent = record { expect = expect; write = record { call = name; site = site; before = before; act = act_of step; after = slots row } } in q ≡ k)
 
 -- no site used a tag before the run
 abbrev pub unused : ℕ → ℕ
@@ -83,7 +83,7 @@ unused s = 0
 -- the write of a request is asked of the store
 abbrev pub AskedHere : Name → ℕ → Op → Store → Type 0
 AskedHere name site (ReadRow key) st = Unit {0}
-AskedHere name site (WriteRow key expect step row) st = (q : AskedOf) × (IsAskedOf name site (WriteRow key expect step row) q × IsIn q st.asked)
+AskedHere name site (WriteRow key expect step row) st = (q : WriteSent) × (IsAskedOf name site (WriteRow key expect step row) q × IsIn q st.asked)
 
 -- the row that a request writes is one of which nothing was collected
 abbrev pub CleanOp : Op → Type 0
@@ -92,8 +92,8 @@ CleanOp (WriteRow key expect step row) = IsClean row
 
 -- what a store knows of a call of its object: its heard rows were shown, its writes and those of the store are the
 -- same, and each ballot that was promised is of the session that promised it
-pub record Keeps (name : Name) (past : List Tale) (ms : List Moment) (st : Store) : Type 0 where
-  pub stands : MomentsStand st ms
+pub record Keeps (name : Name) (past : List Trace) (ms : List Action) (st : Store) : Type 0 where
+  pub stands : ActionsStand st ms
   pub own : (q : Write) → IsIn q (writes_of st.asked) → q.call ≡ name → SentStep ms q.act
   pub asked : (act : Act) → SentStep ms act → (q : Write) × (IsIn q (writes_of st.asked) × ((q.call ≡ name) × (q.act ≡ act)))
   pub drawn : (q : Write) (v : ℕ) (b : BallotAt) → IsIn q (writes_of st.asked) → q.act ≡ Promises v b → b.session ≡ q.call.session

@@ -9,7 +9,7 @@ use Rattle.gz_world.specs.States.{RequestAt, State, numbered}
 -- a request goes to a site of the configuration, and its call is one of its session
 pub record IsOfCall (s : State) (r : RequestAt) : Type 0 where
   pub site : r.site < s.cfg.n
-  pub call : r.name.seq ≤ length (s.tales r.name.session)
+  pub call : r.name.seq ≤ length (s.traces r.name.session)
 
 -- the same of each request, after so many ticks
 pub record ArePlacedBy (ticks : ℕ) (s : State) : Type 0 where

@@ -1,13 +1,13 @@
 //! What holds in every world that is reached.
 ghost use Rattle.gz_world.specs.States.{State};
 ghost use Rattle.std.specs.Prelude.{List, length, ℕ, ◌*◌, ◌≤◌};
-ghost use Rattle.gz_ledger.specs.Deeds.{Deed};
+ghost use Rattle.gz_ledger.specs.Transitions.{Transition};
 ghost use Rattle.gz_world.specs.Reached.{IsReached, AllTell};
 ghost use Rattle.gz_laws.specs.Runs.{IsRun};
-ghost use Rattle.gz_laws.specs.Listed.{AreListed};
+ghost use Rattle.gz_laws.specs.Listed.{AreCallsListed};
 ghost use Rattle.gz_laws.specs.Bounded.{AreWithin, CanStand};
 ghost use Rattle.gz_laws.specs.Carried.{AreCarried};
-ghost use Rattle.gz_laws.specs.Each.{EachTale};
+ghost use Rattle.gz_laws.specs.Each.{EachTrace};
 ghost use Rattle.gz_laws.specs.Exchanged.{AreExchanged};
 ghost use Rattle.gz_laws.specs.Going.{IsGoingOn};
 ghost use Rattle.gz_laws.specs.Overtaken.{AreOvertaken};
@@ -18,14 +18,14 @@ ghost use Rattle.gz_laws.specs.Agreed.{AreAgreed};
 ghost use Rattle.gz_history.specs.Broken.{IsHistory};
 ghost use Rattle.gz_history.specs.Legal.{IsLegal};
 
-/// Of every world that is reached: the names of the calls differ, each call is that of a tale of its session, each
-/// moment of a tale was allowed when it came, and its answer, which is the call's, has its cause in what the call was
-/// handed; what the call was handed are replies, in the world, to requests that the call sent; each tale is that of a
-/// call; and requests and calls are of sites, sessions and ticks that there are. The world's requests and the tales agree
+/// Of every world that is reached: the names of the calls differ, each call is that of a trace of its session, each
+/// action of a trace was allowed when it came, and its answer, which is the call's, has its cause in what the call was
+/// handed; what the call was handed are replies, in the world, to requests that the call sent; each trace is that of a
+/// call; and requests and calls are of sites, sessions and ticks that there are. The world's requests and the traces agree
 /// in both directions, so that a call's counts can be read off the world; and the calls are a history: they began one
 /// after another, with names of their own, and each ended after it began.
 pub fn world_laws()
-    ensures listed { (s : State) → IsReached s → AreListed s }
+    ensures listed { (s : State) → IsReached s → AreCallsListed s }
     ensures carried { (s : State) → IsReached s → AreCarried s }
     ensures placed { (s : State) → IsReached s → ArePlaced s }
     ensures recorded { (s : State) → IsReached s → AreRecorded s }
@@ -43,11 +43,11 @@ pub fn overtaken_only_by_writes()
 /// What has happened to an object, in a world that is reached and whose sites tell what they hold, is a run of the
 /// machine of agreement.
 pub fn object_runs()
-    ensures { (key : List ℕ) (s : State) → IsReached s → AllTell s → (ds : List Deed) × IsRun key s ds }
+    ensures { (key : List ℕ) (s : State) → IsReached s → AllTell s → (ds : List Transition) × IsRun key s ds }
 {}
 
 /// Agreement on each object, in a world that is reached and whose sites tell what they hold: each classic vote is
-/// safe, a vote at a version tells that a value is chosen at the one before, one value is chosen at a version, and a
+/// safe, a vote at a version shows that a value is chosen at the one before, one value is chosen at a version, and a
 /// value at one version; what is shown to a call is chosen, and what is chosen is backed by the rows of a quorum.
 pub fn agreement()
     ensures { (key : List ℕ) (s : State) → IsReached s → AllTell s → AreAgreed key s }
@@ -66,7 +66,7 @@ pub fn rows_are_bounded()
 /// value: the sites that are out for a call are exactly those of which a request was given up, or answered by a fault or by
 /// a row that isn't heard.
 pub fn no_call_gives_in()
-    ensures { (s : State) → IsReached s → AllTell s → (session : ℕ) → EachTale IsGoingOn (s.tales session) }
+    ensures { (s : State) → IsReached s → AllTell s → (session : ℕ) → EachTrace IsGoingOn (s.traces session) }
 {}
 
 /// In a world that is reached and whose sites tell what they hold, every value that a row has is one that a call of

@@ -7,13 +7,13 @@ use Rattle.gz_core.specs.declared.slots.Slot.TheVariants.{Gone, DecidedAs, OpenA
 use Rattle.gz_config.specs.declared.Config.{Config}
 use Rattle.gz_core.proofs.Counting.{count_weaker}
 use Rattle.gz_model.specs.Choosing.{IsSafe}
-use Rattle.gz_ledger.specs.Histories.{Seen, Write, IsProposed, IsPromised}
-use Rattle.gz_ledger.specs.Ledgers.{Ledger, stands}
+use Rattle.gz_ledger.specs.Histories.{RowSeen, Write, IsProposed, IsPromised}
+use Rattle.gz_ledger.specs.Ledgers.{Ledger, standing_votes}
 use Rattle.gz_ledger.proofs.Shown.{Includes, chosen_more}
 use Rattle.gz_ledger.proofs.Sound.{IsBuilt, IsVoteSent, SlotOk, ActOk, IsOtherChosen}
 use Rattle.gz_ledger.proofs.Stances.{Shrinks}
 
-pub built_more : (cfg : Config) (seen more : List Seen) (v : ℕ) → Includes seen more → IsBuilt cfg seen v → IsBuilt cfg more v
+pub built_more : (cfg : Config) (seen more : List RowSeen) (v : ℕ) → Includes seen more → IsBuilt cfg seen v → IsBuilt cfg more v
 built_more cfg seen more v i (inl e) = inl e
 built_more cfg seen more v i (inr (u, e, y, h)) = inr (u, e, y, chosen_more cfg seen more u y i h)
 
@@ -23,7 +23,7 @@ proposed_more sent more v x i p = record { write = p.write; found = i p.write p.
 pub promised_more : (sent more : List Write) (call : Name) (v : ℕ) (b : BallotAt) → Includes sent more → IsPromised sent call v b → IsPromised more call v b
 promised_more sent more call v b i p = record { write = p.write; found = i p.write p.found; same = p.same; promises = p.promises }
 
-pub slot_more : (cfg : Config) (seen more : List Seen) (sent many : List Write) (v : ℕ) (slot : Slot) → Includes seen more → Includes sent many → SlotOk cfg seen sent v slot → SlotOk cfg more many v slot
+pub slot_more : (cfg : Config) (seen more : List RowSeen) (sent many : List Write) (v : ℕ) (slot : Slot) → Includes seen more → Includes sent many → SlotOk cfg seen sent v slot → SlotOk cfg more many v slot
 slot_more cfg seen more sent many v Gone i j h = tt
 slot_more cfg seen more sent many v (DecidedAs x) i j h = (chosen_more cfg seen more v x i h.0, built_more cfg seen more v i h.1)
 slot_more cfg seen more sent many v (OpenAt p None) i j (inl e) = inl e
@@ -37,9 +37,9 @@ slot_more cfg seen more sent many v (OpenAt p (Some u)) i j h = record {
 }
 
 -- a safe value stays safe where sites stand for nothing new
-pub safe_more : (cfg : Config) (l m : Ledger) (v : ℕ) (b : BallotAt) (x : Name) → Shrinks l m → IsSafe cfg.n cfg.qc cfg.qf (stands l v) b x → IsSafe cfg.n cfg.qc cfg.qf (stands m v) b x
+pub safe_more : (cfg : Config) (l m : Ledger) (v : ℕ) (b : BallotAt) (x : Name) → Shrinks l m → IsSafe cfg.n cfg.qc cfg.qf (standing_votes l v) b x → IsSafe cfg.n cfg.qc cfg.qf (standing_votes m v) b x
 safe_more cfg l m v b x sh safe c y lt ch =
-    safe c y lt (omega (arith, ch, count_weaker cfg.n (stands m v c y) (stands l v c y) (sh v c y)))
+    safe c y lt (omega (arith, ch, count_weaker cfg.n (standing_votes m v c y) (standing_votes l v c y) (sh v c y)))
 
 pub act_more : (cfg : Config) (l m : Ledger) (call : Name) (act : Act) → Includes l.seen m.seen → Includes l.sent m.sent → Shrinks l m → ActOk cfg l call act → ActOk cfg m call act
 act_more cfg l m call (VotesFast v x) i j sh h = (h.0, built_more cfg l.seen m.seen v i h.1)
@@ -54,5 +54,5 @@ act_more cfg l m call (VotesClassic v b x) i j sh h = record {
 act_more cfg l m call (Decides v x) i j sh h = (chosen_more cfg l.seen m.seen v x i h.0, built_more cfg l.seen m.seen v i h.1)
 act_more cfg l m call (Trims to x) i j sh h = (chosen_more cfg l.seen m.seen (to + 1) x i h.0, built_more cfg l.seen m.seen (to + 1) i h.1)
 
-pub other_more : (cfg : Config) (seen more : List Seen) (v : ℕ) (x : Name) → Includes seen more → IsOtherChosen cfg seen v x → IsOtherChosen cfg more v x
+pub other_more : (cfg : Config) (seen more : List RowSeen) (v : ℕ) (x : Name) → Includes seen more → IsOtherChosen cfg seen v x → IsOtherChosen cfg more v x
 other_more cfg seen more v x i (y, ne, h) = (y, ne, chosen_more cfg seen more v y i h)

@@ -8,9 +8,9 @@ use Rattle.gz_core.specs.declared.slots.Slot.TheVariants.{Gone, DecidedAs, OpenA
 use Rattle.gz_config.specs.declared.Config.{Config}
 use Rattle.gz_model.proofs.Choices.{allowed_safe}
 use Rattle.gz_ledger.specs.Acceptors.{HasValue}
-use Rattle.gz_ledger.specs.Histories.{Seen, Write, IsChosenAt, IsShown, IsVotedAt, VotesFor, IsProposed, IsPromised}
-use Rattle.gz_ledger.specs.Guards.{IsClear, IsNext, IsGrounded, IsPromiseHeard, MayVoteClassic, May}
-use Rattle.gz_ledger.specs.Ledgers.{Ledger, Sends, moved, stands, votes}
+use Rattle.gz_ledger.specs.Histories.{RowSeen, Write, IsChosenAt, IsShownByRows, IsVotedAt, VotesFor, IsProposed, IsPromised}
+use Rattle.gz_ledger.specs.Guards.{IsClearByRows, IsNextByRows, IsGroundedByRows, IsPromiseSeen, MayVoteClassic, May}
+use Rattle.gz_ledger.specs.Ledgers.{Ledger, Sends, moved, standing_votes, votes}
 use Rattle.gz_ledger.proofs.Sound.{IsBuilt, SlotOk, IsVoteRight, ActOk, IsOtherChosen, IsSound}
 use Rattle.gz_ledger.proofs.SoundVotes.{chosen_ok, shown_chosen, recovered}
 
@@ -18,7 +18,7 @@ use Rattle.gz_ledger.proofs.SoundVotes.{chosen_ok, shown_chosen, recovered}
 pub chosen_built : (cfg : Config) (l : Ledger) (v : ℕ) (x : Name) → IsSound cfg l → IsChosenAt cfg l.seen v x → IsBuilt cfg l.seen v
 chosen_built cfg l v x so h = (chosen_ok cfg l v x so h).built
 
-pub next_built : (cfg : Config) (l : Ledger) (v : ℕ) → IsSound cfg l → IsNext cfg l.seen v → IsBuilt cfg l.seen v
+pub next_built : (cfg : Config) (l : Ledger) (v : ℕ) → IsSound cfg l → IsNextByRows cfg l.seen v → IsBuilt cfg l.seen v
 next_built cfg l v so (inl e) = inl e
 next_built cfg l v so (inr (u, e, y, h)) = inr (u, e, y, shown_chosen cfg l u y so h)
 
@@ -43,13 +43,13 @@ built_down cfg l so (suc w) v b p le =
     same_suc : (u w : ℕ) → suc w ≡ suc u → u ≡ w
     same_suc u w e = omega arith
 
-pub value_built : (cfg : Config) (seen : List Seen) (sent : List Write) (u : ℕ) (slot : Slot) → SlotOk cfg seen sent u slot → HasValue slot → IsBuilt cfg seen u
+pub value_built : (cfg : Config) (seen : List RowSeen) (sent : List Write) (u : ℕ) (slot : Slot) → SlotOk cfg seen sent u slot → HasValue slot → IsBuilt cfg seen u
 value_built cfg seen sent u Gone ok h = absurd h
 value_built cfg seen sent u (DecidedAs x) ok h = ok.1
 value_built cfg seen sent u (OpenAt p None) ok h = absurd h
 value_built cfg seen sent u (OpenAt p (Some vote)) ok h = ok.built
 
-pub grounded_built : (cfg : Config) (l : Ledger) (v : ℕ) → IsSound cfg l → 1 ≤ v → IsGrounded cfg l.seen v → IsBuilt cfg l.seen v
+pub grounded_built : (cfg : Config) (l : Ledger) (v : ℕ) → IsSound cfg l → 1 ≤ v → IsGroundedByRows cfg l.seen v → IsBuilt cfg l.seen v
 grounded_built cfg l v so p (inl n) = next_built cfg l v so n
 grounded_built cfg l v so p (inr (e, u, i, le, h)) = built_down cfg l so u v (value_built cfg l.seen l.sent u (e.row u) (so.seen_ok e u i) h) p le
 
@@ -59,12 +59,12 @@ voted_proposed cfg l v x so h =
     (subst (λ (slot : Slot). SlotOk cfg l.seen l.sent v slot) h.votes (so.seen_ok h.entry v h.found)).proposed
 
 -- the value of a classic vote is the call's own, which is clear, or its own call proposed it before
-pub source_of : (cfg : Config) (l : Ledger) (call : Name) (v : ℕ) (b : BallotAt) (x : Name) → IsSound cfg l → MayVoteClassic cfg l.seen l.sent call v b x → ((x ≡ call) × IsClear cfg l.seen l.sent call v) ⊎ IsProposed l.sent v x
+pub source_of : (cfg : Config) (l : Ledger) (call : Name) (v : ℕ) (b : BallotAt) (x : Name) → IsSound cfg l → MayVoteClassic cfg l.seen l.sent call v b x → ((x ≡ call) × IsClearByRows cfg l.seen l.sent call v) ⊎ IsProposed l.sent v x
 source_of cfg l call v b x so m =
     elim m.allowed [
       | inl free ↦ elim (m.source free) [ inl own ↦ inl own | inr h ↦ inr (voted_proposed cfg l v x so h) ]
       | inr a ↦
-          let p : IsPromiseHeard l.seen v b a.3.site = m.quorum.promises a.0 a.3.site a.3.is in
+          let p : IsPromiseSeen l.seen v b a.3.site = m.quorum.promises a.0 a.3.site a.3.is in
           inr (voted_proposed cfg l v x so (record { entry = p.entry; found = p.found; promise = b; ballot = a.2; votes = p.row ∙ ap (λ (o : Option (BallotAt × Name)). OpenAt b o) a.3.vote }))
     ]
 
@@ -86,7 +86,7 @@ classic_right cfg l w v b x so e m =
     record {
       classic = ok.0;
       built = ok.1;
-      safe = allowed_safe cfg.n cfg.qc cfg.qf (votes l v) (stands l v) b m.heard x (recovered cfg l v b m.heard so m.quorum) m.allowed;
+      safe = allowed_safe cfg.n cfg.qc cfg.qf (votes l v) (standing_votes l v) b m.heard x (recovered cfg l v b m.heard so m.quorum) m.allowed;
       promised = later_promised l.sent w w.call v b m.promised;
       proposed = elim (source_of cfg l w.call v b x so m) [
         | inl own ↦ own_proposed l.sent w v x own.0 (subst (λ (act : Act). VotesFor act v x) (sym e) (refl, refl))
@@ -107,12 +107,12 @@ may_ok cfg l w (Trims to x) so e m =
     (h, chosen_built cfg l (to + 1) x so h)
 
 -- a vote for the call's own value is clear, or its call proposed it before
-pub own_vote : (cfg : Config) (l : Ledger) (call : Name) (v : ℕ) (act : Act) → IsSound cfg l → May cfg l.seen l.sent call act → VotesFor act v call → IsClear cfg l.seen l.sent call v ⊎ IsProposed l.sent v call
-own_vote cfg l call v (VotesFast u x) so m h = inl (subst (λ (k : ℕ). IsClear cfg l.seen l.sent call k) h.0 m.clear)
+pub own_vote : (cfg : Config) (l : Ledger) (call : Name) (v : ℕ) (act : Act) → IsSound cfg l → May cfg l.seen l.sent call act → VotesFor act v call → IsClearByRows cfg l.seen l.sent call v ⊎ IsProposed l.sent v call
+own_vote cfg l call v (VotesFast u x) so m h = inl (subst (λ (k : ℕ). IsClearByRows cfg l.seen l.sent call k) h.0 m.clear)
 own_vote cfg l call v (Promises u b) so m h = absurd h
 own_vote cfg l call v (VotesClassic u b x) so m h =
     elim (source_of cfg l call u b x so m) [
-      | inl own ↦ inl (subst (λ (k : ℕ). IsClear cfg l.seen l.sent call k) h.0 own.1)
+      | inl own ↦ inl (subst (λ (k : ℕ). IsClearByRows cfg l.seen l.sent call k) h.0 own.1)
       | inr p ↦ inr (subst (λ (k : ℕ). IsProposed l.sent k call) h.0 (subst (λ (y : Name). IsProposed l.sent u y) h.1 p))
     ]
 own_vote cfg l call v (Decides u x) so m h = absurd h
@@ -126,7 +126,7 @@ new_apart cfg l w u v x so m own h p =
       | inl clear ↦ elim (cases_eq v u) [
         | inl e ↦ inl (sym e)
         | inr ne ↦
-            let o : (y : Name) × (y ≡ w.call → ⊥) × IsShown cfg l.seen v y = clear p.write v p.found (p.own ∙ sym own) (subst (λ (y : Name). VotesFor p.write.act v y) (sym own) p.votes) ne in
+            let o : (y : Name) × (y ≡ w.call → ⊥) × IsShownByRows cfg l.seen v y = clear p.write v p.found (p.own ∙ sym own) (subst (λ (y : Name). VotesFor p.write.act v y) (sym own) p.votes) ne in
             inr (inr (o.0, λ (e : o.0 ≡ x). o.1 (e ∙ sym own), shown_chosen cfg l v o.0 so o.2))
       ]
       | inr q ↦ so.apart u v x (subst (λ (y : Name). IsProposed l.sent u y) own q) p

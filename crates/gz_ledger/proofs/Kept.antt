@@ -8,9 +8,9 @@ use Rattle.gz_core.specs.declared.slots.Slot.TheVariants.{Gone, DecidedAs, OpenA
 use Rattle.gz_config.specs.declared.Config.{Config}
 use Rattle.gz_core.proofs.Ballots.{same_refl}
 use Rattle.gz_ledger.specs.Acceptors.{Acceptor, new_acceptor, with_acceptor}
-use Rattle.gz_ledger.specs.Histories.{IsIn, Seen, Write, VotesFor, IsProposed, IsPromised}
+use Rattle.gz_ledger.specs.Histories.{IsIn, RowSeen, Write, VotesFor, IsProposed, IsPromised}
 use Rattle.gz_ledger.specs.Guards.{May}
-use Rattle.gz_ledger.specs.Ledgers.{Ledger, new_ledger, Move, Shows, Sends, Takes, moved, row_of, CanSend, Can, after_moves, AreMoves, stands}
+use Rattle.gz_ledger.specs.Ledgers.{Ledger, new_ledger, Move, Shows, Sends, Takes, moved, row_of, CanSend, Can, after_moves, AreMoves, standing_votes}
 use Rattle.gz_ledger.specs.Agreements.{HasQuorums}
 use Rattle.gz_ledger.proofs.Follows.{Follows, follows_refl, follows_trans, IsAcceptor, makes_acceptor, with_same, with_other, trim_cases, trimmed_gone, trimmed_decided, trimmed_other}
 use Rattle.gz_ledger.proofs.Shown.{Includes}
@@ -31,11 +31,11 @@ pub sound_new : (cfg : Config) → HasQuorums cfg → IsSound cfg new_ledger
 sound_new cfg q = record {
   quorums = q;
   chain = tt;
-  toward = λ (e : Seen) (i : IsIn e []). absurd i;
+  toward = λ (e : RowSeen) (i : IsIn e []). absurd i;
   told_acceptor = λ (s : ℕ). new_is_acceptor;
-  seen_acceptor = λ (e : Seen) (i : IsIn e []). absurd i;
+  seen_acceptor = λ (e : RowSeen) (i : IsIn e []). absurd i;
   told_ok = λ (s v : ℕ). inl refl;
-  seen_ok = λ (e : Seen) (v : ℕ) (i : IsIn e []). absurd i;
+  seen_ok = λ (e : RowSeen) (v : ℕ) (i : IsIn e []). absurd i;
   sent_shown = λ (w : Write) (i : IsIn w []). absurd i;
   sent_makes = λ (w : Write) (i : IsIn w []). absurd i;
   sent_ok = λ (w : Write) (i : IsIn w []). absurd i;
@@ -44,36 +44,36 @@ sound_new cfg q = record {
   apart = λ (u v : ℕ) (x : Name) (p : IsProposed [] u x). absurd p.found;
 }
 
-apart_more : (cfg : Config) (seen more : List Seen) (u v : ℕ) (x : Name) → Includes seen more → (u ≡ v) ⊎ (IsOtherChosen cfg seen u x ⊎ IsOtherChosen cfg seen v x) → (u ≡ v) ⊎ (IsOtherChosen cfg more u x ⊎ IsOtherChosen cfg more v x)
+apart_more : (cfg : Config) (seen more : List RowSeen) (u v : ℕ) (x : Name) → Includes seen more → (u ≡ v) ⊎ (IsOtherChosen cfg seen u x ⊎ IsOtherChosen cfg seen v x) → (u ≡ v) ⊎ (IsOtherChosen cfg more u x ⊎ IsOtherChosen cfg more v x)
 apart_more cfg seen more u v x i (inl e) = inl e
 apart_more cfg seen more u v x i (inr (inl h)) = inr (inl (other_more cfg seen more u x i h))
 apart_more cfg seen more u v x i (inr (inr h)) = inr (inr (other_more cfg seen more v x i h))
 
-shown_toward : (cfg : Config) (l : Ledger) (s : ℕ) → IsSound cfg l → (e : Seen) → IsIn e (row_of l s ∷ l.seen) → Follows e.row (l.told e.site)
-shown_toward cfg l s so e (inl p) = subst (λ (f : Seen). Follows f.row (l.told f.site)) (sym p) (follows_refl (l.told s))
+shown_toward : (cfg : Config) (l : Ledger) (s : ℕ) → IsSound cfg l → (e : RowSeen) → IsIn e (row_of l s ∷ l.seen) → Follows e.row (l.told e.site)
+shown_toward cfg l s so e (inl p) = subst (λ (f : RowSeen). Follows f.row (l.told f.site)) (sym p) (follows_refl (l.told s))
 shown_toward cfg l s so e (inr i) = so.toward e i
 
-shown_acceptor : (cfg : Config) (l : Ledger) (s : ℕ) → IsSound cfg l → (e : Seen) → IsIn e (row_of l s ∷ l.seen) → IsAcceptor e.row
-shown_acceptor cfg l s so e (inl p) = subst (λ (f : Seen). IsAcceptor f.row) (sym p) (so.told_acceptor s)
+shown_acceptor : (cfg : Config) (l : Ledger) (s : ℕ) → IsSound cfg l → (e : RowSeen) → IsIn e (row_of l s ∷ l.seen) → IsAcceptor e.row
+shown_acceptor cfg l s so e (inl p) = subst (λ (f : RowSeen). IsAcceptor f.row) (sym p) (so.told_acceptor s)
 shown_acceptor cfg l s so e (inr i) = so.seen_acceptor e i
 
-shown_ok : (cfg : Config) (l : Ledger) (s : ℕ) → IsSound cfg l → (e : Seen) (v : ℕ) → IsIn e (row_of l s ∷ l.seen) → SlotOk cfg l.seen l.sent v (e.row v)
-shown_ok cfg l s so e v (inl p) = subst (λ (f : Seen). SlotOk cfg l.seen l.sent v (f.row v)) (sym p) (so.told_ok s v)
+shown_ok : (cfg : Config) (l : Ledger) (s : ℕ) → IsSound cfg l → (e : RowSeen) (v : ℕ) → IsIn e (row_of l s ∷ l.seen) → SlotOk cfg l.seen l.sent v (e.row v)
+shown_ok cfg l s so e v (inl p) = subst (λ (f : RowSeen). SlotOk cfg l.seen l.sent v (f.row v)) (sym p) (so.told_ok s v)
 shown_ok cfg l s so e v (inr i) = so.seen_ok e v i
 
 -- a row that is shown
 pub sound_show : (cfg : Config) (l : Ledger) (s : ℕ) → IsSound cfg l → IsSound cfg (moved l (Shows s))
 sound_show cfg l s so =
-    let more : Includes l.seen (row_of l s ∷ l.seen) = λ (e : Seen) (i : IsIn e l.seen). inr i in
+    let more : Includes l.seen (row_of l s ∷ l.seen) = λ (e : RowSeen) (i : IsIn e l.seen). inr i in
     let same : Includes l.sent l.sent = λ (w : Write) (i : IsIn w l.sent). i in
     record {
       quorums = so.quorums;
-      chain = (λ (f : Seen) (i : IsIn f l.seen) (p : f.site ≡ s). toward_at cfg l so f s i p, so.chain);
+      chain = (λ (f : RowSeen) (i : IsIn f l.seen) (p : f.site ≡ s). toward_at cfg l so f s i p, so.chain);
       toward = shown_toward cfg l s so;
       told_acceptor = so.told_acceptor;
       seen_acceptor = shown_acceptor cfg l s so;
       told_ok = λ (t v : ℕ). slot_more cfg l.seen (row_of l s ∷ l.seen) l.sent l.sent v (l.told t v) more same (so.told_ok t v);
-      seen_ok = λ (e : Seen) (v : ℕ) (i : IsIn e (row_of l s ∷ l.seen)). slot_more cfg l.seen (row_of l s ∷ l.seen) l.sent l.sent v (e.row v) more same (shown_ok cfg l s so e v i);
+      seen_ok = λ (e : RowSeen) (v : ℕ) (i : IsIn e (row_of l s ∷ l.seen)). slot_more cfg l.seen (row_of l s ∷ l.seen) l.sent l.sent v (e.row v) more same (shown_ok cfg l s so e v i);
       sent_shown = λ (w : Write) (i : IsIn w l.sent).
           let f = so.sent_shown w i in
           (f.0, inr f.1, f.2, f.3);
@@ -84,7 +84,7 @@ sound_show cfg l s so =
       apart = λ (u v : ℕ) (x : Name) (p : IsProposed l.sent u x) (q : IsProposed l.sent v x). apart_more cfg l.seen (row_of l s ∷ l.seen) u v x more (so.apart u v x p q);
     }
 
-sent_was_shown : (cfg : Config) (l : Ledger) (n : Write) → IsSound cfg l → CanSend cfg l n → (w : Write) → IsIn w (n ∷ l.sent) → (e : Seen) × IsIn e l.seen × (e.site ≡ w.site) × (e.row ≡ w.before)
+sent_was_shown : (cfg : Config) (l : Ledger) (n : Write) → IsSound cfg l → CanSend cfg l n → (w : Write) → IsIn w (n ∷ l.sent) → (e : RowSeen) × IsIn e l.seen × (e.site ≡ w.site) × (e.row ≡ w.before)
 sent_was_shown cfg l n so can w (inl p) =
     (record { site = n.site; row = n.before }, can.shown, ap (λ (x : Write). x.site) (sym p), ap (λ (x : Write). x.before) (sym p))
 sent_was_shown cfg l n so can w (inr i) = so.sent_shown w i
@@ -96,7 +96,7 @@ sent_is_made cfg l n so can w (inr i) = so.sent_makes w i
 sent_is_ok : (cfg : Config) (l : Ledger) (n : Write) → IsSound cfg l → CanSend cfg l n → (w : Write) → IsIn w (n ∷ l.sent) → ActOk cfg (moved l (Sends n)) w.call w.act
 sent_is_ok cfg l n so can w (inl p) = subst (λ (x : Write). ActOk cfg (moved l (Sends n)) x.call x.act) (sym p) (may_ok cfg l n n.act so refl can.may)
 sent_is_ok cfg l n so can w (inr i) =
-    act_more cfg l (moved l (Sends n)) w.call w.act (λ (e : Seen) (j : IsIn e l.seen). j) (λ (x : Write) (j : IsIn x l.sent). inr j) (λ (v : ℕ) (b : BallotAt) (x : Name) (s : ℕ) (h : stands l v b x s ≡ true). h) (so.sent_ok w i)
+    act_more cfg l (moved l (Sends n)) w.call w.act (λ (e : RowSeen) (j : IsIn e l.seen). j) (λ (x : Write) (j : IsIn x l.sent). inr j) (λ (v : ℕ) (b : BallotAt) (x : Name) (s : ℕ) (h : standing_votes l v b x s ≡ true). h) (so.sent_ok w i)
 
 -- the promises of a ballot are of one call, at one version
 pub new_owned : (cfg : Config) (l : Ledger) (n w : Write) (u v : ℕ) (b : BallotAt) → May cfg l.seen l.sent n.call n.act → n.act ≡ Promises u b → IsIn w l.sent → w.act ≡ Promises v b → (w.call ≡ n.call) × (v ≡ u)
@@ -150,7 +150,7 @@ votes_at_one (VotesClassic w b y) u v x h k = sym h.0 ∙ k.0
 votes_at_one (Decides w y) u v x h k = absurd h
 votes_at_one (Trims to y) u v x h k = absurd h
 
-swapped : (cfg : Config) (seen : List Seen) (u v : ℕ) (x : Name) → (u ≡ v) ⊎ (IsOtherChosen cfg seen u x ⊎ IsOtherChosen cfg seen v x) → (v ≡ u) ⊎ (IsOtherChosen cfg seen v x ⊎ IsOtherChosen cfg seen u x)
+swapped : (cfg : Config) (seen : List RowSeen) (u v : ℕ) (x : Name) → (u ≡ v) ⊎ (IsOtherChosen cfg seen u x ⊎ IsOtherChosen cfg seen v x) → (v ≡ u) ⊎ (IsOtherChosen cfg seen v x ⊎ IsOtherChosen cfg seen u x)
 swapped cfg seen u v x (inl e) = inl (sym e)
 swapped cfg seen u v x (inr (inl h)) = inr (inr h)
 swapped cfg seen u v x (inr (inr h)) = inr (inl h)
@@ -169,7 +169,7 @@ sent_apart cfg l n so can u v x p q (inr i) a h (inr j) b k =
 -- a write that is sent
 pub sound_send : (cfg : Config) (l : Ledger) (n : Write) → IsSound cfg l → CanSend cfg l n → IsSound cfg (moved l (Sends n))
 sound_send cfg l n so can =
-    let same : Includes l.seen l.seen = λ (e : Seen) (i : IsIn e l.seen). i in
+    let same : Includes l.seen l.seen = λ (e : RowSeen) (i : IsIn e l.seen). i in
     let more : Includes l.sent (n ∷ l.sent) = λ (w : Write) (i : IsIn w l.sent). inr i in
     record {
       quorums = so.quorums;
@@ -178,7 +178,7 @@ sound_send cfg l n so can =
       told_acceptor = so.told_acceptor;
       seen_acceptor = so.seen_acceptor;
       told_ok = λ (s v : ℕ). slot_more cfg l.seen l.seen l.sent (n ∷ l.sent) v (l.told s v) same more (so.told_ok s v);
-      seen_ok = λ (e : Seen) (v : ℕ) (i : IsIn e l.seen). slot_more cfg l.seen l.seen l.sent (n ∷ l.sent) v (e.row v) same more (so.seen_ok e v i);
+      seen_ok = λ (e : RowSeen) (v : ℕ) (i : IsIn e l.seen). slot_more cfg l.seen l.seen l.sent (n ∷ l.sent) v (e.row v) same more (so.seen_ok e v i);
       sent_shown = sent_was_shown cfg l n so can;
       sent_makes = sent_is_made cfg l n so can;
       sent_ok = sent_is_ok cfg l n so can;
@@ -204,7 +204,7 @@ each_trimmed P r to x all gone new v =
       | inr (inr l) ↦ subst (λ (s : Slot). P v s) (sym (trimmed_other r to v x l)) (all v)
     ]
 
-promised_slot : (cfg : Config) (seen : List Seen) (sent : List Write) (v : ℕ) (p b : BallotAt) (vote : Option (BallotAt × Name)) → IsBuilt cfg seen v → SlotOk cfg seen sent v (OpenAt p vote) → SlotOk cfg seen sent v (OpenAt b vote)
+promised_slot : (cfg : Config) (seen : List RowSeen) (sent : List Write) (v : ℕ) (p b : BallotAt) (vote : Option (BallotAt × Name)) → IsBuilt cfg seen v → SlotOk cfg seen sent v (OpenAt p vote) → SlotOk cfg seen sent v (OpenAt b vote)
 promised_slot cfg seen sent v p b None built h = inr built
 promised_slot cfg seen sent v p b (Some u) built h = h
 
@@ -249,7 +249,7 @@ each_told l w P new all s =
       | inr ne ↦ subst P (sym (acceptor_other l.told w.site s w.after ne)) (all s)
     ]
 
-take_toward : (cfg : Config) (l : Ledger) (w : Write) → IsSound cfg l → IsIn w l.sent → l.told w.site ≡ w.before → (e : Seen) → IsIn e l.seen → Follows e.row (with_acceptor l.told w.site w.after e.site)
+take_toward : (cfg : Config) (l : Ledger) (w : Write) → IsSound cfg l → IsIn w l.sent → l.told w.site ≡ w.before → (e : RowSeen) → IsIn e l.seen → Follows e.row (with_acceptor l.told w.site w.after e.site)
 take_toward cfg l w so i is e j =
     elim (cases_eq e.site w.site) [
       | inl p ↦ subst (λ (r : Acceptor). Follows e.row r) (sym (acceptor_same l.told w.site e.site w.after p)) (follows_trans e.row (l.told w.site) w.after (toward_at cfg l so e w.site j p) (take_follows cfg l w so i is))
@@ -260,7 +260,7 @@ take_toward cfg l w so i is e j =
 pub sound_take : (cfg : Config) (l : Ledger) (w : Write) → IsSound cfg l → IsIn w l.sent → l.told w.site ≡ w.before → IsSound cfg (moved l (Takes w))
 sound_take cfg l w so i is =
     let makes : Makes w.act (l.told w.site) w.after = subst (λ (r : Acceptor). Makes w.act r w.after) (sym is) (so.sent_makes w i) in
-    let same : Includes l.seen l.seen = λ (e : Seen) (j : IsIn e l.seen). j in
+    let same : Includes l.seen l.seen = λ (e : RowSeen) (j : IsIn e l.seen). j in
     let sent : Includes l.sent l.sent = λ (x : Write) (j : IsIn x l.sent). j in
     record {
       quorums = so.quorums;

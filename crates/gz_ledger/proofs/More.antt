@@ -8,27 +8,27 @@ use Rattle.gz_config.specs.declared.Config.{Config}
 use Rattle.gz_pick.specs.declared.heard.Heard.{Heard}
 use Rattle.gz_pick.specs.declared.heard.Pick.TheVariants.{Free}
 use Rattle.gz_pick.specs.Choices.{pick_of}
-use Rattle.gz_ledger.specs.Histories.{Seen, Write, IsShown}
-use Rattle.gz_ledger.specs.Guards.{IsClear, IsNext, IsGrounded, IsPromiseHeard, May}
+use Rattle.gz_ledger.specs.Histories.{RowSeen, Write, IsShownByRows}
+use Rattle.gz_ledger.specs.Guards.{IsClearByRows, IsNextByRows, IsGroundedByRows, IsPromiseSeen, May}
 use Rattle.gz_ledger.proofs.Shown.{Includes, shown_more, voted_more}
 
-clear_more : (cfg : Config) (seen more : List Seen) (sent : List Write) (call : Name) (v : ℕ) → Includes seen more → IsClear cfg seen sent call v → IsClear cfg more sent call v
+clear_more : (cfg : Config) (seen more : List RowSeen) (sent : List Write) (call : Name) (v : ℕ) → Includes seen more → IsClearByRows cfg seen sent call v → IsClearByRows cfg more sent call v
 clear_more cfg seen more sent call v i clear w u j own votes ne =
-    let o : (y : Name) × (y ≡ call → ⊥) × IsShown cfg seen u y = clear w u j own votes ne in
+    let o : (y : Name) × (y ≡ call → ⊥) × IsShownByRows cfg seen u y = clear w u j own votes ne in
     (o.0, o.1, shown_more cfg seen more u o.0 i o.2)
 
-next_more : (cfg : Config) (seen more : List Seen) (v : ℕ) → Includes seen more → IsNext cfg seen v → IsNext cfg more v
+next_more : (cfg : Config) (seen more : List RowSeen) (v : ℕ) → Includes seen more → IsNextByRows cfg seen v → IsNextByRows cfg more v
 next_more cfg seen more v i (inl e) = inl e
 next_more cfg seen more v i (inr (u, e, y, h)) = inr (u, e, y, shown_more cfg seen more u y i h)
 
-grounded_more : (cfg : Config) (seen more : List Seen) (v : ℕ) → Includes seen more → IsGrounded cfg seen v → IsGrounded cfg more v
+grounded_more : (cfg : Config) (seen more : List RowSeen) (v : ℕ) → Includes seen more → IsGroundedByRows cfg seen v → IsGroundedByRows cfg more v
 grounded_more cfg seen more v i (inl h) = inl (next_more cfg seen more v i h)
 grounded_more cfg seen more v i (inr (e, u, j, l, h)) = inr (e, u, i e j, l, h)
 
-promise_more : (seen more : List Seen) (v : ℕ) (b : BallotAt) (h : Heard) → Includes seen more → IsPromiseHeard seen v b h → IsPromiseHeard more v b h
+promise_more : (seen more : List RowSeen) (v : ℕ) (b : BallotAt) (h : Heard) → Includes seen more → IsPromiseSeen seen v b h → IsPromiseSeen more v b h
 promise_more seen more v b h i p = record { entry = p.entry; found = i p.entry p.found; site = p.site; row = p.row; none = p.none }
 
-pub may_more : (cfg : Config) (heard seen : List Seen) (sent : List Write) (call : Name) (act : Act) → Includes heard seen → May cfg heard sent call act → May cfg seen sent call act
+pub may_more : (cfg : Config) (heard seen : List RowSeen) (sent : List Write) (call : Name) (act : Act) → Includes heard seen → May cfg heard sent call act → May cfg seen sent call act
 may_more cfg heard seen sent call (VotesFast v x) i m =
     record { own = m.own; next = next_more cfg heard seen v i m.next; clear = clear_more cfg heard seen sent call v i m.clear }
 may_more cfg heard seen sent call (Promises v b) i m =

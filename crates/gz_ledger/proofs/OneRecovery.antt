@@ -11,10 +11,10 @@ use Rattle.gz_core.proofs.Counting.{count_within}
 use Rattle.gz_pick.specs.declared.heard.Heard.{Heard}
 use Rattle.gz_pick.specs.declared.heard.Pick.TheVariants.{Free}
 use Rattle.gz_pick.specs.Choices.{pick_of}
-use Rattle.gz_ledger.specs.Histories.{IsIn, Seen, Write, cast, IsShown, VotesFor, IsPromised}
-use Rattle.gz_ledger.specs.Guards.{IsClear, IsPromiseHeard, MayVoteFast, MayPromise, MayVoteClassic}
-use Rattle.gz_ledger.specs.Deeds.{Deed, Reads, Begins, Written, CanBegin, CanWrite, after_deeds, AreDeeds, seen_after}
-use Rattle.gz_ledger.specs.Runs.{three_sites, first_ballot, first_vote, first_promise, ballot_vote, ballot_decision, made_by, one_recovery}
+use Rattle.gz_ledger.specs.Histories.{IsIn, RowSeen, Write, cast, IsShownByRows, VotesFor, IsPromised}
+use Rattle.gz_ledger.specs.Guards.{IsClearByRows, IsPromiseSeen, MayVoteFast, MayPromiseByRows, MayVoteClassic}
+use Rattle.gz_ledger.specs.Transitions.{Transition, Reads, Begins, Written, CanBeginWrite, CanWrite, after_transitions, AreTransitions, seen_after}
+use Rattle.gz_ledger.specs.Runs.{three_sites, first_ballot, first_vote, first_promise, ballot_vote, ballot_decision, row_written, one_recovery}
 use Rattle.gz_ledger.proofs.Shown.{Includes, cast_from}
 
 -- what each of these writes has: a vote at version 1 alone, and what it promises or votes for in the ballot
@@ -61,13 +61,13 @@ vote_early y s = record {
     same_value z e = cc
 
 -- no vote stands in the way of one at version 1
-clear_early : (seen : List Seen) (y : Name) (sent : List Write) → AreEarly y sent → IsClear three_sites seen sent y 1
+clear_early : (seen : List RowSeen) (y : Name) (sent : List Write) → AreEarly y sent → IsClearByRows three_sites seen sent y 1
 clear_early seen y sent all w u i own votes ne = absurd (ne ((all w i).votes u votes))
 
 may_first : (x : Name) → MayVoteFast three_sites [] [] x 1 x
 may_first x = record { own = refl; next = inl refl; clear = clear_early [] x [] (none_early x) }
 
-may_promise : (y : Name) (sent : List Write) → AreEarly y sent → MayPromise three_sites [] sent y 1 first_ballot
+may_promise : (y : Name) (sent : List Write) → AreEarly y sent → MayPromiseByRows three_sites [] sent y 1 first_ballot
 may_promise y sent all = record {
   positive = omega arith;
   classic = refl;
@@ -79,30 +79,30 @@ may_promise y sent all = record {
 abbrev two_heard : List Heard
 two_heard = record { site = 1; vote = None } ∷ record { site = 2; vote = None } ∷ []
 
-two_promises : (y : Name) (at : ℕ) (h : Heard) → slice_get two_heard at ≡ Some h → IsPromiseHeard (made_by (first_promise y 1) ∷ made_by (first_promise y 2) ∷ []) 1 first_ballot h
+two_promises : (y : Name) (at : ℕ) (h : Heard) → slice_get two_heard at ≡ Some h → IsPromiseSeen (row_written (first_promise y 1) ∷ row_written (first_promise y 2) ∷ []) 1 first_ballot h
 two_promises y zero h e =
-    subst (λ (g : Heard). IsPromiseHeard (made_by (first_promise y 1) ∷ made_by (first_promise y 2) ∷ []) 1 first_ballot g) (same_Some (record { site = 1; vote = None }) h e)
-    (record { entry = made_by (first_promise y 1); found = inl refl; site = refl; row = refl; none = λ (bad : ⊥). bad })
+    subst (λ (g : Heard). IsPromiseSeen (row_written (first_promise y 1) ∷ row_written (first_promise y 2) ∷ []) 1 first_ballot g) (same_Some (record { site = 1; vote = None }) h e)
+    (record { entry = row_written (first_promise y 1); found = inl refl; site = refl; row = refl; none = λ (bad : ⊥). bad })
 two_promises y (suc zero) h e =
-    subst (λ (g : Heard). IsPromiseHeard (made_by (first_promise y 1) ∷ made_by (first_promise y 2) ∷ []) 1 first_ballot g) (same_Some (record { site = 2; vote = None }) h e)
-    (record { entry = made_by (first_promise y 2); found = inr (inl refl); site = refl; row = refl; none = λ (bad : ⊥). bad })
+    subst (λ (g : Heard). IsPromiseSeen (row_written (first_promise y 1) ∷ row_written (first_promise y 2) ∷ []) 1 first_ballot g) (same_Some (record { site = 2; vote = None }) h e)
+    (record { entry = row_written (first_promise y 2); found = inr (inl refl); site = refl; row = refl; none = λ (bad : ⊥). bad })
 two_promises y (suc (suc at)) h e = absurd (none-some h e)
 
-may_vote : (y : Name) (sent : List Write) → AreEarly y sent → IsPromised sent y 1 first_ballot → MayVoteClassic three_sites (made_by (first_promise y 1) ∷ made_by (first_promise y 2) ∷ []) sent y 1 first_ballot y
+may_vote : (y : Name) (sent : List Write) → AreEarly y sent → IsPromised sent y 1 first_ballot → MayVoteClassic three_sites (row_written (first_promise y 1) ∷ row_written (first_promise y 2) ∷ []) sent y 1 first_ballot y
 may_vote y sent all promised = record {
   promised = promised;
   heard = two_heard;
   quorum = record { sites = (omega arith, (refl, (omega arith, (refl, tt)))); enough = omega arith; promises = two_promises y };
   allowed = inl refl;
-  source = λ (free : pick_of 3 3 two_heard ≡ Free). inl (refl, clear_early (made_by (first_promise y 1) ∷ made_by (first_promise y 2) ∷ []) y sent all);
+  source = λ (free : pick_of 3 3 two_heard ≡ Free). inl (refl, clear_early (row_written (first_promise y 1) ∷ row_written (first_promise y 2) ∷ []) y sent all);
   one = λ (w : Write) (z : Name) (i : IsIn w sent) (own : w.call ≡ y) (e : w.act ≡ VotesClassic 1 first_ballot z). (all w i).value z e;
 }
 
 -- two votes in the ballot choose
-two_choose : (y : Name) (seen : List Seen) → IsIn (made_by (ballot_vote y 1)) seen → IsIn (made_by (ballot_vote y 2)) seen → IsShown three_sites seen 1 y
+two_choose : (y : Name) (seen : List RowSeen) → IsIn (row_written (ballot_vote y 1)) seen → IsIn (row_written (ballot_vote y 2)) seen → IsShownByRows three_sites seen 1 y
 two_choose y seen i j =
-    let first : cast seen 1 first_ballot y 1 ≡ true = cast_from seen 1 first_ballot y (made_by (ballot_vote y 1)) i (first_ballot, refl) in
-    let second : cast seen 1 first_ballot y 2 ≡ true = cast_from seen 1 first_ballot y (made_by (ballot_vote y 2)) j (first_ballot, refl) in
+    let first : cast seen 1 first_ballot y 1 ≡ true = cast_from seen 1 first_ballot y (row_written (ballot_vote y 1)) i (first_ballot, refl) in
+    let second : cast seen 1 first_ballot y 2 ≡ true = cast_from seen 1 first_ballot y (row_written (ballot_vote y 2)) j (first_ballot, refl) in
     let most : 2 ≤ count_sites 3 (cast seen 1 first_ballot y) = count_within 3 (λ s. nat_lt 0 s) (cast seen 1 first_ballot y) (each (cast seen 1 first_ballot y) first second) in
     inl (first_ballot, most)
   where
@@ -112,47 +112,47 @@ two_choose y seen i j =
     each p b c (suc (suc zero)) l t = c
     each p b c (suc (suc (suc s))) l t = absurd (omega arith)
 
--- the deeds, as far as the first vote; as far as the promises; as far as the votes in the ballot
-abbrev start : Name → List Deed
+-- the transitions, as far as the first vote; as far as the promises; as far as the votes in the ballot
+abbrev start : Name → List Transition
 start x = Written (first_vote x 0) 1 ∷ Begins [] (first_vote x 0) ∷ Reads 2 ∷ Reads 1 ∷ Reads 0 ∷ []
 
-abbrev promised : Name → Name → List Deed
+abbrev promised : Name → Name → List Transition
 promised x y = Written (first_promise y 2) 1 ∷ Written (first_promise y 1) 1 ∷ Begins [] (first_promise y 2) ∷ Begins [] (first_promise y 1) ∷ start x
 
-abbrev heard_rows : Name → List Seen
-heard_rows y = made_by (first_promise y 1) ∷ made_by (first_promise y 2) ∷ []
+abbrev heard_rows : Name → List RowSeen
+heard_rows y = row_written (first_promise y 1) ∷ row_written (first_promise y 2) ∷ []
 
-abbrev balloted : Name → Name → List Deed
+abbrev balloted : Name → Name → List Transition
 balloted x y = Written (ballot_vote y 2) 2 ∷ Written (ballot_vote y 1) 2 ∷ Begins (heard_rows y) (ballot_vote y 2) ∷ Begins (heard_rows y) (ballot_vote y 1) ∷ promised x y
 
-abbrev voted_rows : Name → List Seen
-voted_rows y = made_by (ballot_vote y 1) ∷ made_by (ballot_vote y 2) ∷ []
+abbrev voted_rows : Name → List RowSeen
+voted_rows y = row_written (ballot_vote y 1) ∷ row_written (ballot_vote y 2) ∷ []
 
-start_runs : (x : Name) → AreDeeds three_sites (λ s. 0) (start x)
+start_runs : (x : Name) → AreTransitions three_sites (λ s. 0) (start x)
 start_runs x =
-    let began : CanBegin three_sites (after_deeds (λ s. 0) (Reads 2 ∷ Reads 1 ∷ Reads 0 ∷ [])) [] (first_vote x 0) =
-    record { known = λ (e : Seen) (i : IsIn e []). absurd i; shown = inr (inr (inl refl)); makes = (refl, refl); may = may_first x } in
-    let wrote : CanWrite (after_deeds (λ s. 0) (Begins [] (first_vote x 0) ∷ Reads 2 ∷ Reads 1 ∷ Reads 0 ∷ [])) (first_vote x 0) 1 =
+    let began : CanBeginWrite three_sites (after_transitions (λ s. 0) (Reads 2 ∷ Reads 1 ∷ Reads 0 ∷ [])) [] (first_vote x 0) =
+    record { known = λ (e : RowSeen) (i : IsIn e []). absurd i; shown = inr (inr (inl refl)); makes = (refl, refl); may = may_first x } in
+    let wrote : CanWrite (after_transitions (λ s. 0) (Begins [] (first_vote x 0) ∷ Reads 2 ∷ Reads 1 ∷ Reads 0 ∷ [])) (first_vote x 0) 1 =
     record { asked = inl refl; stands = refl; new = omega arith } in
     (((((tt, tt), tt), tt), began), wrote)
 
-promised_runs : (x y : Name) → AreDeeds three_sites (λ s. 0) (promised x y)
+promised_runs : (x y : Name) → AreTransitions three_sites (λ s. 0) (promised x y)
 promised_runs x y =
     let early : AreEarly y ((first_vote x 0).write ∷ []) = more_early y (first_vote x 0).write [] (first_early x y 0) (none_early y) in
     let later : AreEarly y ((first_promise y 1).write ∷ (first_vote x 0).write ∷ []) = more_early y (first_promise y 1).write ((first_vote x 0).write ∷ []) (promise_early y 1) early in
-    let one : CanBegin three_sites (after_deeds (λ s. 0) (start x)) [] (first_promise y 1) =
-    record { known = λ (e : Seen) (i : IsIn e []). absurd i; shown = inr (inr (inl refl)); makes = (fast, (None, (refl, (refl, refl)))); may = may_promise y ((first_vote x 0).write ∷ []) early } in
-    let two : CanBegin three_sites (after_deeds (λ s. 0) (Begins [] (first_promise y 1) ∷ start x)) [] (first_promise y 2) =
+    let one : CanBeginWrite three_sites (after_transitions (λ s. 0) (start x)) [] (first_promise y 1) =
+    record { known = λ (e : RowSeen) (i : IsIn e []). absurd i; shown = inr (inr (inl refl)); makes = (fast, (None, (refl, (refl, refl)))); may = may_promise y ((first_vote x 0).write ∷ []) early } in
+    let two : CanBeginWrite three_sites (after_transitions (λ s. 0) (Begins [] (first_promise y 1) ∷ start x)) [] (first_promise y 2) =
     record {
-      known = λ (e : Seen) (i : IsIn e []). absurd i;
+      known = λ (e : RowSeen) (i : IsIn e []). absurd i;
       shown = inr (inl refl);
       makes = (fast, (None, (refl, (refl, refl))));
       may = may_promise y ((first_promise y 1).write ∷ (first_vote x 0).write ∷ []) later;
     }
     in
-    let wrote : CanWrite (after_deeds (λ s. 0) (Begins [] (first_promise y 2) ∷ Begins [] (first_promise y 1) ∷ start x)) (first_promise y 1) 1 =
+    let wrote : CanWrite (after_transitions (λ s. 0) (Begins [] (first_promise y 2) ∷ Begins [] (first_promise y 1) ∷ start x)) (first_promise y 1) 1 =
     record { asked = inr (inl refl); stands = refl; new = omega arith } in
-    let again : CanWrite (after_deeds (λ s. 0) (Written (first_promise y 1) 1 ∷ Begins [] (first_promise y 2) ∷ Begins [] (first_promise y 1) ∷ start x)) (first_promise y 2) 1 =
+    let again : CanWrite (after_transitions (λ s. 0) (Written (first_promise y 1) 1 ∷ Begins [] (first_promise y 2) ∷ Begins [] (first_promise y 1) ∷ start x)) (first_promise y 2) 1 =
     record { asked = inl refl; stands = refl; new = omega arith } in
     ((((start_runs x, one), two), wrote), again)
 
@@ -161,16 +161,16 @@ heard_known x y e (inl p) = inr (inl p)
 heard_known x y e (inr (inl p)) = inl p
 heard_known x y e (inr (inr bad)) = absurd bad
 
-balloted_runs : (x y : Name) → AreDeeds three_sites (λ s. 0) (balloted x y)
+balloted_runs : (x y : Name) → AreTransitions three_sites (λ s. 0) (balloted x y)
 balloted_runs x y =
     let sent : List Write = (first_promise y 2).write ∷ (first_promise y 1).write ∷ (first_vote x 0).write ∷ [] in
     let early : AreEarly y sent = more_early y (first_promise y 2).write ((first_promise y 1).write ∷ (first_vote x 0).write ∷ []) (promise_early y 2) (more_early y (first_promise y 1).write ((first_vote x 0).write ∷ []) (promise_early y 1) (more_early y (first_vote x 0).write [] (first_early x y 0) (none_early y))) in
     let later : AreEarly y ((ballot_vote y 1).write ∷ sent) = more_early y (ballot_vote y 1).write sent (vote_early y 1) early in
     let own : IsPromised sent y 1 first_ballot = record { write = (first_promise y 2).write; found = inl refl; same = refl; promises = refl } in
     let still : IsPromised ((ballot_vote y 1).write ∷ sent) y 1 first_ballot = record { write = (first_promise y 2).write; found = inr (inl refl); same = refl; promises = refl } in
-    let one : CanBegin three_sites (after_deeds (λ s. 0) (promised x y)) (heard_rows y) (ballot_vote y 1) =
+    let one : CanBeginWrite three_sites (after_transitions (λ s. 0) (promised x y)) (heard_rows y) (ballot_vote y 1) =
     record { known = heard_known x y; shown = inr (inl refl); makes = (first_ballot, (None, (refl, (refl, (λ (bad : ⊥). bad, refl))))); may = may_vote y sent early own } in
-    let two : CanBegin three_sites (after_deeds (λ s. 0) (Begins (heard_rows y) (ballot_vote y 1) ∷ promised x y)) (heard_rows y) (ballot_vote y 2) =
+    let two : CanBeginWrite three_sites (after_transitions (λ s. 0) (Begins (heard_rows y) (ballot_vote y 1) ∷ promised x y)) (heard_rows y) (ballot_vote y 2) =
     record {
       known = heard_known x y;
       shown = inl refl;
@@ -178,9 +178,9 @@ balloted_runs x y =
       may = may_vote y ((ballot_vote y 1).write ∷ sent) later still;
     }
     in
-    let wrote : CanWrite (after_deeds (λ s. 0) (Begins (heard_rows y) (ballot_vote y 2) ∷ Begins (heard_rows y) (ballot_vote y 1) ∷ promised x y)) (ballot_vote y 1) 2 =
+    let wrote : CanWrite (after_transitions (λ s. 0) (Begins (heard_rows y) (ballot_vote y 2) ∷ Begins (heard_rows y) (ballot_vote y 1) ∷ promised x y)) (ballot_vote y 1) 2 =
     record { asked = inr (inl refl); stands = refl; new = omega arith } in
-    let again : CanWrite (after_deeds (λ s. 0) (Written (ballot_vote y 1) 2 ∷ Begins (heard_rows y) (ballot_vote y 2) ∷ Begins (heard_rows y) (ballot_vote y 1) ∷ promised x y)) (ballot_vote y 2) 2 =
+    let again : CanWrite (after_transitions (λ s. 0) (Written (ballot_vote y 1) 2 ∷ Begins (heard_rows y) (ballot_vote y 2) ∷ Begins (heard_rows y) (ballot_vote y 1) ∷ promised x y)) (ballot_vote y 2) 2 =
     record { asked = inl refl; stands = refl; new = omega arith } in
     ((((promised_runs x y, one), two), wrote), again)
 
@@ -190,9 +190,9 @@ voted_known x y e (inr (inl p)) = inl p
 voted_known x y e (inr (inr bad)) = absurd bad
 
 -- they may do so, and the value of the second put is shown
-pub one_recovery_runs : (x y : Name) → AreDeeds three_sites (λ s. 0) (one_recovery x y) × IsShown three_sites (seen_after (λ s. 0) (one_recovery x y)) 1 y
+pub one_recovery_runs : (x y : Name) → AreTransitions three_sites (λ s. 0) (one_recovery x y) × IsShownByRows three_sites (seen_after (λ s. 0) (one_recovery x y)) 1 y
 one_recovery_runs x y =
-    let decides : CanBegin three_sites (after_deeds (λ s. 0) (balloted x y)) (voted_rows y) (ballot_decision y 1) =
+    let decides : CanBeginWrite three_sites (after_transitions (λ s. 0) (balloted x y)) (voted_rows y) (ballot_decision y 1) =
     record {
       known = voted_known x y;
       shown = inr (inl refl);
@@ -200,7 +200,7 @@ one_recovery_runs x y =
       may = two_choose y (voted_rows y) (inl refl) (inr (inl refl));
     }
     in
-    let wrote : CanWrite (after_deeds (λ s. 0) (Begins (voted_rows y) (ballot_decision y 1) ∷ balloted x y)) (ballot_decision y 1) 3 =
+    let wrote : CanWrite (after_transitions (λ s. 0) (Begins (voted_rows y) (ballot_decision y 1) ∷ balloted x y)) (ballot_decision y 1) 3 =
     record { asked = inl refl; stands = refl; new = omega arith } in
-    let all : AreDeeds three_sites (λ s. 0) (one_recovery x y) = ((balloted_runs x y, decides), wrote) in
+    let all : AreTransitions three_sites (λ s. 0) (one_recovery x y) = ((balloted_runs x y, decides), wrote) in
     (all, two_choose y (seen_after (λ s. 0) (one_recovery x y)) (inr (inr (inl refl))) (inr (inl refl)))

@@ -15,8 +15,8 @@ use Rattle.gz_model.specs.Sites.{has_site}
 use Rattle.gz_model.specs.Choosing.{IsSafe, IsChoosable}
 use Rattle.gz_model.proofs.LeastSites.{count_list}
 use Rattle.gz_ledger.specs.Acceptors.{Acceptor, slot_backs, HasValue, IsQuiet}
-use Rattle.gz_ledger.specs.Histories.{IsIn, Seen, Write, cast, IsChosenAt, IsShown, IsCurrent, sites_of, VotesFor, IsProposed}
-use Rattle.gz_ledger.specs.Ledgers.{Ledger, Move, Shows, Sends, Takes, after_moves, AreMoves, votes, stands, backs, late_seen}
+use Rattle.gz_ledger.specs.Histories.{IsIn, RowSeen, Write, cast, IsChosenAt, IsShownByRows, IsCurrentByRows, sites_seen, VotesFor, IsProposed}
+use Rattle.gz_ledger.specs.Ledgers.{Ledger, Move, Shows, Sends, Takes, after_moves, AreMoves, votes, standing_votes, backs, late_seen}
 use Rattle.gz_ledger.specs.Agreements.{HasQuorums, IsAgreed, AreCurrentMoves}
 use Rattle.gz_ledger.proofs.SlotTests.{IsVote}
 use Rattle.gz_ledger.proofs.Follows.{Advances, SlotFollows, Follows, IsAcceptor}
@@ -27,7 +27,7 @@ use Rattle.gz_ledger.proofs.Sound.{SlotOk, IsSound, right_at, toward_at}
 use Rattle.gz_ledger.proofs.SoundVotes.{are_safe, votes_ok, cast_votes, chosen_one, chosen_ok, shown_chosen, are_good}
 use Rattle.gz_ledger.proofs.Kept.{sound}
 
--- a vote that was shown at a version tells that a value is chosen at the one before
+-- a vote that was shown at a version shows that a value is chosen at the one before
 chained : (cfg : Config) (l : Ledger) → IsSound cfg l → (v : ℕ) (b : BallotAt) (x : Name) (s : ℕ) → 1 ≤ v → cast l.seen (suc v) b x s ≡ true → (y : Name) × IsChosenAt cfg l.seen v y
 chained cfg l so v b x s p h =
     elim (votes_ok cfg l (suc v) so b x s (cast_votes l (suc v) b x s h)).built [
@@ -44,7 +44,7 @@ founded cfg l so v s p h =
     ]
 
 -- a vote or a decision that was shown tells that a value is chosen at each version below
-settled : (cfg : Config) (l : Ledger) → IsSound cfg l → (e : Seen) (v w : ℕ) → IsIn e l.seen → 1 ≤ v → v < w → HasValue (e.row w) → (y : Name) × IsChosenAt cfg l.seen v y
+settled : (cfg : Config) (l : Ledger) → IsSound cfg l → (e : RowSeen) (v w : ℕ) → IsIn e l.seen → 1 ≤ v → v < w → HasValue (e.row w) → (y : Name) × IsChosenAt cfg l.seen v y
 settled cfg l so e v w i p lt h =
     let le : suc v ≤ w = omega arith in
     elim (built_down cfg l so w (suc v) (value_built cfg l.seen l.sent w (e.row w) (so.seen_ok e w i) h) (omega arith) le) [
@@ -62,7 +62,7 @@ once cfg l so u v x h k =
     ]
 
 -- a slot after a vote for a value that is chosen in the vote's ballot backs the value
-backs_slot : (cfg : Config) (l : Ledger) (v : ℕ) (b : BallotAt) (x : Name) (a slot : Slot) → IsSound cfg l → IsChosenAt cfg l.seen v x → IsChoosable cfg.n cfg.qc cfg.qf (stands l v) b x → IsVote a b x → SlotFollows a slot → ((c : BallotAt) (y : Name) → IsVote slot c y → same_ballot c fast ≡ false → IsSafe cfg.n cfg.qc cfg.qf (stands l v) c y) → SlotOk cfg l.seen l.sent v slot → slot_backs slot x ≡ true
+backs_slot : (cfg : Config) (l : Ledger) (v : ℕ) (b : BallotAt) (x : Name) (a slot : Slot) → IsSound cfg l → IsChosenAt cfg l.seen v x → IsChoosable cfg.n cfg.qc cfg.qf (standing_votes l v) b x → IsVote a b x → SlotFollows a slot → ((c : BallotAt) (y : Name) → IsVote slot c y → same_ballot c fast ≡ false → IsSafe cfg.n cfg.qc cfg.qf (standing_votes l v) c y) → SlotOk cfg l.seen l.sent v slot → slot_backs slot x ≡ true
 backs_slot cfg l v b x a Gone so h ch vote f safe ok = refl
 backs_slot cfg l v b x a (DecidedAs y) so h ch vote f safe ok = name_from y x (chosen_one cfg l v y x so ok.0 h)
 backs_slot cfg l v b x a (OpenAt q None) so h ch vote f safe ok =
@@ -85,8 +85,8 @@ backs_slot cfg l v b x a (OpenAt q (Some u)) so h ch vote f safe ok =
 -- what is chosen is backed by the rows of a classic quorum
 backed : (cfg : Config) (l : Ledger) → IsSound cfg l → (v : ℕ) (x : Name) → IsChosenAt cfg l.seen v x → cfg.qc ≤ count_sites cfg.n (backs l v x)
 backed cfg l so v x h =
-    let ch : IsChoosable cfg.n cfg.qc cfg.qf (stands l v) h.0 x =
-    omega (arith, h.1, count_weaker cfg.n (cast l.seen v h.0 x) (stands l v h.0 x) (λ (s : ℕ) (e : cast l.seen v h.0 x s ≡ true). (are_good cfg l v so).voted h.0 x s (cast_votes l v h.0 x s e))) in
+    let ch : IsChoosable cfg.n cfg.qc cfg.qf (standing_votes l v) h.0 x =
+    omega (arith, h.1, count_weaker cfg.n (cast l.seen v h.0 x) (standing_votes l v h.0 x) (λ (s : ℕ) (e : cast l.seen v h.0 x s ≡ true). (are_good cfg l v so).voted h.0 x s (cast_votes l v h.0 x s e))) in
     omega (
       arith,
       h.1,
@@ -105,15 +105,15 @@ agreed cfg l so = record {
   standing = λ (v : ℕ) (b : BallotAt) (x : Name) (s : ℕ). are_safe cfg l v so b x s;
   proposed = λ (v : ℕ) (b : BallotAt) (x : Name) (s : ℕ) (h : votes l v b x s ≡ true). (votes_ok cfg l v so b x s h).proposed;
   chained = chained cfg l so;
-  chosen = λ (v : ℕ) (x : Name) (h : IsShown cfg l.seen v x).
+  chosen = λ (v : ℕ) (x : Name) (h : IsShownByRows cfg l.seen v x).
       let c : IsChosenAt cfg l.seen v x = shown_chosen cfg l v x so h in
       (c, (chosen_ok cfg l v x so c).proposed);
-  one = λ (v : ℕ) (x y : Name) (h : IsShown cfg l.seen v x) (k : IsShown cfg l.seen v y). chosen_one cfg l v x y so (shown_chosen cfg l v x so h) (shown_chosen cfg l v y so k);
-  once = λ (u v : ℕ) (x : Name) (h : IsShown cfg l.seen u x) (k : IsShown cfg l.seen v x). once cfg l so u v x (shown_chosen cfg l u x so h) (shown_chosen cfg l v x so k);
+  one = λ (v : ℕ) (x y : Name) (h : IsShownByRows cfg l.seen v x) (k : IsShownByRows cfg l.seen v y). chosen_one cfg l v x y so (shown_chosen cfg l v x so h) (shown_chosen cfg l v y so k);
+  once = λ (u v : ℕ) (x : Name) (h : IsShownByRows cfg l.seen u x) (k : IsShownByRows cfg l.seen v x). once cfg l so u v x (shown_chosen cfg l u x so h) (shown_chosen cfg l v x so k);
   settled = settled cfg l so;
   founded = founded cfg l so;
   decided = λ (v s : ℕ) (x : Name) (e : l.told s v ≡ DecidedAs x). (subst (λ (slot : Slot). SlotOk cfg l.seen l.sent v slot) e (so.told_ok s v)).0;
-  backed = λ (v : ℕ) (x : Name) (h : IsShown cfg l.seen v x). backed cfg l so v x (shown_chosen cfg l v x so h);
+  backed = λ (v : ℕ) (x : Name) (h : IsShownByRows cfg l.seen v x). backed cfg l so v x (shown_chosen cfg l v x so h);
 }
 
 -- agreement in every run
@@ -126,7 +126,7 @@ early_moves cfg [] early a = a
 early_moves cfg (m ∷ late) early a = early_moves cfg late early a.0
 
 -- the rows that were shown are those shown late and those shown early
-pub late_or_early : (late early : List Move) (e : Seen) → IsIn e (after_moves (late ++ early)).seen → IsIn e (late_seen late early) ⊎ IsIn e (after_moves early).seen
+pub late_or_early : (late early : List Move) (e : RowSeen) → IsIn e (after_moves (late ++ early)).seen → IsIn e (late_seen late early) ⊎ IsIn e (after_moves early).seen
 late_or_early [] early e i = inr i
 late_or_early (Shows s ∷ late) early e (inl p) = inl (inl p)
 late_or_early (Shows s ∷ late) early e (inr i) = elim (late_or_early late early e i) [ inl j ↦ inl (inr j) | inr j ↦ inr j ]
@@ -146,34 +146,34 @@ early_sent (Sends x ∷ late) early w i = inr (early_sent late early w i)
 early_sent (Takes x ∷ late) early w i = early_sent late early w i
 
 -- an early row goes forward to each late one of its site
-late_follows : (cfg : Config) (late early : List Move) (e f : Seen) → HasQuorums cfg → AreMoves cfg (late ++ early) → IsIn f (after_moves early).seen → IsIn e (late_seen late early) → f.site ≡ e.site → Follows f.row e.row
+late_follows : (cfg : Config) (late early : List Move) (e f : RowSeen) → HasQuorums cfg → AreMoves cfg (late ++ early) → IsIn f (after_moves early).seen → IsIn e (late_seen late early) → f.site ≡ e.site → Follows f.row e.row
 late_follows cfg [] early e f q a i j p = absurd j
 late_follows cfg (Shows s ∷ late) early e f q a i (inl j) p =
     let l = after_moves (late ++ early) in
-    subst (λ (g : Seen). Follows f.row g.row) (sym j) (toward_at cfg l (sound cfg (late ++ early) q a.0) f s (early_seen late early f i) (p ∙ ap (λ (g : Seen). g.site) j))
+    subst (λ (g : RowSeen). Follows f.row g.row) (sym j) (toward_at cfg l (sound cfg (late ++ early) q a.0) f s (early_seen late early f i) (p ∙ ap (λ (g : RowSeen). g.site) j))
 late_follows cfg (Shows s ∷ late) early e f q a i (inr j) p = late_follows cfg late early e f q a.0 i j p
 late_follows cfg (Sends w ∷ late) early e f q a i j p = late_follows cfg late early e f q a.0 i j p
 late_follows cfg (Takes w ∷ late) early e f q a i j p = late_follows cfg late early e f q a.0 i j p
 
-late_acceptor : (cfg : Config) (late early : List Move) (e : Seen) → HasQuorums cfg → AreMoves cfg (late ++ early) → IsIn e (late_seen late early) → IsAcceptor e.row
+late_acceptor : (cfg : Config) (late early : List Move) (e : RowSeen) → HasQuorums cfg → AreMoves cfg (late ++ early) → IsIn e (late_seen late early) → IsAcceptor e.row
 late_acceptor cfg [] early e q a j = absurd j
-late_acceptor cfg (Shows s ∷ late) early e q a (inl j) = subst (λ (g : Seen). IsAcceptor g.row) (sym j) ((sound cfg (late ++ early) q a.0).told_acceptor s)
+late_acceptor cfg (Shows s ∷ late) early e q a (inl j) = subst (λ (g : RowSeen). IsAcceptor g.row) (sym j) ((sound cfg (late ++ early) q a.0).told_acceptor s)
 late_acceptor cfg (Shows s ∷ late) early e q a (inr j) = late_acceptor cfg late early e q a.0 j
 late_acceptor cfg (Sends w ∷ late) early e q a j = late_acceptor cfg late early e q a.0 j
 late_acceptor cfg (Takes w ∷ late) early e q a j = late_acceptor cfg late early e q a.0 j
 
 -- a site of these rows has one of them
-site_row : (rows : List Seen) (s : ℕ) → has_site (sites_of rows) s ≡ true → (e : Seen) × IsIn e rows × (e.site ≡ s)
+site_row : (rows : List RowSeen) (s : ℕ) → has_site (sites_seen rows) s ≡ true → (e : RowSeen) × IsIn e rows × (e.site ≡ s)
 site_row [] s h = absurd (true≢false (sym h))
 site_row (e ∷ es) s h =
-    elim (or_cases (e.site == s) (has_site (sites_of es) s) h) [
+    elim (or_cases (e.site == s) (has_site (sites_seen es) s) h) [
       | inl t ↦ (e, inl refl, eqb-true e.site s t)
       | inr t ↦
-          let w : (f : Seen) × IsIn f es × (f.site ≡ s) = site_row es s t in
+          let w : (f : RowSeen) × IsIn f es × (f.site ≡ s) = site_row es s t in
           (w.0, inr w.1, w.2)
     ]
 
-length_sites : (rows : List Seen) → length (sites_of rows) ≡ length rows
+length_sites : (rows : List RowSeen) → length (sites_seen rows) ≡ length rows
 length_sites [] = refl
 length_sites (e ∷ es) = ap suc (length_sites es)
 
@@ -194,16 +194,16 @@ not_quiet r u v a (inr h) quiet l =
     quiet w.0 (omega (arith, w.1)) (subst HasValue (sym w.3) tt)
 
 -- the version at which rows that a quorum showed afterwards are current is not below one at which a value was shown
-pub latest : (cfg : Config) (late early : List Move) (u v : ℕ) (x : Name) → HasQuorums cfg → AreMoves cfg (late ++ early) → IsShown cfg (after_moves early).seen u x → IsCurrent cfg (late_seen late early) v → u ≤ v
+pub latest : (cfg : Config) (late early : List Move) (u v : ℕ) (x : Name) → HasQuorums cfg → AreMoves cfg (late ++ early) → IsShownByRows cfg (after_moves early).seen u x → IsCurrentByRows cfg (late_seen late early) v → u ≤ v
 latest cfg late early u v x q a h c =
     let l = after_moves early in
     let so : IsSound cfg l = sound cfg early q (early_moves cfg late early a) in
     let ch : IsChosenAt cfg l.seen u x = shown_chosen cfg l u x so h in
-    let m : (s : ℕ) × (s < cfg.n) × (has_site (sites_of c.rows) s ≡ true) × (cast l.seen u ch.0 x s ≡ true) =
-    quorums_meet cfg.n cfg.qc cfg.qf (has_site (sites_of c.rows)) (cast l.seen u ch.0 x) q
-    (omega (arith, c.enough, length_sites c.rows, count_list cfg.n (sites_of c.rows) c.sites))
+    let m : (s : ℕ) × (s < cfg.n) × (has_site (sites_seen c.rows) s ≡ true) × (cast l.seen u ch.0 x s ≡ true) =
+    quorums_meet cfg.n cfg.qc cfg.qf (has_site (sites_seen c.rows)) (cast l.seen u ch.0 x) q
+    (omega (arith, c.enough, length_sites c.rows, count_list cfg.n (sites_seen c.rows) c.sites))
     (omega (arith, ch.1, need_least cfg.n cfg.qc cfg.qf ch.0 q)) in
-    let e : (e : Seen) × IsIn e c.rows × (e.site ≡ m.0) = site_row c.rows m.0 m.2 in
+    let e : (e : RowSeen) × IsIn e c.rows × (e.site ≡ m.0) = site_row c.rows m.0 m.2 in
     let f : IsCast l.seen u ch.0 x m.0 = cast_found l.seen u ch.0 x m.0 m.3 in
     let together : f.entry.site ≡ e.0.site = cc in
     let on : Follows f.entry.row e.0.row = late_follows cfg late early e.0 f.entry q a f.found (c.found e.0 e.1) together in
@@ -213,7 +213,7 @@ latest cfg late early u v x q a h c =
     ]
 
 -- the version of a vote of the call for its own value is not below one at which a value was shown when it began
-own_above : (cfg : Config) (call : Name) (late early : List Move) (u v : ℕ) (x : Name) → HasQuorums cfg → AreMoves cfg (late ++ early) → ((w : Write) → IsIn w (after_moves early).sent → w.call ≡ call → ⊥) → AreCurrentMoves cfg call late early → IsShown cfg (after_moves early).seen u x → (p : Write) → IsIn p (after_moves (late ++ early)).sent → p.call ≡ call → VotesFor p.act v call → u ≤ v
+own_above : (cfg : Config) (call : Name) (late early : List Move) (u v : ℕ) (x : Name) → HasQuorums cfg → AreMoves cfg (late ++ early) → ((w : Write) → IsIn w (after_moves early).sent → w.call ≡ call → ⊥) → AreCurrentMoves cfg call late early → IsShownByRows cfg (after_moves early).seen u x → (p : Write) → IsIn p (after_moves (late ++ early)).sent → p.call ≡ call → VotesFor p.act v call → u ≤ v
 own_above cfg call [] early u v x q a none cur h p i own k = absurd (none p i own)
 own_above cfg call (Shows s ∷ late) early u v x q a none cur h p i own k = own_above cfg call late early u v x q a.0 none cur.0 h p i own k
 own_above cfg call (Takes w ∷ late) early u v x q a none cur h p i own k = own_above cfg call late early u v x q a.0 none cur.0 h p i own k
@@ -225,7 +225,7 @@ own_above cfg call (Sends w ∷ late) early u v x q a none cur h p (inl i) own k
     ]
 
 -- the value of a call that began when a value was shown is shown above it
-pub above : (cfg : Config) (call : Name) (late early : List Move) (u v : ℕ) (x : Name) → HasQuorums cfg → AreMoves cfg (late ++ early) → ((w : Write) → IsIn w (after_moves early).sent → w.call ≡ call → ⊥) → AreCurrentMoves cfg call late early → IsShown cfg (after_moves early).seen u x → IsShown cfg (after_moves (late ++ early)).seen v call → u < v
+pub above : (cfg : Config) (call : Name) (late early : List Move) (u v : ℕ) (x : Name) → HasQuorums cfg → AreMoves cfg (late ++ early) → ((w : Write) → IsIn w (after_moves early).sent → w.call ≡ call → ⊥) → AreCurrentMoves cfg call late early → IsShownByRows cfg (after_moves early).seen u x → IsShownByRows cfg (after_moves (late ++ early)).seen v call → u < v
 above cfg call late early u v x q a none cur h k =
     let m = after_moves (late ++ early) in
     let l = after_moves early in
@@ -236,7 +236,7 @@ above cfg call late early u v x q a none cur h k =
       | inl lt ↦ lt
       | inr ge ↦
           let same : u ≡ v = omega arith in
-          let here : IsShown cfg m.seen u call = subst (λ (t : ℕ). IsShown cfg m.seen t call) (sym same) k in
+          let here : IsShownByRows cfg m.seen u call = subst (λ (t : ℕ). IsShownByRows cfg m.seen t call) (sym same) k in
           let is : x ≡ call = agree.one u x call (shown_more cfg l.seen m.seen u x (early_seen late early) h) here in
           let early_own : IsProposed l.sent u x = ((agreement cfg early q (early_moves cfg late early a)).chosen u x h).1 in
           absurd (none early_own.write early_own.found (early_own.own ∙ is))

@@ -7,7 +7,7 @@ use Rattle.gz_core.specs.declared.slots.Slot.TheVariants.{Gone, DecidedAs, OpenA
 use Rattle.gz_config.specs.declared.Config.{Config}
 use Rattle.gz_core.proofs.Ballots.{same_refl}
 use Rattle.gz_ledger.specs.Acceptors.{Acceptor, with_acceptor}
-use Rattle.gz_ledger.specs.Histories.{IsIn, Seen, Write}
+use Rattle.gz_ledger.specs.Histories.{IsIn, RowSeen, Write}
 use Rattle.gz_ledger.specs.Ledgers.{Ledger, Move, Shows, Sends, Takes, row_of, moved, after_moves, Can, AreMoves}
 use Rattle.gz_ledger.specs.Agreements.{HasQuorums}
 use Rattle.gz_ledger.proofs.Shown.{Includes}
@@ -26,7 +26,7 @@ SlotPromised sent v (OpenAt p vote) = (same_ballot p fast ≡ true) ⊎ IsPromis
 -- each row of a ledger tells so
 pub record ArePromised (l : Ledger) : Type 0 where
   pub told : (s v : ℕ) → SlotPromised l.sent v (l.told s v)
-  pub seen : (e : Seen) (v : ℕ) → IsIn e l.seen → SlotPromised l.sent v (e.row v)
+  pub seen : (e : RowSeen) (v : ℕ) → IsIn e l.seen → SlotPromised l.sent v (e.row v)
 
 more_sent : (sent more : List Write) (v : ℕ) (slot : Slot) → Includes sent more → SlotPromised sent v slot → SlotPromised more v slot
 more_sent sent more v Gone i h = tt
@@ -48,15 +48,15 @@ made_promised cfg l w (Decides u x) r s i e ok all m v =
 made_promised cfg l w (Trims to x) r s i e ok all m v =
     subst (λ (t : Acceptor). SlotPromised l.sent v (t v)) (sym m.1.1) (each_trimmed (SlotPromised l.sent) r to x all (λ (u : ℕ). tt) tt v)
 
-shown_promised : (l : Ledger) (s : ℕ) → ArePromised l → (e : Seen) (v : ℕ) → IsIn e (row_of l s ∷ l.seen) → SlotPromised l.sent v (e.row v)
-shown_promised l s p e v (inl same) = subst (λ (f : Seen). SlotPromised l.sent v (f.row v)) (sym same) (p.told s v)
+shown_promised : (l : Ledger) (s : ℕ) → ArePromised l → (e : RowSeen) (v : ℕ) → IsIn e (row_of l s ∷ l.seen) → SlotPromised l.sent v (e.row v)
+shown_promised l s p e v (inl same) = subst (λ (f : RowSeen). SlotPromised l.sent v (f.row v)) (sym same) (p.told s v)
 shown_promised l s p e v (inr i) = p.seen e v i
 
 promised_moved : (cfg : Config) (l : Ledger) (m : Move) → IsSound cfg l → Can cfg l m → ArePromised l → ArePromised (moved l m)
 promised_moved cfg l (Shows s) so can p = record { told = p.told; seen = shown_promised l s p }
 promised_moved cfg l (Sends w) so can p = record {
   told = λ (s v : ℕ). more_sent l.sent (w ∷ l.sent) v (l.told s v) (λ (x : Write) (i : IsIn x l.sent). inr i) (p.told s v);
-  seen = λ (e : Seen) (v : ℕ) (i : IsIn e l.seen). more_sent l.sent (w ∷ l.sent) v (e.row v) (λ (x : Write) (j : IsIn x l.sent). inr j) (p.seen e v i);
+  seen = λ (e : RowSeen) (v : ℕ) (i : IsIn e l.seen). more_sent l.sent (w ∷ l.sent) v (e.row v) (λ (x : Write) (j : IsIn x l.sent). inr j) (p.seen e v i);
 }
 promised_moved cfg l (Takes w) so can p =
     let makes : Makes w.act (l.told w.site) w.after = subst (λ (r : Acceptor). Makes w.act r w.after) (sym can.1) (so.sent_makes w can.0) in
@@ -67,10 +67,10 @@ promised_moved cfg l (Takes w) so can p =
 
 -- in every run
 pub promised : (cfg : Config) (ms : List Move) → HasQuorums cfg → AreMoves cfg ms → ArePromised (after_moves ms)
-promised cfg [] q a = record { told = λ (s v : ℕ). inl (same_refl fast); seen = λ (e : Seen) (v : ℕ) (i : IsIn e []). absurd i }
+promised cfg [] q a = record { told = λ (s v : ℕ). inl (same_refl fast); seen = λ (e : RowSeen) (v : ℕ) (i : IsIn e []). absurd i }
 promised cfg (m ∷ ms) q a = promised_moved cfg (after_moves ms) m (sound cfg ms q a.0) a.1 (promised cfg ms q a.0)
 
 -- a row at which a ballot is promised was shown only after a promise of it was sent
-pub unpromised_row : (l : Ledger) (e : Seen) (v : ℕ) (b : BallotAt) (vote : Option (BallotAt × Name)) → ArePromised l → IsIn e l.seen → e.row v ≡ OpenAt b vote → same_ballot b fast ≡ false → IsPromiseSent l.sent v b
+pub unpromised_row : (l : Ledger) (e : RowSeen) (v : ℕ) (b : BallotAt) (vote : Option (BallotAt × Name)) → ArePromised l → IsIn e l.seen → e.row v ≡ OpenAt b vote → same_ballot b fast ≡ false → IsPromiseSent l.sent v b
 unpromised_row l e v b vote p i is classic =
     elim (subst (SlotPromised l.sent v) is (p.seen e v i)) [ inl f ↦ (let bad : true ≡ false = sym f ∙ classic in cc) | inr h ↦ h ]

@@ -1,4 +1,4 @@
--- What the tests on an acceptor's slot tell.
+-- What the tests on an acceptor's slot show.
 use Rattle.std.proofs.Common.{◌≡◌, true, false, not, Option, Some, None, refl, ap, ◌∙◌, sym, subst}
 use Rattle.std.proofs.lemmas.Bool.{true≢false, both_ways, and_parts, and_from, not-true, not_from_false, false_from_ne_true}
 use Rattle.std.proofs.lemmas.Option.{none-some}

@@ -7,15 +7,15 @@ use Rattle.gz_core.specs.declared.slots.Slot.TheVariants.{Gone, DecidedAs, OpenA
 use Rattle.gz_config.specs.declared.Config.{Config}
 use Rattle.gz_model.specs.Choosing.{IsSafe}
 use Rattle.gz_ledger.specs.Acceptors.{Acceptor}
-use Rattle.gz_ledger.specs.Histories.{IsIn, Seen, Write, IsChosenAt, IsProposed, IsPromised}
-use Rattle.gz_ledger.specs.Ledgers.{Ledger, stands}
+use Rattle.gz_ledger.specs.Histories.{IsIn, RowSeen, Write, IsChosenAt, IsProposed, IsPromised}
+use Rattle.gz_ledger.specs.Ledgers.{Ledger, standing_votes}
 use Rattle.gz_ledger.specs.Agreements.{HasQuorums}
 use Rattle.gz_ledger.proofs.Follows.{Follows, follows_refl, IsAcceptor}
 use Rattle.gz_ledger.proofs.Rows.{IsRowOf}
 use Rattle.gz_ledger.proofs.SlotTests.{IsVote}
 
 -- the version is the first, or a value is chosen at the one before
-abbrev pub IsBuilt : Config → List Seen → ℕ → Type 0
+abbrev pub IsBuilt : Config → List RowSeen → ℕ → Type 0
 IsBuilt cfg seen v = (v ≡ 1) ⊎ ((u : ℕ) × (v ≡ suc u) × (y : Name) × IsChosenAt cfg seen u y)
 
 -- a vote of a classic ballot was sent
@@ -23,13 +23,13 @@ abbrev pub IsVoteSent : List Write → ℕ → BallotAt → Name → Type 0
 IsVoteSent sent v b x = (w : Write) × IsIn w sent × (w.act ≡ VotesClassic v b x)
 
 -- what stands behind a vote
-pub record IsVoteOk (cfg : Config) (seen : List Seen) (sent : List Write) (v : ℕ) (u : BallotAt × Name) : Type 0 where
+pub record IsVoteOk (cfg : Config) (seen : List RowSeen) (sent : List Write) (v : ℕ) (u : BallotAt × Name) : Type 0 where
   pub built : IsBuilt cfg seen v
   pub proposed : IsProposed sent v u.1
   pub classic : same_ballot u.0 fast ≡ false → IsVoteSent sent v u.0 u.1
 
 -- what stands behind a slot
-abbrev pub SlotOk : Config → List Seen → List Write → ℕ → Slot → Type 0
+abbrev pub SlotOk : Config → List RowSeen → List Write → ℕ → Slot → Type 0
 SlotOk cfg seen sent v Gone = Unit {0}
 SlotOk cfg seen sent v (DecidedAs x) = IsChosenAt cfg seen v x × IsBuilt cfg seen v
 SlotOk cfg seen sent v (OpenAt p None) = (p ≡ fast) ⊎ IsBuilt cfg seen v
@@ -39,7 +39,7 @@ SlotOk cfg seen sent v (OpenAt p (Some u)) = IsVoteOk cfg seen sent v u
 pub record IsVoteRight (cfg : Config) (l : Ledger) (call : Name) (v : ℕ) (b : BallotAt) (x : Name) : Type 0 where
   pub classic : same_ballot b fast ≡ false
   pub built : IsBuilt cfg l.seen v
-  pub safe : IsSafe cfg.n cfg.qc cfg.qf (stands l v) b x
+  pub safe : IsSafe cfg.n cfg.qc cfg.qf (standing_votes l v) b x
   pub promised : IsPromised l.sent call v b
   pub proposed : IsProposed l.sent v x
 
@@ -52,23 +52,23 @@ ActOk cfg l call (Decides v x) = IsChosenAt cfg l.seen v x × IsBuilt cfg l.seen
 ActOk cfg l call (Trims to x) = IsChosenAt cfg l.seen (to + 1) x × IsBuilt cfg l.seen (to + 1)
 
 -- a value other than this one is chosen
-abbrev pub IsOtherChosen : Config → List Seen → ℕ → Name → Type 0
+abbrev pub IsOtherChosen : Config → List RowSeen → ℕ → Name → Type 0
 IsOtherChosen cfg seen v x = (y : Name) × (y ≡ x → ⊥) × IsChosenAt cfg seen v y
 
 -- the rows that were shown of one site go forward
-abbrev pub IsChain : List Seen → Type 0
+abbrev pub IsChain : List RowSeen → Type 0
 IsChain [] = Unit {0}
-IsChain (e ∷ es) = ((f : Seen) → IsIn f es → f.site ≡ e.site → Follows f.row e.row) × IsChain es
+IsChain (e ∷ es) = ((f : RowSeen) → IsIn f es → f.site ≡ e.site → Follows f.row e.row) × IsChain es
 
 pub record IsSound (cfg : Config) (l : Ledger) : Type 0 where
   pub quorums : HasQuorums cfg
   pub chain : IsChain l.seen
-  pub toward : (e : Seen) → IsIn e l.seen → Follows e.row (l.told e.site)
+  pub toward : (e : RowSeen) → IsIn e l.seen → Follows e.row (l.told e.site)
   pub told_acceptor : (s : ℕ) → IsAcceptor (l.told s)
-  pub seen_acceptor : (e : Seen) → IsIn e l.seen → IsAcceptor e.row
+  pub seen_acceptor : (e : RowSeen) → IsIn e l.seen → IsAcceptor e.row
   pub told_ok : (s v : ℕ) → SlotOk cfg l.seen l.sent v (l.told s v)
-  pub seen_ok : (e : Seen) (v : ℕ) → IsIn e l.seen → SlotOk cfg l.seen l.sent v (e.row v)
-  pub sent_shown : (w : Write) → IsIn w l.sent → (e : Seen) × IsIn e l.seen × (e.site ≡ w.site) × (e.row ≡ w.before)
+  pub seen_ok : (e : RowSeen) (v : ℕ) → IsIn e l.seen → SlotOk cfg l.seen l.sent v (e.row v)
+  pub sent_shown : (w : Write) → IsIn w l.sent → (e : RowSeen) × IsIn e l.seen × (e.site ≡ w.site) × (e.row ≡ w.before)
   pub sent_makes : (w : Write) → IsIn w l.sent → Makes w.act w.before w.after
   pub sent_ok : (w : Write) → IsIn w l.sent → ActOk cfg l w.call w.act
   pub owned : (w x : Write) (u v : ℕ) (b : BallotAt) → IsIn w l.sent → IsIn x l.sent → w.act ≡ Promises u b → x.act ≡ Promises v b → (w.call ≡ x.call) × (u ≡ v)
@@ -76,15 +76,15 @@ pub record IsSound (cfg : Config) (l : Ledger) : Type 0 where
   pub apart : (u v : ℕ) (x : Name) → IsProposed l.sent u x → IsProposed l.sent v x → (u ≡ v) ⊎ (IsOtherChosen cfg l.seen u x ⊎ IsOtherChosen cfg l.seen v x)
 
 -- of two rows that were shown of one site one goes forward to the other
-pub on_chain : (seen : List Seen) (e f : Seen) → IsChain seen → IsIn e seen → IsIn f seen → e.site ≡ f.site → Follows e.row f.row ⊎ Follows f.row e.row
+pub on_chain : (seen : List RowSeen) (e f : RowSeen) → IsChain seen → IsIn e seen → IsIn f seen → e.site ≡ f.site → Follows e.row f.row ⊎ Follows f.row e.row
 on_chain [] e f c i j s = absurd i
-on_chain (g ∷ es) e f c (inl p) (inl q) s = inl (subst (λ (h : Seen). Follows e.row h.row) (p ∙ sym q) (follows_refl e.row))
-on_chain (g ∷ es) e f c (inl p) (inr j) s = inr (subst (λ (h : Seen). Follows f.row h.row) (sym p) (c.0 f j (sym s ∙ ap (λ (h : Seen). h.site) p)))
-on_chain (g ∷ es) e f c (inr i) (inl q) s = inl (subst (λ (h : Seen). Follows e.row h.row) (sym q) (c.0 e i (s ∙ ap (λ (h : Seen). h.site) q)))
+on_chain (g ∷ es) e f c (inl p) (inl q) s = inl (subst (λ (h : RowSeen). Follows e.row h.row) (p ∙ sym q) (follows_refl e.row))
+on_chain (g ∷ es) e f c (inl p) (inr j) s = inr (subst (λ (h : RowSeen). Follows f.row h.row) (sym p) (c.0 f j (sym s ∙ ap (λ (h : RowSeen). h.site) p)))
+on_chain (g ∷ es) e f c (inr i) (inl q) s = inl (subst (λ (h : RowSeen). Follows e.row h.row) (sym q) (c.0 e i (s ∙ ap (λ (h : RowSeen). h.site) q)))
 on_chain (g ∷ es) e f c (inr i) (inr j) s = on_chain es e f c.1 i j s
 
 -- a row that was shown of a site goes forward to the site's
-pub toward_at : (cfg : Config) (l : Ledger) → IsSound cfg l → (e : Seen) (s : ℕ) → IsIn e l.seen → e.site ≡ s → Follows e.row (l.told s)
+pub toward_at : (cfg : Config) (l : Ledger) → IsSound cfg l → (e : RowSeen) (s : ℕ) → IsIn e l.seen → e.site ≡ s → Follows e.row (l.told s)
 toward_at cfg l so e s i p = subst (λ (t : ℕ). Follows e.row (l.told t)) p (so.toward e i)
 
 -- of two rows of a site one goes forward to the other

@@ -15,9 +15,9 @@ use Rattle.gz_pick.specs.declared.heard.Heard.{Heard}
 use Rattle.gz_model.specs.Choosing.{IsChosenBy, VotesOnce, CarriesOne, AreSafe, IsRecovered, AreGood}
 use Rattle.gz_model.proofs.Choices.{one_value}
 use Rattle.gz_ledger.specs.Acceptors.{Acceptor}
-use Rattle.gz_ledger.specs.Histories.{cast, IsChosenAt, IsShown}
-use Rattle.gz_ledger.specs.Guards.{IsPromiseHeard, IsQuorumHeard}
-use Rattle.gz_ledger.specs.Ledgers.{Ledger, votes, stands}
+use Rattle.gz_ledger.specs.Histories.{cast, IsChosenAt, IsShownByRows}
+use Rattle.gz_ledger.specs.Guards.{IsPromiseSeen, IsQuorumHeard}
+use Rattle.gz_ledger.specs.Ledgers.{Ledger, votes, standing_votes}
 use Rattle.gz_ledger.proofs.SlotTests.{IsVote}
 use Rattle.gz_ledger.proofs.Follows.{Advances, Follows, advance}
 use Rattle.gz_ledger.proofs.Shown.{IsCast, cast_found}
@@ -60,12 +60,12 @@ carries_one cfg l v so b x y s t c h k =
     so.one w.0 z.0 v b x y w.1 z.1 w.2 z.2
 
 -- every vote of a classic ballot is safe
-pub are_safe : (cfg : Config) (l : Ledger) (v : ℕ) → IsSound cfg l → AreSafe cfg.n cfg.qc cfg.qf (votes l v) (stands l v)
+pub are_safe : (cfg : Config) (l : Ledger) (v : ℕ) → IsSound cfg l → AreSafe cfg.n cfg.qc cfg.qf (votes l v) (standing_votes l v)
 are_safe cfg l v so b x s c h =
     let w = (votes_ok cfg l v so b x s h).classic c in
     (right_at cfg l so w.0 v b x w.1 w.2).safe
 
-pub are_good : (cfg : Config) (l : Ledger) (v : ℕ) → IsSound cfg l → AreGood cfg.n cfg.qc cfg.qf (votes l v) (stands l v)
+pub are_good : (cfg : Config) (l : Ledger) (v : ℕ) → IsSound cfg l → AreGood cfg.n cfg.qc cfg.qf (votes l v) (standing_votes l v)
 are_good cfg l v so = record {
   quorums = so.quorums;
   once = votes_once cfg l v so;
@@ -87,7 +87,7 @@ chosen_votes cfg l v x h = (h.0, omega (arith, h.1, count_weaker cfg.n (cast l.s
 -- two chosen values are the same
 pub chosen_one : (cfg : Config) (l : Ledger) (v : ℕ) (x y : Name) → IsSound cfg l → IsChosenAt cfg l.seen v x → IsChosenAt cfg l.seen v y → x ≡ y
 chosen_one cfg l v x y so h k =
-    one_value cfg.n cfg.qc cfg.qf (votes l v) (stands l v) x y (are_good cfg l v so) (chosen_votes cfg l v x h) (chosen_votes cfg l v y k)
+    one_value cfg.n cfg.qc cfg.qf (votes l v) (standing_votes l v) x y (are_good cfg l v so) (chosen_votes cfg l v x h) (chosen_votes cfg l v y k)
 
 -- a chosen value has a vote that was shown
 pub chosen_cast : (cfg : Config) (l : Ledger) (v : ℕ) (x : Name) → IsSound cfg l → (h : IsChosenAt cfg l.seen v x) → (s : ℕ) × IsCast l.seen v h.0 x s
@@ -101,12 +101,12 @@ chosen_ok cfg l v x so h =
     vote_ok cfg l so c.1.entry.site c.1.entry.row v h.0 x (row_of_seen l c.1.entry c.1.found) c.1.vote
 
 -- what is shown is chosen
-pub shown_chosen : (cfg : Config) (l : Ledger) (v : ℕ) (x : Name) → IsSound cfg l → IsShown cfg l.seen v x → IsChosenAt cfg l.seen v x
+pub shown_chosen : (cfg : Config) (l : Ledger) (v : ℕ) (x : Name) → IsSound cfg l → IsShownByRows cfg l.seen v x → IsChosenAt cfg l.seen v x
 shown_chosen cfg l v x so (inl h) = h
 shown_chosen cfg l v x so (inr d) = (subst (λ (slot : Slot). SlotOk cfg l.seen l.sent v slot) d.decided (so.seen_ok d.entry v d.found)).0
 
--- a promise that was heard tells of its site's votes below the ballot, and that it casts none there any more
-heard_was : (cfg : Config) (l : Ledger) (v : ℕ) (b : BallotAt) (h : Heard) → IsSound cfg l → IsPromiseHeard l.seen v b h → (u : BallotAt × Name) → h.vote ≡ Some u → (votes l v u.0 u.1 h.site ≡ true) × (is_below u.0 b ≡ true)
+-- a promise that was heard shows its site's votes below the ballot, and that it casts none there any more
+heard_was : (cfg : Config) (l : Ledger) (v : ℕ) (b : BallotAt) (h : Heard) → IsSound cfg l → IsPromiseSeen l.seen v b h → (u : BallotAt × Name) → h.vote ≡ Some u → (votes l v u.0 u.1 h.site ≡ true) × (is_below u.0 b ≡ true)
 heard_was cfg l v b h so p u e =
     let slot : p.entry.row v ≡ OpenAt b (Some (u.0, u.1)) = p.row ∙ ap (λ (o : Option (BallotAt × Name)). OpenAt b o) e in
     let under : is_below b u.0 ≡ false = (so.seen_acceptor p.entry p.found).under v b u slot in (
@@ -118,7 +118,7 @@ heard_was cfg l v b h so p u e =
       ],
     )
 
-heard_top : (cfg : Config) (l : Ledger) (v : ℕ) (b : BallotAt) (h : Heard) → IsSound cfg l → IsPromiseHeard l.seen v b h → (c : BallotAt) (y : Name) → is_below c b ≡ true → votes l v c y h.site ≡ true → (u : BallotAt × Name) × (h.vote ≡ Some u) × (is_below u.0 c ≡ false)
+heard_top : (cfg : Config) (l : Ledger) (v : ℕ) (b : BallotAt) (h : Heard) → IsSound cfg l → IsPromiseSeen l.seen v b h → (c : BallotAt) (y : Name) → is_below c b ≡ true → votes l v c y h.site ≡ true → (u : BallotAt × Name) × (h.vote ≡ Some u) × (is_below u.0 c ≡ false)
 heard_top cfg l v b h so p c y lt k =
     let r : (r : Acceptor) × IsRowOf l h.site r × IsVote (r v) c y = votes_row l v c y h.site k in
     elim (line cfg l so h.site r.0 p.entry.row r.1 (inr (p.entry, p.found, p.site, refl))) [
@@ -132,7 +132,7 @@ heard_top cfg l v b h so p c y lt k =
       ]
     ]
 
-heard_shut : (cfg : Config) (l : Ledger) (v : ℕ) (b : BallotAt) (h : Heard) → IsSound cfg l → IsPromiseHeard l.seen v b h → (c : BallotAt) (y : Name) → is_below c b ≡ true → stands l v c y h.site ≡ true → votes l v c y h.site ≡ true
+heard_shut : (cfg : Config) (l : Ledger) (v : ℕ) (b : BallotAt) (h : Heard) → IsSound cfg l → IsPromiseSeen l.seen v b h → (c : BallotAt) (y : Name) → is_below c b ≡ true → standing_votes l v c y h.site ≡ true → votes l v c y h.site ≡ true
 heard_shut cfg l v b h so p c y lt k =
     elim (stands_cases l v c y h.site k) [
       | inl e ↦ e
@@ -143,7 +143,7 @@ heard_shut cfg l v b h so p c y lt k =
     ]
 
 -- a sound ledger and a quorum's promises are what the choice rule asks
-pub recovered : (cfg : Config) (l : Ledger) (v : ℕ) (b : BallotAt) (heard : List Heard) → IsSound cfg l → IsQuorumHeard cfg l.seen v b heard → IsRecovered cfg.n cfg.qc cfg.qf (votes l v) (stands l v) b heard
+pub recovered : (cfg : Config) (l : Ledger) (v : ℕ) (b : BallotAt) (heard : List Heard) → IsSound cfg l → IsQuorumHeard cfg l.seen v b heard → IsRecovered cfg.n cfg.qc cfg.qf (votes l v) (standing_votes l v) b heard
 recovered cfg l v b heard so q = record {
   quorums = so.quorums;
   sites = q.sites;
@@ -152,6 +152,6 @@ recovered cfg l v b heard so q = record {
   one = carries_one cfg l v so;
   safe = are_safe cfg l v so;
   told = λ (at : ℕ) (h : Heard) (is : slice_get heard at ≡ Some h).
-      let p : IsPromiseHeard l.seen v b h = q.promises at h is in
+      let p : IsPromiseSeen l.seen v b h = q.promises at h is in
       record { was = heard_was cfg l v b h so p; top = heard_top cfg l v b h so p; shut = heard_shut cfg l v b h so p };
 }

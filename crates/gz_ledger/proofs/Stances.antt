@@ -9,8 +9,8 @@ use Rattle.gz_core.specs.declared.slots.Slot.TheVariants.{OpenAt}
 use Rattle.gz_config.specs.declared.Config.{Config}
 use Rattle.gz_core.proofs.Ballots.{same_means, below_never, below_not, below_fast, not_below_trans}
 use Rattle.gz_ledger.specs.Acceptors.{Acceptor, with_acceptor}
-use Rattle.gz_ledger.specs.Histories.{IsIn, Seen, Write}
-use Rattle.gz_ledger.specs.Ledgers.{Ledger, Shows, Takes, moved, voted, stands}
+use Rattle.gz_ledger.specs.Histories.{IsIn, RowSeen, Write}
+use Rattle.gz_ledger.specs.Ledgers.{Ledger, Shows, Takes, moved, site_voted, standing_votes}
 use Rattle.gz_ledger.proofs.SlotTests.{IsVote, LetsIn}
 use Rattle.gz_ledger.proofs.Follows.{IsUnder, IsNewVote, Advances, SlotFollows, Follows, follows_refl, advance, open_before, makes_follows}
 use Rattle.gz_ledger.proofs.Rows.{IsRowOf, votes_row, row_votes, voted_row, row_voted, stands_cases, stands_voted, stands_open}
@@ -18,10 +18,10 @@ use Rattle.gz_ledger.proofs.Sound.{IsSound, toward_at}
 
 -- sites stand for nothing new
 abbrev pub Shrinks : Ledger → Ledger → Type 0
-Shrinks l m = (v : ℕ) (b : BallotAt) (x : Name) (s : ℕ) → stands m v b x s ≡ true → stands l v b x s ≡ true
+Shrinks l m = (v : ℕ) (b : BallotAt) (x : Name) (s : ℕ) → standing_votes m v b x s ≡ true → standing_votes l v b x s ≡ true
 
 -- where a site has the same row, and the same rows were shown of it, it stands for the same values
-same_rows : (l m : Ledger) (v : ℕ) (b : BallotAt) (x : Name) (s : ℕ) → ((r : Acceptor) → IsRowOf m s r → IsRowOf l s r) → ((r : Acceptor) → IsRowOf l s r → IsRowOf m s r) → m.told s ≡ l.told s → stands m v b x s ≡ true → stands l v b x s ≡ true
+same_rows : (l m : Ledger) (v : ℕ) (b : BallotAt) (x : Name) (s : ℕ) → ((r : Acceptor) → IsRowOf m s r → IsRowOf l s r) → ((r : Acceptor) → IsRowOf l s r → IsRowOf m s r) → m.told s ≡ l.told s → standing_votes m v b x s ≡ true → standing_votes l v b x s ≡ true
 same_rows l m v b x s back on e h =
     elim (stands_cases m v b x s h) [
       | inl k ↦
@@ -29,9 +29,9 @@ same_rows l m v b x s back on e h =
           stands_voted l v b x s (row_votes l v b x s r.0 (back r.0 r.1) r.2)
       | inr k ↦
           stands_open l v b x s
-          (false_from_ne_true (voted l v b s) (λ (t : voted l v b s ≡ true).
+          (false_from_ne_true (site_voted l v b s) (λ (t : site_voted l v b s ≡ true).
           let r : (r : Acceptor) × (y : Name) × IsRowOf l s r × IsVote (r v) b y = voted_row l v b s t in
-          both_ways (voted m v b s) k.0 (row_voted m v b r.1 s r.0 (on r.0 r.2) r.3)))
+          both_ways (site_voted m v b s) k.0 (row_voted m v b r.1 s r.0 (on r.0 r.2) r.3)))
           (subst (λ (r : Acceptor). LetsIn (r v) b) e k.1)
     ]
 
@@ -39,7 +39,7 @@ same_rows l m v b x s back on e h =
 show_back : (l : Ledger) (t s : ℕ) (r : Acceptor) → IsRowOf (moved l (Shows t)) s r → IsRowOf l s r
 show_back l t s r (inl e) = inl e
 show_back l t s r (inr (e, inl p, q, w)) =
-    inl (sym w ∙ (ap (λ (f : Seen). f.row) p ∙ ap l.told (sym (ap (λ (f : Seen). f.site) p) ∙ q)))
+    inl (sym w ∙ (ap (λ (f : RowSeen). f.row) p ∙ ap l.told (sym (ap (λ (f : RowSeen). f.site) p) ∙ q)))
 show_back l t s r (inr (e, inr i, q, w)) = inr (e, i, q, w)
 
 show_on : (l : Ledger) (t s : ℕ) (r : Acceptor) → IsRowOf l s r → IsRowOf (moved l (Shows t)) s r
@@ -81,7 +81,7 @@ take_seen cfg l w r so i e (inl p) =
     inr (f.0, f.1, f.2, f.3 ∙ (sym e ∙ sym p))
 take_seen cfg l w r so i e (inr f) = inr f
 
-fresh_unvoted : (cfg : Config) (l : Ledger) → IsSound cfg l → (v : ℕ) (b p : BallotAt) (x : Name) (s : ℕ) (old : Option (BallotAt × Name)) → l.told s v ≡ OpenAt p old → IsUnder old (b, x) → voted l v b s ≡ true → ⊥
+fresh_unvoted : (cfg : Config) (l : Ledger) → IsSound cfg l → (v : ℕ) (b p : BallotAt) (x : Name) (s : ℕ) (old : Option (BallotAt × Name)) → l.told s v ≡ OpenAt p old → IsUnder old (b, x) → site_voted l v b s ≡ true → ⊥
 fresh_unvoted cfg l so v b p x s old is under t =
     let r : (r : Acceptor) × (y : Name) × IsRowOf l s r × IsVote (r v) b y = voted_row l v b s t in
     elim (advance (r.0 v) (l.told s v) r.3.0 p (Some (b, r.1)) old r.3.1 is (row_toward cfg l so s r.0 r.2 v)).vote [
@@ -94,7 +94,7 @@ under_fast None b x u f = refl
 under_fast (Some o) b x u f = absurd (both_ways (is_below o.0 b) (subst (λ (c : BallotAt). is_below o.0 c ≡ false) (sym (same_means b fast f)) (below_fast o.0)) u)
 
 -- a new vote is one for which the site stood
-new_stands : (cfg : Config) (l : Ledger) (s : ℕ) (r : Acceptor) → IsSound cfg l → Follows (l.told s) r → (v : ℕ) (b : BallotAt) (x : Name) → IsVote (r v) b x → stands l v b x s ≡ true
+new_stands : (cfg : Config) (l : Ledger) (s : ℕ) (r : Acceptor) → IsSound cfg l → Follows (l.told s) r → (v : ℕ) (b : BallotAt) (x : Name) → IsVote (r v) b x → standing_votes l v b x s ≡ true
 new_stands cfg l s r so f v b x h =
     let o : (p : BallotAt) × (old : Option (BallotAt × Name)) × (l.told s v ≡ OpenAt p old) = open_before (l.told s v) (r v) h.0 (Some (b, x)) h.1 (f v) in
     elim (advance (l.told s v) (r v) o.0 h.0 o.1 (Some (b, x)) o.2 h.1 (f v)).vote [
@@ -103,7 +103,7 @@ new_stands cfg l s r so f v b x h =
           let vote : (b, x) ≡ n.vote = same_Some (b, x) n.vote n.is in
           let under : IsUnder o.1 (b, x) = subst (λ (u : BallotAt × Name). IsUnder o.1 u) (sym vote) n.over in
           stands_open l v b x s
-          (false_from_ne_true (voted l v b s) (fresh_unvoted cfg l so v b o.0 x s o.1 o.2 under))
+          (false_from_ne_true (site_voted l v b s) (fresh_unvoted cfg l so v b o.0 x s o.1 o.2 under))
           (record { promise = o.0; vote = o.1; is = o.2; at = subst (λ (u : BallotAt × Name). is_below u.0 o.0 ≡ false) (sym vote) n.above; none = under_fast o.1 b x under })
     ]
 
@@ -118,7 +118,7 @@ lets_before a c b f h =
     let g : Advances o.0 o.1 h.promise h.vote = advance a c o.0 h.promise o.1 h.vote o.2 h.is f in
     record { promise = o.0; vote = o.1; is = o.2; at = not_below_trans b h.promise o.0 h.at g.promise; none = λ (e : same_ballot b fast ≡ true). old_none o.0 o.1 h.vote g.vote (h.none e) }
 
-take_here : (cfg : Config) (l : Ledger) (w : Write) → IsSound cfg l → IsIn w l.sent → l.told w.site ≡ w.before → (v : ℕ) (b : BallotAt) (x : Name) → stands (moved l (Takes w)) v b x w.site ≡ true → stands l v b x w.site ≡ true
+take_here : (cfg : Config) (l : Ledger) (w : Write) → IsSound cfg l → IsIn w l.sent → l.told w.site ≡ w.before → (v : ℕ) (b : BallotAt) (x : Name) → standing_votes (moved l (Takes w)) v b x w.site ≡ true → standing_votes l v b x w.site ≡ true
 take_here cfg l w so i e v b x h =
     let f : Follows (l.told w.site) w.after = take_follows cfg l w so i e in
     let now : with_acceptor l.told w.site w.after w.site ≡ w.after = acceptor_same l.told w.site w.site w.after refl in
@@ -131,9 +131,9 @@ take_here cfg l w so i e v b x h =
           ]
       | inr k ↦
           stands_open l v b x w.site
-          (false_from_ne_true (voted l v b w.site) (λ (t : voted l v b w.site ≡ true).
+          (false_from_ne_true (site_voted l v b w.site) (λ (t : site_voted l v b w.site ≡ true).
           let r : (r : Acceptor) × (y : Name) × IsRowOf l w.site r × IsVote (r v) b y = voted_row l v b w.site t in
-          both_ways (voted (moved l (Takes w)) v b w.site) k.0 (row_voted (moved l (Takes w)) v b r.1 w.site r.0 (take_seen cfg l w r.0 so i e r.2) r.3)))
+          both_ways (site_voted (moved l (Takes w)) v b w.site) k.0 (row_voted (moved l (Takes w)) v b r.1 w.site r.0 (take_seen cfg l w r.0 so i e r.2) r.3)))
           (lets_before (l.told w.site v) (w.after v) b (f v) (subst (λ (q : Acceptor). LetsIn (q v) b) now k.1))
     ]
 
@@ -142,7 +142,7 @@ pub shrinks_take : (cfg : Config) (l : Ledger) (w : Write) → IsSound cfg l →
 shrinks_take cfg l w so i e v b x s h =
     elim (cases_eq s w.site) [
       | inl p ↦
-          subst (λ (t : ℕ). stands l v b x t ≡ true) (sym p)
-          (take_here cfg l w so i e v b x (subst (λ (t : ℕ). stands (moved l (Takes w)) v b x t ≡ true) p h))
+          subst (λ (t : ℕ). standing_votes l v b x t ≡ true) (sym p)
+          (take_here cfg l w so i e v b x (subst (λ (t : ℕ). standing_votes (moved l (Takes w)) v b x t ≡ true) p h))
       | inr ne ↦ same_rows l (moved l (Takes w)) v b x s (λ (r : Acceptor). take_back l w s r ne) (λ (r : Acceptor). take_on l w s r ne) (acceptor_other l.told w.site s w.after ne) h
     ]

@@ -5,7 +5,7 @@ use Rattle.std.proofs.lemmas.Option.{none-some, same_Some}
 use Rattle.gz_config.specs.declared.Config.{Config}
 use Rattle.gz_ledger.specs.Acceptors.{new_acceptor}
 use Rattle.gz_ledger.specs.Histories.{IsIn}
-use Rattle.gz_ledger.specs.Deeds.{Stored, Answered, Asked, Store, empty_store, Deed, Reads, Begins, Written, Failed, Elsewhere, etag_of, acceptor_of, answer_of, answer_to, with_site, kept_after, done, CanWrite, CanDo, after_deeds, AreDeeds}
+use Rattle.gz_ledger.specs.Transitions.{Stored, Answered, WriteSent, Store, empty_store, Transition, Reads, Begins, Written, Failed, Elsewhere, stored_etag, acceptor_of, stored_answer, answer_to, with_site, kept_after, done, CanWrite, CanDo, after_transitions, AreTransitions}
 
 -- what the store keeps
 pub record IsKept (st : Store) : Type 0 where
@@ -22,12 +22,12 @@ pub site_other : {A : Type 0} (f : ℕ → A) (s t : ℕ) (x : A) → (t ≡ s �
 site_other f s t x ne = cond-false (t == s) x (f t) (ne_eqb t s ne)
 
 -- a tag is that of a row that is kept
-tag_kept : (o : Option Stored) (e : ℕ) → etag_of o ≡ Some e → (k : Stored) × (o ≡ Some k) × (k.etag ≡ e)
+tag_kept : (o : Option Stored) (e : ℕ) → stored_etag o ≡ Some e → (k : Stored) × (o ≡ Some k) × (k.etag ≡ e)
 tag_kept None e h = absurd (none-some e h)
 tag_kept (Some k) e h = (k, refl, same_Some k.etag e h)
 
 -- no tag is that of a new acceptor
-tag_none : (o : Option Stored) → etag_of o ≡ None → acceptor_of o ≡ new_acceptor
+tag_none : (o : Option Stored) → stored_etag o ≡ None → acceptor_of o ≡ new_acceptor
 tag_none None h = refl
 tag_none (Some k) h = absurd (none-some k.etag (sym h))
 
@@ -46,12 +46,12 @@ with_reply st r = record { stored = st.stored; used = st.used; replies = r ∷ s
 
 -- the reply shows what its site keeps
 record ShowsKept (st : Store) (r : Answered) : Type 0 where
-  tag : r.etag ≡ etag_of (st.stored r.site)
+  tag : r.etag ≡ stored_etag (st.stored r.site)
   row : r.row ≡ acceptor_of (st.stored r.site)
 
 new_used : (st : Store) (n r : Answered) (e : ℕ) → IsKept st → ShowsKept st n → r ≡ n → r.etag ≡ Some e → e ≤ st.used r.site
 new_used st n r e k sh p h =
-    let tag : etag_of (st.stored n.site) ≡ Some e = sym sh.tag ∙ (ap (λ (x : Answered). x.etag) (sym p) ∙ h) in
+    let tag : stored_etag (st.stored n.site) ≡ Some e = sym sh.tag ∙ (ap (λ (x : Answered). x.etag) (sym p) ∙ h) in
     let w : (x : Stored) × (st.stored n.site ≡ Some x) × (x.etag ≡ e) = tag_kept (st.stored n.site) e tag in
     subst (λ (x : Answered). e ≤ st.used x.site) (sym p) (subst (λ (x : ℕ). x ≤ st.used n.site) w.2 (k.stored_used n.site w.0 w.1))
 
@@ -96,7 +96,7 @@ kept_reply st n k sh = record {
 }
 
 -- a write that takes effect under a new tag
-kept_write : (st : Store) (a : Asked) (e : ℕ) → IsKept st → CanWrite st a e → IsKept (done st (Failed a e))
+kept_write : (st : Store) (a : WriteSent) (e : ℕ) → IsKept st → CanWrite st a e → IsKept (done st (Failed a e))
 kept_write st a e k can = record {
   stored_used = λ (s : ℕ) (x : Stored) (h : kept_after st a e s ≡ Some x).
       elim (cases_eq s a.write.site) [
@@ -136,25 +136,25 @@ kept_elsewhere st s e k le = record {
       | inr ne ↦ omega (arith, site_other st.used s t e ne)
     ]
 
--- each deed keeps it
-kept_done : (cfg : Config) (st : Store) (d : Deed) → IsKept st → CanDo cfg st d → IsKept (done st d)
-kept_done cfg st (Reads s) k can = kept_reply st (answer_of st s) k (record { tag = refl; row = refl })
+-- each transition keeps it
+kept_done : (cfg : Config) (st : Store) (d : Transition) → IsKept st → CanDo cfg st d → IsKept (done st d)
+kept_done cfg st (Reads s) k can = kept_reply st (stored_answer st s) k (record { tag = refl; row = refl })
 kept_done cfg st (Begins heard a) k can = record { stored_used = k.stored_used; reply_used = k.reply_used; reply_stored = k.reply_stored; reply_none = k.reply_none; named = k.named }
 kept_done cfg st (Written a e) k can =
     let now : kept_after st a e a.write.site ≡ Some (record { etag = e; row = a.write.after }) = site_same st.stored a.write.site a.write.site (Some (record { etag = e; row = a.write.after })) refl in
-    kept_reply (done st (Failed a e)) (answer_to a e) (kept_write st a e k can) (record { tag = ap etag_of (sym now); row = ap acceptor_of (sym now) })
+    kept_reply (done st (Failed a e)) (answer_to a e) (kept_write st a e k can) (record { tag = ap stored_etag (sym now); row = ap acceptor_of (sym now) })
 kept_done cfg st (Failed a e) k can = kept_write st a e k can
 kept_done cfg st (Elsewhere s e) k can = kept_elsewhere st s e k can
 
 -- every run over tagged rows
-pub kept : (cfg : Config) (used : ℕ → ℕ) (ds : List Deed) → AreDeeds cfg used ds → IsKept (after_deeds used ds)
+pub kept : (cfg : Config) (used : ℕ → ℕ) (ds : List Transition) → AreTransitions cfg used ds → IsKept (after_transitions used ds)
 kept cfg used [] a = kept_empty used
-kept cfg used (d ∷ ds) a = kept_done cfg (after_deeds used ds) d (kept cfg used ds a.0) a.1
+kept cfg used (d ∷ ds) a = kept_done cfg (after_transitions used ds) d (kept cfg used ds a.0) a.1
 
 -- a row that was shown under the tag under which its site's row stands is that row
-pub shown_stands : (st : Store) (r : Answered) → IsKept st → IsIn r st.replies → etag_of (st.stored r.site) ≡ r.etag → acceptor_of (st.stored r.site) ≡ r.row
+pub shown_stands : (st : Store) (r : Answered) → IsKept st → IsIn r st.replies → stored_etag (st.stored r.site) ≡ r.etag → acceptor_of (st.stored r.site) ≡ r.row
 shown_stands st r k i e = stands_at (st.stored r.site) refl e
   where
-    stands_at : (o : Option Stored) → st.stored r.site ≡ o → etag_of o ≡ r.etag → acceptor_of o ≡ r.row
+    stands_at : (o : Option Stored) → st.stored r.site ≡ o → stored_etag o ≡ r.etag → acceptor_of o ≡ r.row
     stands_at None is tag = sym (k.reply_none r i (sym tag))
     stands_at (Some x) is tag = sym (k.reply_stored r x i is (sym tag))

@@ -8,8 +8,8 @@ use Rattle.gz_core.specs.declared.slots.Slot.TheVariants.{DecidedAs}
 use Rattle.gz_config.specs.declared.Config.{Config}
 use Rattle.gz_model.specs.Choosing.{IsSafe}
 use Rattle.gz_ledger.specs.Acceptors.{HasValue}
-use Rattle.gz_ledger.specs.Histories.{IsIn, Seen, Write, cast, IsChosenAt, IsShown, IsCurrent, VotesFor, IsProposed}
-use Rattle.gz_ledger.specs.Ledgers.{Ledger, Move, Shows, Sends, Takes, after_moves, AreMoves, votes, stands, backs, late_seen}
+use Rattle.gz_ledger.specs.Histories.{IsIn, RowSeen, Write, cast, IsChosenAt, IsShownByRows, IsCurrentByRows, VotesFor, IsProposed}
+use Rattle.gz_ledger.specs.Ledgers.{Ledger, Move, Shows, Sends, Takes, after_moves, AreMoves, votes, standing_votes, backs, late_seen}
 
 -- the sizes of the quorums are right
 abbrev pub HasQuorums : Config → Type 0
@@ -18,27 +18,27 @@ HasQuorums cfg = AreQuorums cfg.n cfg.qc cfg.qf
 -- agreement in one ledger
 pub record IsAgreed (cfg : Config) (l : Ledger) : Type 0 where
   -- each vote of a classic ballot that was sent is safe
-  pub safe : (w : Write) (v : ℕ) (b : BallotAt) (x : Name) → IsIn w l.sent → w.act ≡ VotesClassic v b x → IsSafe cfg.n cfg.qc cfg.qf (stands l v) b x
+  pub safe : (w : Write) (v : ℕ) (b : BallotAt) (x : Name) → IsIn w l.sent → w.act ≡ VotesClassic v b x → IsSafe cfg.n cfg.qc cfg.qf (standing_votes l v) b x
   -- so is each that stands or was shown
-  pub standing : (v : ℕ) (b : BallotAt) (x : Name) (s : ℕ) → same_ballot b fast ≡ false → votes l v b x s ≡ true → IsSafe cfg.n cfg.qc cfg.qf (stands l v) b x
+  pub standing : (v : ℕ) (b : BallotAt) (x : Name) (s : ℕ) → same_ballot b fast ≡ false → votes l v b x s ≡ true → IsSafe cfg.n cfg.qc cfg.qf (standing_votes l v) b x
   -- each vote is for a value that its own call proposed at that version
   pub proposed : (v : ℕ) (b : BallotAt) (x : Name) (s : ℕ) → votes l v b x s ≡ true → IsProposed l.sent v x
-  -- a vote that was shown at a version tells that a value is chosen at the one before
+  -- a vote that was shown at a version shows that a value is chosen at the one before
   pub chained : (v : ℕ) (b : BallotAt) (x : Name) (s : ℕ) → 1 ≤ v → cast l.seen (suc v) b x s ≡ true → (y : Name) × IsChosenAt cfg l.seen v y
   -- what is shown is chosen, and its own call proposed it at that version
-  pub chosen : (v : ℕ) (x : Name) → IsShown cfg l.seen v x → IsChosenAt cfg l.seen v x × IsProposed l.sent v x
+  pub chosen : (v : ℕ) (x : Name) → IsShownByRows cfg l.seen v x → IsChosenAt cfg l.seen v x × IsProposed l.sent v x
   -- one value is shown at a version
-  pub one : (v : ℕ) (x y : Name) → IsShown cfg l.seen v x → IsShown cfg l.seen v y → x ≡ y
+  pub one : (v : ℕ) (x y : Name) → IsShownByRows cfg l.seen v x → IsShownByRows cfg l.seen v y → x ≡ y
   -- a value is shown at one version
-  pub once : (u v : ℕ) (x : Name) → IsShown cfg l.seen u x → IsShown cfg l.seen v x → u ≡ v
+  pub once : (u v : ℕ) (x : Name) → IsShownByRows cfg l.seen u x → IsShownByRows cfg l.seen v x → u ≡ v
   -- a vote or a decision that was shown tells that a value is chosen at each version below
-  pub settled : (e : Seen) (v w : ℕ) → IsIn e l.seen → 1 ≤ v → v < w → HasValue (e.row w) → (y : Name) × IsChosenAt cfg l.seen v y
+  pub settled : (e : RowSeen) (v w : ℕ) → IsIn e l.seen → 1 ≤ v → v < w → HasValue (e.row w) → (y : Name) × IsChosenAt cfg l.seen v y
   -- a value that a site has at a version tells that a value is chosen at the one before
   pub founded : (v s : ℕ) → 1 ≤ v → HasValue (l.told s (suc v)) → (y : Name) × IsChosenAt cfg l.seen v y
   -- what a site has decided is chosen
   pub decided : (v s : ℕ) (x : Name) → l.told s v ≡ DecidedAs x → IsChosenAt cfg l.seen v x
   -- what is shown is backed by the rows of a classic quorum
-  pub backed : (v : ℕ) (x : Name) → IsShown cfg l.seen v x → cfg.qc ≤ count_sites cfg.n (backs l v x)
+  pub backed : (v : ℕ) (x : Name) → IsShownByRows cfg l.seen v x → cfg.qc ≤ count_sites cfg.n (backs l v x)
 
 -- in every run
 abbrev pub Agreement : Type 0
@@ -46,12 +46,12 @@ Agreement = (cfg : Config) (ms : List Move) → HasQuorums cfg → AreMoves cfg 
 
 -- the version at which rows that a quorum showed afterwards are current is not below one at which a value was shown
 abbrev pub LatestIsCurrent : Type 0
-LatestIsCurrent = (cfg : Config) (late early : List Move) (u v : ℕ) (x : Name) → HasQuorums cfg → AreMoves cfg (late ++ early) → IsShown cfg (after_moves early).seen u x → IsCurrent cfg (late_seen late early) v → u ≤ v
+LatestIsCurrent = (cfg : Config) (late early : List Move) (u v : ℕ) (x : Name) → HasQuorums cfg → AreMoves cfg (late ++ early) → IsShownByRows cfg (after_moves early).seen u x → IsCurrentByRows cfg (late_seen late early) v → u ≤ v
 
 -- the call's first vote for its own value at a version is sent where late rows are current there
 abbrev pub IsCurrentMove : Config → Name → Move → List Move → List Move → Type 0
 IsCurrentMove cfg call (Shows s) late early = Unit {0}
-IsCurrentMove cfg call (Sends w) late early = w.call ≡ call → (v : ℕ) → VotesFor w.act v call → IsProposed (after_moves (late ++ early)).sent v call ⊎ IsCurrent cfg (late_seen late early) v
+IsCurrentMove cfg call (Sends w) late early = w.call ≡ call → (v : ℕ) → VotesFor w.act v call → IsProposed (after_moves (late ++ early)).sent v call ⊎ IsCurrentByRows cfg (late_seen late early) v
 IsCurrentMove cfg call (Takes w) late early = Unit {0}
 
 abbrev pub AreCurrentMoves : Config → Name → List Move → List Move → Type 0
@@ -63,4 +63,4 @@ abbrev pub OwnIsAbove : Type 0
 OwnIsAbove =
     (cfg : Config) (call : Name) (late early : List Move) (u v : ℕ) (x : Name) → HasQuorums cfg → AreMoves cfg (late ++ early)
     → ((w : Write) → IsIn w (after_moves early).sent → w.call ≡ call → ⊥) → AreCurrentMoves cfg call late early
-    → IsShown cfg (after_moves early).seen u x → IsShown cfg (after_moves (late ++ early)).seen v call → u < v
+    → IsShownByRows cfg (after_moves early).seen u x → IsShownByRows cfg (after_moves (late ++ early)).seen v call → u < v

@@ -14,7 +14,7 @@ IsIn x [] = ⊥
 IsIn x (y ∷ ys) = (x ≡ y) ⊎ IsIn x ys
 
 -- a row that a reply showed, and its site
-pub record Seen : Type 0 where
+pub record RowSeen : Type 0 where
   pub site : ℕ
   pub row : Acceptor
 
@@ -27,49 +27,49 @@ pub record Write : Type 0 where
   pub after : Acceptor
 
 -- whether a row of this site was shown with this vote
-abbrev pub cast : List Seen → ℕ → BallotAt → Name → ℕ → Bool
+abbrev pub cast : List RowSeen → ℕ → BallotAt → Name → ℕ → Bool
 cast [] v b x s = false
 cast (e ∷ es) v b x s = ((e.site == s) && slot_votes (e.row v) b x) || cast es v b x s
 
 -- whether a row of this site was shown with a vote of this ballot
-abbrev pub cast_in : List Seen → ℕ → BallotAt → ℕ → Bool
+abbrev pub cast_in : List RowSeen → ℕ → BallotAt → ℕ → Bool
 cast_in [] v b s = false
 cast_in (e ∷ es) v b s = ((e.site == s) && slot_voted (e.row v) b) || cast_in es v b s
 
 -- a value is chosen at a version by the votes that were shown
-abbrev pub IsChosenAt : Config → List Seen → ℕ → Name → Type 0
+abbrev pub IsChosenAt : Config → List RowSeen → ℕ → Name → Type 0
 IsChosenAt cfg seen v x = IsChosenBy cfg.n cfg.qc cfg.qf (cast seen v) x
 
 -- a row was shown with a value decided at a version
-pub record IsDecidedAt (seen : List Seen) (v : ℕ) (x : Name) : Type 0 where
-  pub entry : Seen
+pub record IsDecidedAt (seen : List RowSeen) (v : ℕ) (x : Name) : Type 0 where
+  pub entry : RowSeen
   pub found : IsIn entry seen
   pub decided : entry.row v ≡ DecidedAs x
 
 -- a value is shown at a version: a quorum's votes in one ballot, or one decision
-abbrev pub IsShown : Config → List Seen → ℕ → Name → Type 0
-IsShown cfg seen v x = IsChosenAt cfg seen v x ⊎ IsDecidedAt seen v x
+abbrev pub IsShownByRows : Config → List RowSeen → ℕ → Name → Type 0
+IsShownByRows cfg seen v x = IsChosenAt cfg seen v x ⊎ IsDecidedAt seen v x
 
 -- a row was shown with a vote for a value at a version
-pub record IsVotedAt (seen : List Seen) (v : ℕ) (x : Name) : Type 0 where
-  pub entry : Seen
+pub record IsVotedAt (seen : List RowSeen) (v : ℕ) (x : Name) : Type 0 where
+  pub entry : RowSeen
   pub found : IsIn entry seen
   pub promise : BallotAt
   pub ballot : BallotAt
   pub votes : entry.row v ≡ OpenAt promise (Some (ballot, x))
 
 -- the sites of these rows
-abbrev pub sites_of : List Seen → List ℕ
-sites_of [] = []
-sites_of (e ∷ es) = e.site ∷ sites_of es
+abbrev pub sites_seen : List RowSeen → List ℕ
+sites_seen [] = []
+sites_seen (e ∷ es) = e.site ∷ sites_seen es
 
 -- the rows of a classic quorum have no vote and no decision above a version
-pub record IsCurrent (cfg : Config) (seen : List Seen) (v : ℕ) : Type 0 where
-  pub rows : List Seen
-  pub sites : AreSites cfg.n (sites_of rows)
+pub record IsCurrentByRows (cfg : Config) (seen : List RowSeen) (v : ℕ) : Type 0 where
+  pub rows : List RowSeen
+  pub sites : AreSites cfg.n (sites_seen rows)
   pub enough : cfg.qc ≤ length rows
-  pub found : (e : Seen) → IsIn e rows → IsIn e seen
-  pub quiet : (e : Seen) → IsIn e rows → IsQuiet e.row v
+  pub found : (e : RowSeen) → IsIn e rows → IsIn e seen
+  pub quiet : (e : RowSeen) → IsIn e rows → IsQuiet e.row v
 
 -- the step votes for this value at this version
 abbrev pub VotesFor : Act → ℕ → Name → Type 0

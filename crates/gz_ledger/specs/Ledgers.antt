@@ -6,13 +6,13 @@ use Rattle.gz_core.specs.Slots.{Makes}
 use Rattle.gz_config.specs.declared.Config.{Config}
 use Rattle.gz_model.specs.Choosing.{Votes}
 use Rattle.gz_ledger.specs.Acceptors.{Acceptor, new_acceptor, with_acceptor, slot_votes, slot_voted, slot_lets, slot_backs}
-use Rattle.gz_ledger.specs.Histories.{IsIn, Seen, Write, cast, cast_in}
+use Rattle.gz_ledger.specs.Histories.{IsIn, RowSeen, Write, cast, cast_in}
 use Rattle.gz_ledger.specs.Guards.{May}
 
 -- the row of each site, the rows that were shown, and the writes that were sent, the newest first
 pub record Ledger : Type 0 where
   pub told : ℕ → Acceptor
-  pub seen : List Seen
+  pub seen : List RowSeen
   pub sent : List Write
 
 -- nothing has happened
@@ -26,7 +26,7 @@ pub data Move : Type 0 where
   Takes : Write → Move
 
 -- a site's row
-abbrev pub row_of : Ledger → ℕ → Seen
+abbrev pub row_of : Ledger → ℕ → RowSeen
 row_of l s = record { site = s; row = l.told s }
 
 -- what a move makes of the ledger
@@ -37,7 +37,7 @@ moved l (Takes w) = record { told = with_acceptor l.told w.site w.after; seen = 
 
 -- a write may be sent that makes its step on a row that was shown, within the guards
 pub record CanSend (cfg : Config) (l : Ledger) (w : Write) : Type 0 where
-  pub shown : let e : Seen = record { site = w.site; row = w.before } in IsIn e l.seen
+  pub shown : let e : RowSeen = record { site = w.site; row = w.before } in IsIn e l.seen
   pub makes : Makes w.act w.before w.after
   pub may : May cfg l.seen l.sent w.call w.act
 
@@ -62,19 +62,19 @@ abbrev pub votes : Ledger → ℕ → Votes
 votes l v b x s = slot_votes (l.told s v) b x || cast l.seen v b x s
 
 -- whether a site voted in a ballot at a version
-abbrev pub voted : Ledger → ℕ → BallotAt → ℕ → Bool
-voted l v b s = slot_voted (l.told s v) b || cast_in l.seen v b s
+abbrev pub site_voted : Ledger → ℕ → BallotAt → ℕ → Bool
+site_voted l v b s = slot_voted (l.told s v) b || cast_in l.seen v b s
 
 -- whether a site stands for a value in a ballot at a version: it voted so, or did not vote and may yet
-abbrev pub stands : Ledger → ℕ → Votes
-stands l v b x s = votes l v b x s || (not (voted l v b s) && slot_lets (l.told s v) b)
+abbrev pub standing_votes : Ledger → ℕ → Votes
+standing_votes l v b x s = votes l v b x s || (not (site_voted l v b s) && slot_lets (l.told s v) b)
 
 -- whether a site's row backs a value at a version
 abbrev pub backs : Ledger → ℕ → Name → ℕ → Bool
 backs l v x s = slot_backs (l.told s v) x
 
 -- the rows that the late ones of these moves showed
-abbrev pub late_seen : List Move → List Move → List Seen
+abbrev pub late_seen : List Move → List Move → List RowSeen
 late_seen [] early = []
 late_seen (Shows s ∷ late) early = row_of (after_moves (late ++ early)) s ∷ late_seen late early
 late_seen (Sends w ∷ late) early = late_seen late early

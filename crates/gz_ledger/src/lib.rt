@@ -6,7 +6,7 @@
 ghost use Rattle.gz_ledger.specs.Agreements.{Agreement, LatestIsCurrent, OwnIsAbove};
 ghost use Rattle.gz_ledger.specs.Guards.{MayMore};
 ghost use Rattle.gz_ledger.specs.Runs.{OnePutRuns, OneRecoveryRuns};
-ghost use Rattle.gz_ledger.specs.Deeds.{DeedsAreMoves, TagsNameRows, StoreAgreement, LatestRowsAreCurrent, OwnRowsAreAbove, ShownIsForced};
+ghost use Rattle.gz_ledger.specs.Transitions.{TransitionsAreMoves, TagsNameRows, StoreAgreement, LatestRowsAreCurrent, OwnRowsAreAbove, ShownIsForced};
 
 /// In every run of the machine: each vote of a classic ballot is safe, one value is shown at a version and at one
 /// version only, what is shown is chosen and backed by a classic quorum's rows, and versions are chosen in their
@@ -25,7 +25,7 @@ pub fn may_more()
 
 /// Every run of tagged rows at sites is a run of the machine, and two replies of one site under one tag show one row.
 pub fn store_is_ledger()
-    ensures moves { DeedsAreMoves }
+    ensures moves { TransitionsAreMoves }
     ensures tags { TagsNameRows }
 {}
 

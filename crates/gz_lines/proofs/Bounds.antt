@@ -19,13 +19,13 @@ use Rattle.gz_lines.specs.declared.line.Reading.TheVariants.{Skipped, Faulty, Is
 use Rattle.gz_lines.specs.declared.verbs.Verb.{Verb}
 use Rattle.gz_lines.specs.declared.verbs.Verb.TheVariants as verbs
 use Rattle.gz_lines.specs.Texts.{fields, lines}
-use Rattle.gz_lines.specs.Fields.{number_of}
+use Rattle.gz_lines.specs.Fields.{number_field}
 use Rattle.gz_lines.specs.Faults.{with, or_bad}
 use Rattle.gz_lines.specs.Bytes.{next, generated, within, spelled, pair_of, generated_within, generated_by, generated_from, bytes_in}
 use Rattle.gz_lines.specs.Counts.{first_of, one_of, two_of, three_of, counted}
 use Rattle.gz_lines.specs.Verbs.{is_word, verb_of}
 use Rattle.gz_lines.specs.Grammar.{number_in, session_in, key_in, list_in, number_alone, session_alone, settle_without, settle_by, line_from, is_or_faulty, reading_for, reading_by, reading_of, read_line}
-use Rattle.gz_lines.specs.Schedule.{IsBounded, line_of, readings, Reads}
+use Rattle.gz_lines.specs.Schedule.{IsBoundedLine, line_of, readings, Reads}
 
 -- what follows from a value that was read has a property
 with-ok : {A B : Type 0} (r : Result A Fault) (f : A → Result B Fault) (P : B → Type 0) → ((a : A) → IfOk (f a) P) → IfOk (with r f) P
@@ -67,8 +67,8 @@ generated-small seed count =
 generated_by-small : (found : Option (List ℕ × List ℕ)) → IfOk (generated_by found) IsSmall
 generated_by-small None = tt
 generated_by-small (Some pair) =
-    with-ok (or_bad whys.Bytes (number_of pair.0)) (λ seed. with (or_bad whys.Bytes (number_of pair.1)) (λ count. generated_within seed count)) IsSmall
-    (λ seed. with-ok (or_bad whys.Bytes (number_of pair.1)) (λ count. generated_within seed count) IsSmall (λ count. generated-small seed count))
+    with-ok (or_bad whys.Bytes (number_field pair.0)) (λ seed. with (or_bad whys.Bytes (number_field pair.1)) (λ count. generated_within seed count)) IsSmall
+    (λ seed. with-ok (or_bad whys.Bytes (number_field pair.1)) (λ count. generated_within seed count) IsSmall (λ count. generated-small seed count))
 
 bytes_in-small : (field : List ℕ) → IfOk (bytes_in field) IsSmall
 bytes_in-small [] = tt
@@ -78,50 +78,50 @@ bytes_in-small (a ∷ b ∷ rest) =
     (with-ok (or_bad whys.Bytes (result_ok (decode_of rest))) within IsSmall within-small)
     (if-ok ((a == 103) && (b == 58)) (generated_from rest) (Err (Bad whys.Bytes)) IsSmall (generated_by-small (pair_of (slice_split (λ b. b == 58) rest))) tt)
 
-put-bounded : (fields : List (List ℕ)) → IfOk (line_from verbs.Put fields) IsBounded
+put-bounded : (fields : List (List ℕ)) → IfOk (line_from verbs.Put fields) IsBoundedLine
 put-bounded fields =
     let after : (List ℕ × List ℕ × List ℕ) → ℕ → List ℕ → Result Line Fault = λ p session key. with (bytes_in p.2) (λ bytes. Ok (Begin session (calls.Put key bytes))) in
-    counted-ok (three_of fields) (λ p. with (session_in p.0) (λ session. with (key_in p.1) (λ key. after p session key))) IsBounded
-    (λ p. with-ok (session_in p.0) (λ session. with (key_in p.1) (λ key. after p session key)) IsBounded
-    (λ session. with-ok (key_in p.1) (λ key. after p session key) IsBounded
-    (λ key. with-known (bytes_in p.2) (λ bytes. Ok (Begin session (calls.Put key bytes))) IsSmall IsBounded (bytes_in-small p.2) (λ bytes small. small))))
+    counted-ok (three_of fields) (λ p. with (session_in p.0) (λ session. with (key_in p.1) (λ key. after p session key))) IsBoundedLine
+    (λ p. with-ok (session_in p.0) (λ session. with (key_in p.1) (λ key. after p session key)) IsBoundedLine
+    (λ session. with-ok (key_in p.1) (λ key. after p session key) IsBoundedLine
+    (λ key. with-known (bytes_in p.2) (λ bytes. Ok (Begin session (calls.Put key bytes))) IsSmall IsBoundedLine (bytes_in-small p.2) (λ bytes small. small))))
 
-delete-bounded : (fields : List (List ℕ)) → IfOk (line_from verbs.Delete fields) IsBounded
+delete-bounded : (fields : List (List ℕ)) → IfOk (line_from verbs.Delete fields) IsBoundedLine
 delete-bounded fields =
-    counted-ok (two_of fields) (λ p. with (session_in p.0) (λ session. with (key_in p.1) (λ key. Ok (Begin session (calls.Delete key))))) IsBounded
-    (λ p. with-ok (session_in p.0) (λ session. with (key_in p.1) (λ key. Ok (Begin session (calls.Delete key)))) IsBounded
-    (λ session. with-ok (key_in p.1) (λ key. Ok (Begin session (calls.Delete key))) IsBounded (λ key. tt)))
+    counted-ok (two_of fields) (λ p. with (session_in p.0) (λ session. with (key_in p.1) (λ key. Ok (Begin session (calls.Delete key))))) IsBoundedLine
+    (λ p. with-ok (session_in p.0) (λ session. with (key_in p.1) (λ key. Ok (Begin session (calls.Delete key)))) IsBoundedLine
+    (λ session. with-ok (key_in p.1) (λ key. Ok (Begin session (calls.Delete key))) IsBoundedLine (λ key. tt)))
 
-get-bounded : (fields : List (List ℕ)) → IfOk (line_from verbs.Get fields) IsBounded
+get-bounded : (fields : List (List ℕ)) → IfOk (line_from verbs.Get fields) IsBoundedLine
 get-bounded fields =
-    counted-ok (two_of fields) (λ p. with (session_in p.0) (λ session. with (key_in p.1) (λ key. Ok (Begin session (calls.Get key))))) IsBounded
-    (λ p. with-ok (session_in p.0) (λ session. with (key_in p.1) (λ key. Ok (Begin session (calls.Get key)))) IsBounded
-    (λ session. with-ok (key_in p.1) (λ key. Ok (Begin session (calls.Get key))) IsBounded (λ key. tt)))
+    counted-ok (two_of fields) (λ p. with (session_in p.0) (λ session. with (key_in p.1) (λ key. Ok (Begin session (calls.Get key))))) IsBoundedLine
+    (λ p. with-ok (session_in p.0) (λ session. with (key_in p.1) (λ key. Ok (Begin session (calls.Get key)))) IsBoundedLine
+    (λ session. with-ok (key_in p.1) (λ key. Ok (Begin session (calls.Get key))) IsBoundedLine (λ key. tt)))
 
-reply-bounded : (fields : List (List ℕ)) → IfOk (line_from verbs.Reply fields) IsBounded
+reply-bounded : (fields : List (List ℕ)) → IfOk (line_from verbs.Reply fields) IsBoundedLine
 reply-bounded fields =
-    counted-ok (two_of fields) (λ p. with (number_in p.0) (λ n. with (number_in p.1) (λ which. Ok (Reply n which)))) IsBounded
-    (λ p. with-ok (number_in p.0) (λ n. with (number_in p.1) (λ which. Ok (Reply n which))) IsBounded
-    (λ n. with-ok (number_in p.1) (λ which. Ok (Reply n which)) IsBounded (λ which. tt)))
+    counted-ok (two_of fields) (λ p. with (number_in p.0) (λ n. with (number_in p.1) (λ which. Ok (Reply n which)))) IsBoundedLine
+    (λ p. with-ok (number_in p.0) (λ n. with (number_in p.1) (λ which. Ok (Reply n which))) IsBoundedLine
+    (λ n. with-ok (number_in p.1) (λ which. Ok (Reply n which)) IsBoundedLine (λ which. tt)))
 
 -- a line about one number
-number-bounded : (r : Result ℕ Fault) (f : ℕ → Line) → ((n : ℕ) → IsBounded (f n)) → IfOk (with r (λ n. Ok (f n))) IsBounded
-number-bounded r f h = with-ok r (λ n. Ok (f n)) IsBounded h
+number-bounded : (r : Result ℕ Fault) (f : ℕ → Line) → ((n : ℕ) → IsBoundedLine (f n)) → IfOk (with r (λ n. Ok (f n))) IsBoundedLine
+number-bounded r f h = with-ok r (λ n. Ok (f n)) IsBoundedLine h
 
-without-bounded : (found : Option (List ℕ × List ℕ × List ℕ)) → IfOk (settle_without found) IsBounded
+without-bounded : (found : Option (List ℕ × List ℕ × List ℕ)) → IfOk (settle_without found) IsBoundedLine
 without-bounded None = tt
 without-bounded (Some p) =
     let listed : ℕ → Result Line Fault = λ session. with (list_in p.2) (λ without. Ok (Settle session without)) in
-    with-ok (session_in p.0) (λ session. if is_word (codes "without") p.1 then listed session else Err (Bad whys.Word)) IsBounded
-    (λ session. if-ok (is_word (codes "without") p.1) (listed session) (Err (Bad whys.Word)) IsBounded
-    (with-ok (list_in p.2) (λ without. Ok (Settle session without)) IsBounded (λ without. tt)) tt)
+    with-ok (session_in p.0) (λ session. if is_word (codes "without") p.1 then listed session else Err (Bad whys.Word)) IsBoundedLine
+    (λ session. if-ok (is_word (codes "without") p.1) (listed session) (Err (Bad whys.Word)) IsBoundedLine
+    (with-ok (list_in p.2) (λ without. Ok (Settle session without)) IsBoundedLine (λ without. tt)) tt)
 
-settle-bounded : (one : Option (List ℕ)) (fields : List (List ℕ)) → IfOk (settle_by one fields) IsBounded
+settle-bounded : (one : Option (List ℕ)) (fields : List (List ℕ)) → IfOk (settle_by one fields) IsBoundedLine
 settle-bounded None fields = without-bounded (three_of fields)
 settle-bounded (Some field) fields = number-bounded (session_in field) (λ session. Settle session []) (λ session. tt)
 
-line-bounded : (verb : Verb) (fields : List (List ℕ)) → IfOk (line_from verb fields) IsBounded
-line-bounded verbs.Session fields = if-ok (length fields == 1) (Ok OpenSession) (Err (Bad whys.Count)) IsBounded tt tt
+line-bounded : (verb : Verb) (fields : List (List ℕ)) → IfOk (line_from verb fields) IsBoundedLine
+line-bounded verbs.Session fields = if-ok (length fields == 1) (Ok OpenSession) (Err (Bad whys.Count)) IsBoundedLine tt tt
 line-bounded verbs.Put fields = put-bounded fields
 line-bounded verbs.Delete fields = delete-bounded fields
 line-bounded verbs.Get fields = get-bounded fields
@@ -138,9 +138,9 @@ line-bounded verbs.Unbuilt fields = tt
 abbrev IsBoundedReading : Reading → Type 0
 IsBoundedReading Skipped = Unit {0}
 IsBoundedReading (Faulty fault) = Unit {0}
-IsBoundedReading (Is line) = IsBounded line
+IsBoundedReading (Is line) = IsBoundedLine line
 
-result-bounded : (r : Result Line Fault) → IfOk r IsBounded → IsBoundedReading (is_or_faulty r)
+result-bounded : (r : Result Line Fault) → IfOk r IsBoundedLine → IsBoundedReading (is_or_faulty r)
 result-bounded (Ok line) h = h
 result-bounded (Err fault) h = tt
 
@@ -162,19 +162,19 @@ read_line-bounded (b ∷ bs) =
     let found = fields (b ∷ bs) in
     skip-bounded (b == 35) (reading_of found) (reading_by-bounded (first_of found) found)
 
-one-more : (r : Reading) (rest : List Reading) → IsBoundedReading r → All IsBounded (filter_map line_of rest) → All IsBounded (filter_map line_of (r ∷ rest))
+one-more : (r : Reading) (rest : List Reading) → IsBoundedReading r → All IsBoundedLine (filter_map line_of rest) → All IsBoundedLine (filter_map line_of (r ∷ rest))
 one-more Skipped rest h all = all
 one-more (Faulty fault) rest h all = all
-one-more (Is line) rest h all = All-cons IsBounded line (filter_map line_of rest) h all
+one-more (Is line) rest h all = All-cons IsBoundedLine line (filter_map line_of rest) h all
 
-lines-bounded : (texts : List (List ℕ)) → All IsBounded (filter_map line_of (map read_line texts))
-lines-bounded [] = All-nil IsBounded
+lines-bounded : (texts : List (List ℕ)) → All IsBoundedLine (filter_map line_of (map read_line texts))
+lines-bounded [] = All-nil IsBoundedLine
 lines-bounded (text ∷ texts) = one-more (read_line text) (map read_line texts) (read_line-bounded text) (lines-bounded texts)
 
-bounded-lines : (text : List ℕ) (found : List Line) → found ≡ filter_map line_of (readings text) → All IsBounded found
-bounded-lines text found same = subst (λ (ls : List Line). All IsBounded ls) (sym same) (lines-bounded (lines text))
+bounded-lines : (text : List ℕ) (found : List Line) → found ≡ filter_map line_of (readings text) → All IsBoundedLine found
+bounded-lines text found same = subst (λ (ls : List Line). All IsBoundedLine ls) (sym same) (lines-bounded (lines text))
 
 -- the lines that were read keep to the bounds
-pub reads_bounded : (text : List ℕ) (result : Result (Vec Line Global) TextError) → Reads (readings text) result → IfOk result (λ found. All IsBounded found.items)
+pub reads_bounded : (text : List ℕ) (result : Result (Vec Line Global) TextError) → Reads (readings text) result → IfOk result (λ found. All IsBoundedLine found.items)
 reads_bounded text (Ok found) read = bounded-lines text found.items read.1
 reads_bounded text (Err error) read = tt

@@ -12,31 +12,31 @@ abbrev pub value_of : List ℕ → ℕ
 value_of digits = fold (λ n d. n * 10 + (d - 48)) 0 digits
 
 -- a number below 2^32
-abbrev pub number_of : List ℕ → Option ℕ
-number_of field = if is_numeral field && nat_lt (value_of field) (2 ^ 32) then Some (value_of field) else None
+abbrev pub number_field : List ℕ → Option ℕ
+number_field field = if is_numeral field && nat_lt (value_of field) (2 ^ 32) then Some (value_of field) else None
 
 -- a number that is at least 1
 abbrev pub from_one : ℕ → Option ℕ
 from_one n = if nat_le 1 n then Some n else None
 
 -- the number of a session
-abbrev pub session_of : List ℕ → Option ℕ
-session_of field = option_and_then from_one (number_of field)
+abbrev pub session_field : List ℕ → Option ℕ
+session_field field = option_and_then from_one (number_field field)
 
 -- a site: a number below 16
 abbrev pub below_sixteen : ℕ → Option ℕ
 below_sixteen n = if nat_lt n 16 then Some n else None
 
 abbrev pub site_of : List ℕ → Option ℕ
-site_of field = option_and_then below_sixteen (number_of field)
+site_of field = option_and_then below_sixteen (number_field field)
 
 -- the sites of a list, where each of its parts is one
 abbrev pub sites_in : List (List ℕ) → Option (List ℕ)
 sites_in parts = if length (filter_map site_of parts) == length parts then Some (filter_map site_of parts) else None
 
 -- one or more sites with commas between
-abbrev pub sites_of : List ℕ → Option (List ℕ)
-sites_of field = sites_in (slice_split (λ b. b == 44) field)
+abbrev pub sites_field : List ℕ → Option (List ℕ)
+sites_field field = sites_in (slice_split (λ b. b == 44) field)
 
 -- a printable character of ASCII that is no blank
 abbrev pub is_printable : ℕ → Bool
@@ -46,5 +46,5 @@ is_printable b = nat_le 0x21 b && nat_le b 0x7e
 abbrev pub is_key_field : List ℕ → Bool
 is_key_field field = nat_le 1 (length field) && nat_le (length field) 255 && list_all is_printable field
 
-abbrev pub key_of : List ℕ → Option (List ℕ)
-key_of field = if is_key_field field then Some field else None
+abbrev pub key_field : List ℕ → Option (List ℕ)
+key_field field = if is_key_field field then Some field else None

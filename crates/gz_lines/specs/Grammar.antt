@@ -11,7 +11,7 @@ use Rattle.gz_lines.specs.declared.line.Reading.TheVariants.{Skipped, Faulty, Is
 use Rattle.gz_lines.specs.declared.verbs.Verb.{Verb}
 use Rattle.gz_lines.specs.declared.verbs.Verb.TheVariants as verbs
 use Rattle.gz_lines.specs.Texts.{fields}
-use Rattle.gz_lines.specs.Fields.{number_of, session_of, sites_of, key_of}
+use Rattle.gz_lines.specs.Fields.{number_field, session_field, sites_field, key_field}
 use Rattle.gz_lines.specs.Faults.{with, or_bad}
 use Rattle.gz_lines.specs.Bytes.{bytes_in}
 use Rattle.gz_lines.specs.Counts.{first_of, one_of, two_of, three_of, counted}
@@ -19,16 +19,16 @@ use Rattle.gz_lines.specs.Verbs.{is_word, verb_of}
 
 -- a field as what it should be, or its fault
 abbrev pub number_in : List ℕ → Result ℕ Fault
-number_in field = or_bad whys.Number (number_of field)
+number_in field = or_bad whys.Number (number_field field)
 
 abbrev pub session_in : List ℕ → Result ℕ Fault
-session_in field = or_bad whys.Number (session_of field)
+session_in field = or_bad whys.Number (session_field field)
 
 abbrev pub key_in : List ℕ → Result (List ℕ) Fault
-key_in field = or_bad whys.Key (key_of field)
+key_in field = or_bad whys.Key (key_field field)
 
 abbrev pub list_in : List ℕ → Result (List ℕ) Fault
-list_in field = or_bad whys.List (sites_of field)
+list_in field = or_bad whys.List (sites_field field)
 
 -- the one number, or session, of a line
 abbrev pub number_alone : List (List ℕ) → Result ℕ Fault

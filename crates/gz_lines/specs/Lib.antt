@@ -1,8 +1,8 @@
-pub mod Texts
-pub mod Fields
-pub mod Faults
 pub mod Bytes
 pub mod Counts
-pub mod Verbs
+pub mod Faults
+pub mod Fields
 pub mod Grammar
 pub mod Schedule
+pub mod Texts
+pub mod Verbs

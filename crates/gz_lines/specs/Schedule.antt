@@ -14,16 +14,16 @@ use Rattle.gz_lines.specs.Texts.{lines}
 use Rattle.gz_lines.specs.Grammar.{read_line}
 
 -- the line's call keeps to the bounds of an object
-abbrev pub IsBounded : Line → Type 0
-IsBounded OpenSession = Unit {0}
-IsBounded (Begin session call) = IsWithin call
-IsBounded (Deliver n) = Unit {0}
-IsBounded (Reply n which) = Unit {0}
-IsBounded (GiveUp n) = Unit {0}
-IsBounded (Crash session) = Unit {0}
-IsBounded (Take n) = Unit {0}
-IsBounded (Settle session without) = Unit {0}
-IsBounded (Drain session) = Unit {0}
+abbrev pub IsBoundedLine : Line → Type 0
+IsBoundedLine OpenSession = Unit {0}
+IsBoundedLine (Begin session call) = IsWithin call
+IsBoundedLine (Deliver n) = Unit {0}
+IsBoundedLine (Reply n which) = Unit {0}
+IsBoundedLine (GiveUp n) = Unit {0}
+IsBoundedLine (Crash session) = Unit {0}
+IsBoundedLine (Take n) = Unit {0}
+IsBoundedLine (Settle session without) = Unit {0}
+IsBoundedLine (Drain session) = Unit {0}
 
 -- what the lines of a text read as
 abbrev pub readings : List ℕ → List Reading

@@ -22,7 +22,7 @@ pub fn lines<'a>(alloc: Global, text: &'a [u8]) -> Result<Vec<&'a [u8]>, AllocEr
     lines_of(alloc, parts.as_slice())
 }
 
-// The lines of the parts between LFs.
+/// The lines of the parts between LFs.
 fn lines_of<'a>(alloc: Global, parts: &[&'a [u8]]) -> Result<Vec<&'a [u8]>, AllocError>
     ensures { IfOk result (λ v. map (λ x. x.now) v.items ≡ lines_of_parts (map (λ x. x.now) parts.now)) }
 {
@@ -36,7 +36,7 @@ fn lines_of<'a>(alloc: Global, parts: &[&'a [u8]]) -> Result<Vec<&'a [u8]>, Allo
     }
 }
 
-// The lines with the last part, which is no line where it is empty.
+/// The lines with the last part, which is no line where it is empty.
 fn with_last<'a>(mut lines: Vec<&'a [u8]>, last: &'a [u8]) -> Result<Vec<&'a [u8]>, AllocError>
     ensures { IfOk result (λ v. map (λ x. x.now) v.items ≡ map (λ x. x.now) lines.entry.items ++ last_line last.now) }
 {
@@ -46,7 +46,7 @@ fn with_last<'a>(mut lines: Vec<&'a [u8]>, last: &'a [u8]) -> Result<Vec<&'a [u8
     Ok(lines)
 }
 
-// The lines that an LF ends.
+/// The lines that an LF ends.
 fn ended_lines<'a>(alloc: Global, parts: &[&'a [u8]]) -> Result<Vec<&'a [u8]>, AllocError>
     ensures { IfOk result (λ v. map (λ x. x.now) v.items ≡ map without_return (map (λ x. x.now) parts.now)) }
 {
@@ -57,7 +57,7 @@ fn ended_lines<'a>(alloc: Global, parts: &[&'a [u8]]) -> Result<Vec<&'a [u8]>, A
     Ok(lines)
 }
 
-// The line without the one carriage return at its end.
+/// The line without the one carriage return at its end.
 fn without_return<'a>(line: &'a [u8]) -> &'a [u8]
     ensures { result.now ≡ without_return line.now }
 {

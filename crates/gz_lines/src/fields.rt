@@ -2,16 +2,16 @@
 ghost use Rattle.std.specs.Prelude.{◌≡◌, ◌==◌, ◌<◌, ◌≤◌, ◌^◌, IfOk, IsTrue, min, slice_index, map, filter_map};
 ghost use Rattle.std.specs.List.{list_all};
 ghost use Rattle.std.specs.Char.{is_ascii_digit};
-ghost use Rattle.gz_lines.specs.Fields.{is_numeral, value_of, number_of, from_one, session_of, site_of, sites_of, is_printable, is_key_field, key_of};
+ghost use Rattle.gz_lines.specs.Fields.{is_numeral, value_of, number_field, from_one, session_field, site_of, sites_field, is_printable, is_key_field, key_field};
 
 use crate::cut;
 use gz_core::{Items, Key, Session, SiteId};
 use std::alloc::{AllocError, Global};
 
-// One more than the greatest number of a field.
+/// One more than the greatest number of a field.
 const NUMBERS: u64 = 1 << 32;
 
-// Whether the field is decimal digits without leading zeros, except 0 itself.
+/// Whether the field is decimal digits without leading zeros, except 0 itself.
 fn is_numeral(field: &[u8]) -> bool
     ensures { result ≡ is_numeral field.now }
 {
@@ -24,7 +24,7 @@ fn are_digits(field: &[u8]) -> bool
     field.iter().all(|byte| byte.is_ascii_digit())
 }
 
-// The first byte, 0 where there is none.
+/// The first byte, 0 where there is none.
 fn first(field: &[u8]) -> u8
     ensures { result ≡ slice_index field.now 0 }
 {
@@ -34,7 +34,7 @@ fn first(field: &[u8]) -> u8
     }
 }
 
-// The number that decimal digits spell, or 2^32 where it is greater.
+/// The number that decimal digits spell, or 2^32 where it is greater.
 fn value(digits: &[u8]) -> u64
     requires { IsTrue (is_numeral digits.now) }
     ensures { result ≡ min (value_of digits.now) (2 ^ 32) }
@@ -48,7 +48,7 @@ fn value(digits: &[u8]) -> u64
 
 /// A number from 0 to 4294967295.
 pub fn number(field: &[u8]) -> Option<u32>
-    ensures { result ≡ number_of field.now }
+    ensures { result ≡ number_field field.now }
 {
     if !is_numeral(field) {
         return None;
@@ -63,7 +63,7 @@ pub fn number(field: &[u8]) -> Option<u32>
 
 /// A session: a number from 1 on.
 pub fn session(field: &[u8]) -> Option<Session>
-    ensures { result ≡ session_of field.now }
+    ensures { result ≡ session_field field.now }
 {
     let number = number(field)?;
     session_numbered(number)
@@ -80,7 +80,7 @@ pub fn session_numbered(number: u32) -> Option<Session>
     }
 }
 
-// A site: a number below 16.
+/// A site: a number below 16.
 fn site(field: &[u8]) -> Option<SiteId>
     ensures { result ≡ site_of field.now }
 {
@@ -92,7 +92,7 @@ fn site(field: &[u8]) -> Option<SiteId>
     }
 }
 
-// The sites among the parts of a list.
+/// The sites among the parts of a list.
 fn sites_among(alloc: Global, parts: &[&[u8]]) -> Result<Vec<SiteId>, AllocError>
     ensures { IfOk result (λ sites. sites.items ≡ filter_map site_of (map (λ x. x.now) parts.now)) }
 {
@@ -107,7 +107,7 @@ fn sites_among(alloc: Global, parts: &[&[u8]]) -> Result<Vec<SiteId>, AllocError
 
 /// A list: one or more sites with commas between.
 pub fn sites(alloc: Global, field: &[u8]) -> Result<Option<Items<SiteId>>, AllocError>
-    ensures { IfOk result (λ sites. sites ≡ sites_of field.now) }
+    ensures { IfOk result (λ sites. sites ≡ sites_field field.now) }
 {
     let parts = cut::parts(alloc, field, b',')?;
     let sites = sites_among(alloc, parts.as_slice())?;
@@ -118,7 +118,7 @@ pub fn sites(alloc: Global, field: &[u8]) -> Result<Option<Items<SiteId>>, Alloc
     }
 }
 
-// Whether the field is a key.
+/// Whether the field is a key.
 fn is_key(field: &[u8]) -> bool
     ensures { result ≡ is_key_field field.now }
 {
@@ -133,7 +133,7 @@ fn are_printable(field: &[u8]) -> bool
 
 /// A key.
 pub fn key(alloc: Global, field: &[u8]) -> Result<Option<Key>, AllocError>
-    ensures { IfOk result (λ key. key ≡ key_of field.now) }
+    ensures { IfOk result (λ key. key ≡ key_field field.now) }
 {
     if !is_key(field) {
         return Ok(None);

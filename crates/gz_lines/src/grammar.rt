@@ -28,7 +28,7 @@ pub fn read_line(alloc: Global, line: &[u8]) -> Result<Reading, AllocError>
     }
 }
 
-// The reading of a line's fields.
+/// The reading of a line's fields.
 fn reading(alloc: Global, fields: &[&[u8]]) -> Result<Reading, AllocError>
     ensures { IfOk result (λ reading. reading ≡ reading_of (map (λ x. x.now) fields.now)) }
 {
@@ -44,7 +44,7 @@ fn reading(alloc: Global, fields: &[&[u8]]) -> Result<Reading, AllocError>
     }
 }
 
-// The line of these fields, of which the first asks for it.
+/// The line of these fields, of which the first asks for it.
 fn line(alloc: Global, verb: Verb, fields: &[&[u8]]) -> Result<Result<Line, Fault>, AllocError>
     ensures { IfOk result (λ line. line ≡ line_from verb (map (λ x. x.now) fields.now)) }
 {
@@ -143,7 +143,7 @@ fn reply(fields: &[&[u8]]) -> Result<Line, Fault>
     Ok(Line::Reply { n, which })
 }
 
-// A call that is carried to its end, perhaps without some sites.
+/// A call that is carried to its end, perhaps without some sites.
 fn settle(alloc: Global, fields: &[&[u8]]) -> Result<Result<Line, Fault>, AllocError>
     ensures { IfOk result (λ line. line ≡ settle_line (map (λ x. x.now) fields.now)) }
 {
@@ -153,7 +153,7 @@ fn settle(alloc: Global, fields: &[&[u8]]) -> Result<Result<Line, Fault>, AllocE
     }
 }
 
-// A call that is carried to its end without some sites.
+/// A call that is carried to its end without some sites.
 fn settle_without(alloc: Global, fields: &[&[u8]]) -> Result<Result<Line, Fault>, AllocError>
     ensures { IfOk result (λ line. line ≡ settle_without (three_of (map (λ x. x.now) fields.now))) }
 {
@@ -174,7 +174,7 @@ fn settle_without(alloc: Global, fields: &[&[u8]]) -> Result<Result<Line, Fault>
     Ok(Ok(Line::Settle { session, without }))
 }
 
-// A key.
+/// A key.
 fn key_in(alloc: Global, field: &[u8]) -> Result<Result<Key, Fault>, AllocError>
     ensures { IfOk result (λ key. key ≡ key_in field.now) }
 {
@@ -184,7 +184,7 @@ fn key_in(alloc: Global, field: &[u8]) -> Result<Result<Key, Fault>, AllocError>
     }
 }
 
-// A list of sites.
+/// A list of sites.
 fn list_in(alloc: Global, field: &[u8]) -> Result<Result<Items<SiteId>, Fault>, AllocError>
     ensures { IfOk result (λ sites. sites ≡ list_in field.now) }
 {

@@ -20,7 +20,7 @@ pub enum Line {
         n: u32,
         which: u32,
     },
-    /// The client is told that a request won't be answered.
+    /// The client learns that a request won't be answered.
     GiveUp {
         n: u32,
     },

@@ -29,7 +29,7 @@ pub fn session(field: &[u8]) -> Result<Session, Fault>
     }
 }
 
-// The one number of a line.
+/// The one number of a line.
 fn number_alone(fields: &[&[u8]]) -> Result<u32, Fault>
     ensures { result ≡ number_alone (map (λ x. x.now) fields.now) }
 {
@@ -39,7 +39,7 @@ fn number_alone(fields: &[&[u8]]) -> Result<u32, Fault>
     }
 }
 
-// The one session of a line.
+/// The one session of a line.
 fn session_alone(fields: &[&[u8]]) -> Result<Session, Fault>
     ensures { result ≡ session_alone (map (λ x. x.now) fields.now) }
 {

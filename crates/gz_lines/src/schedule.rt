@@ -1,7 +1,7 @@
 //! A schedule: the lines that the program plays.
 ghost use Rattle.std.specs.Prelude.{◌≡◌, ◌<◌, ◌≤◌, ◌+◌, ◌-◌, ◌^◌, length, map, filter_map, IfOk, All};
 ghost use Rattle.gz_lines.specs.Grammar.{read_line};
-ghost use Rattle.gz_lines.specs.Schedule.{readings, IsBounded, Reads};
+ghost use Rattle.gz_lines.specs.Schedule.{readings, IsBoundedLine, Reads};
 
 use crate::cut;
 use crate::grammar::read_line;
@@ -14,7 +14,7 @@ pub fn read_schedule(alloc: Global, bytes: &[u8]) -> Result<Vec<Line>, TextError
     requires { length bytes.now < 2 ^ 32 - 1 }
     ensures exact { Reads (readings bytes.now) result }
     ensures few { IfOk result (λ lines. length lines.items ≤ length bytes.now + 1) }
-    ensures bounded { IfOk result (λ lines. All IsBounded lines.items) }
+    ensures bounded { IfOk result (λ lines. All IsBoundedLine lines.items) }
 {
     match read(alloc, bytes) {
         Ok(lines) => lines,
@@ -22,7 +22,7 @@ pub fn read_schedule(alloc: Global, bytes: &[u8]) -> Result<Vec<Line>, TextError
     }
 }
 
-// The same; want of memory stands outside.
+/// The same; want of memory stands outside.
 fn read(alloc: Global, bytes: &[u8]) -> Result<Result<Vec<Line>, TextError>, AllocError>
     requires { length bytes.now < 2 ^ 32 - 1 }
     ensures { IfOk result (Reads (readings bytes.now)) }
@@ -31,7 +31,7 @@ fn read(alloc: Global, bytes: &[u8]) -> Result<Result<Vec<Line>, TextError>, All
     lines_read(alloc, texts.as_slice())
 }
 
-// What lines read as, up to the first one with a fault.
+/// What lines read as, up to the first one with a fault.
 fn lines_read(alloc: Global, texts: &[&[u8]]) -> Result<Result<Vec<Line>, TextError>, AllocError>
     requires { length texts.now < 2 ^ 32 }
     ensures { IfOk result (Reads (map read_line (map (λ text. text.now) texts.now))) }

@@ -37,7 +37,7 @@ pub fn verb_of(word: &[u8]) -> Option<Verb>
     }
 }
 
-// The same for lines about requests.
+/// The same for lines about requests.
 fn request_verb_of(word: &[u8]) -> Option<Verb>
     ensures { result ≡ request_verb_of word.now }
 {
@@ -54,7 +54,7 @@ fn request_verb_of(word: &[u8]) -> Option<Verb>
     }
 }
 
-// The same for lines about what a session has begun, and for those that can't be played yet.
+/// The same for lines about what a session has begun, and for those that can't be played yet.
 fn other_verb_of(word: &[u8]) -> Option<Verb>
     ensures { result ≡ other_verb_of word.now }
 {

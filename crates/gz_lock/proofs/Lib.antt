@@ -1,9 +1,9 @@
-pub mod Prefixes
-pub mod OwnTurns
-pub mod SeatFacts
-pub mod TurnSteps
-pub mod TurnFacts
-pub mod SeatSteps
-pub mod Ends
-pub mod Tallies
 pub mod Crossing
+pub mod Ends
+pub mod OwnTurns
+pub mod Prefixes
+pub mod SeatFacts
+pub mod SeatSteps
+pub mod Tallies
+pub mod TurnFacts
+pub mod TurnSteps

@@ -1,6 +1,6 @@
-pub mod Operations
+pub mod Counted
 pub mod Histories
+pub mod Operations
+pub mod Rule
 pub mod Seats
 pub mod Steps
-pub mod Rule
-pub mod Counted

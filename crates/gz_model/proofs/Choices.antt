@@ -13,12 +13,12 @@ use Rattle.gz_core.proofs.Quorums.{need_least, need_some, quorums_meet}
 use Rattle.gz_pick.specs.declared.heard.Heard.{Heard}
 use Rattle.gz_pick.specs.declared.heard.Pick.TheVariants.{Forced, Free}
 use Rattle.gz_pick.specs.Evidences.{is_for, is_in}
-use Rattle.gz_pick.specs.Choices.{top_of, heard_votes, has_threshold, carries, choice_at, choice_in, pick_of, has_site}
-use Rattle.gz_model.specs.Choosing.{Votes, IsChosenBy, IsChoosable, IsSafe, VotesOnce, CarriesOne, AreSafe, TellsBelow, IsHeardAt, HeardOne, IsForced, Allows, IsRecovered, AreGood}
+use Rattle.gz_pick.specs.Choices.{top_of, heard_votes, has_threshold, carries, choice_at, choice_in, pick_of, has_heard_site}
+use Rattle.gz_model.specs.Choosing.{Votes, IsChosenBy, IsChoosable, IsSafe, VotesOnce, CarriesOne, AreSafe, ShowsBelow, IsHeardAt, HeardOne, IsForced, Allows, IsRecovered, AreGood}
 use Rattle.gz_model.proofs.Entries.{IsHeard, site_heard, heard_sites, has_entry, entry_has, count_entries, count_exclusive, place_none, place_some}
 use Rattle.gz_model.proofs.Tops.{IsTop, IsTopBallot, tops}
 
--- what the test on a vote tells
+-- what the test on a vote shows
 for_means : (b : BallotAt) (x : Name) (vote : Option (BallotAt × Name)) → is_for b x vote ≡ true → vote ≡ Some (b, x)
 for_means b x None e = absurd (true≢false (sym e))
 for_means b x (Some v) e =
@@ -115,14 +115,14 @@ record Hit (vote : Votes) (heard : List Heard) (c : BallotAt) (y : Name) : Type 
 
 hit_at : (n qc qf : ℕ) (vote stand : Votes) (b : BallotAt) (heard : List Heard) (c : BallotAt) (y : Name) (s : ℕ) → IsRecovered n qc qf vote stand b heard → is_below c b ≡ true → stand c y s ≡ true → IsHeard heard s → (h : Hit vote heard c y) × (h.entry.site ≡ s)
 hit_at n qc qf vote stand b heard c y s p l st i =
-    let t : TellsBelow vote stand b i.entry = p.told i.at i.entry i.is in
+    let t : ShowsBelow vote stand b i.entry = p.told i.at i.entry i.is in
     let voted : vote c y i.entry.site ≡ true = t.shut c y l (subst (λ (k : ℕ). stand c y k ≡ true) (sym i.site) st) in
     let w : (v : BallotAt × Name) × (i.entry.vote ≡ Some v) × (is_below v.0 c ≡ false) = t.top c y l voted in
     (record { at = i.at; entry = i.entry; is = i.is; ballot = w.0.0; value = w.0.1; has = w.1; above = w.2; voted = voted; was = (t.was w.0 w.1).0 }, i.site)
 
 hit : (n qc qf : ℕ) (vote stand : Votes) (b : BallotAt) (heard : List Heard) (c : BallotAt) (y : Name) → IsRecovered n qc qf vote stand b heard → is_below c b ≡ true → IsChoosable n qc qf stand c y → Hit vote heard c y
 hit n qc qf vote stand b heard c y p l ch =
-    let w : (s : ℕ) × (s < n) × (has_site s heard ≡ true) × (stand c y s ≡ true) = quorums_meet n qc qf (λ s. has_site s heard) (stand c y) p.quorums (omega (arith, heard_sites n heard p.sites, p.enough)) (omega (arith, need_least n qc qf c p.quorums, ch)) in
+    let w : (s : ℕ) × (s < n) × (has_heard_site s heard ≡ true) × (stand c y s ≡ true) = quorums_meet n qc qf (λ s. has_heard_site s heard) (stand c y) p.quorums (omega (arith, heard_sites n heard p.sites, p.enough)) (omega (arith, need_least n qc qf c p.quorums, ch)) in
     (hit_at n qc qf vote stand b heard c y w.0 p l w.3 (site_heard heard w.0 w.2)).0
 
 -- where the highest ballot heard is the fast one, a heard site that stands for a value in it has its fast vote
@@ -139,10 +139,10 @@ enough n qc qf vote stand b heard y p l ch t =
       arith,
       ch,
       heard_sites n heard p.sites,
-      count_two n (λ s. has_site s heard) (stand fast y),
+      count_two n (λ s. has_heard_site s heard) (stand fast y),
       count_entries (λ (h : Heard). is_for fast y h.vote) heard n,
-      count_weaker n (λ s. has_site s heard && stand fast y s) (has_entry (λ (h : Heard). is_for fast y h.vote) heard) (λ (s : ℕ) (e : (has_site s heard && stand fast y s) ≡ true).
-          let parts : (has_site s heard ≡ true) × (stand fast y s ≡ true) = and_parts (has_site s heard) (stand fast y s) e in
+      count_weaker n (λ s. has_heard_site s heard && stand fast y s) (has_entry (λ (h : Heard). is_for fast y h.vote) heard) (λ (s : ℕ) (e : (has_heard_site s heard && stand fast y s) ≡ true).
+          let parts : (has_heard_site s heard ≡ true) × (stand fast y s ≡ true) = and_parts (has_heard_site s heard) (stand fast y s) e in
           let w : (h : Hit vote heard fast y) × (h.entry.site ≡ s) = hit_at n qc qf vote stand b heard fast y s p l parts.1 (site_heard heard s parts.0) in
           subst (λ (k : ℕ). has_entry (λ (h : Heard). is_for fast y h.vote) heard k ≡ true) w.1
           (entry_has (λ (h : Heard). is_for fast y h.vote) heard w.0.at w.0.entry w.0.is (for_from fast y w.0.entry.vote (fast_entry vote heard y w.0 p.once t)))),

@@ -9,7 +9,7 @@ use Rattle.std.proofs.lemmas.List.Sums.{fails_before_first, sum_by-cons}
 use Rattle.gz_core.specs.Counts.{count_sites}
 use Rattle.gz_core.proofs.Counting.{count_added, count_weaker, count_new}
 use Rattle.gz_pick.specs.declared.heard.Heard.{Heard}
-use Rattle.gz_pick.specs.Choices.{has_site, AreSites}
+use Rattle.gz_pick.specs.Choices.{has_heard_site, AreHeardSites}
 
 -- a site is heard at some place
 pub record IsHeard (heard : List Heard) (s : ℕ) : Type 0 where
@@ -23,27 +23,27 @@ pub heard_later : (h : Heard) (hs : List Heard) (s : ℕ) → IsHeard hs s → I
 heard_later h hs s i = record { at = suc i.at; entry = i.entry; is = i.is; site = i.site }
 
 -- the test on sites finds the entry
-pub site_heard : (heard : List Heard) (s : ℕ) → has_site s heard ≡ true → IsHeard heard s
+pub site_heard : (heard : List Heard) (s : ℕ) → has_heard_site s heard ≡ true → IsHeard heard s
 site_heard [] s e = absurd (true≢false (sym e))
 site_heard (h ∷ hs) s e =
     elim (cases_Bool (h.site == s)) [
       | inl t ↦ record { at = zero; entry = h; is = refl; site = eqb-true h.site s t }
-      | inr t ↦ heard_later h hs s (site_heard hs s (sym (cond-false (h.site == s) true (has_site s hs) t) ∙ e))
+      | inr t ↦ heard_later h hs s (site_heard hs s (sym (cond-false (h.site == s) true (has_heard_site s hs) t) ∙ e))
     ]
 
 -- a site of a shorter list, or the first one, is heard
-has_site_cons : (h : Heard) (hs : List Heard) (s : ℕ) → ((h.site == s) || has_site s hs) ≡ true → has_site s (h ∷ hs) ≡ true
+has_site_cons : (h : Heard) (hs : List Heard) (s : ℕ) → ((h.site == s) || has_heard_site s hs) ≡ true → has_heard_site s (h ∷ hs) ≡ true
 has_site_cons h hs s e =
     elim (cases_Bool (h.site == s)) [
-      | inl t ↦ cond-true (h.site == s) true (has_site s hs) t
-      | inr t ↦ cond-false (h.site == s) true (has_site s hs) t ∙ (elim (or_cases (h.site == s) (has_site s hs) e) [ inl f ↦ absurd (both_ways (h.site == s) t f) | inr f ↦ f ])
+      | inl t ↦ cond-true (h.site == s) true (has_heard_site s hs) t
+      | inr t ↦ cond-false (h.site == s) true (has_heard_site s hs) t ∙ (elim (or_cases (h.site == s) (has_heard_site s hs) e) [ inl f ↦ absurd (both_ways (h.site == s) t f) | inr f ↦ f ])
     ]
 
 -- as many sites were heard as there are entries
-pub heard_sites : (n : ℕ) (heard : List Heard) → AreSites n heard → length heard ≤ count_sites n (λ s. has_site s heard)
+pub heard_sites : (n : ℕ) (heard : List Heard) → AreHeardSites n heard → length heard ≤ count_sites n (λ s. has_heard_site s heard)
 heard_sites n [] a = omega arith
 heard_sites n (h ∷ hs) a =
-    omega (arith, heard_sites n hs a.1.1, count_added n h.site (λ s. has_site s hs) a.0 a.1.0, count_weaker n (λ s. (h.site == s) || has_site s hs) (λ s. has_site s (h ∷ hs)) (has_site_cons h hs))
+    omega (arith, heard_sites n hs a.1.1, count_added n h.site (λ s. has_heard_site s hs) a.0 a.1.0, count_weaker n (λ s. (h.site == s) || has_heard_site s hs) (λ s. has_heard_site s (h ∷ hs)) (has_site_cons h hs))
 
 -- a site has an entry that passes a test
 pub has_entry : (Heard → Bool) → List Heard → ℕ → Bool

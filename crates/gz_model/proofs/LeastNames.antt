@@ -93,7 +93,7 @@ chosen_skips cfg casts xs i x key v l is not y h =
       ])
     ]
 
--- what a vote's tests tell
+-- what a vote's tests show
 pub record IsThisVote (cast : Cast) (k : List ℕ) (v : ℕ) (b : BallotAt) (x : Name) : Type 0 where
   pub key : cast.key ≡ k
   pub version : cast.version ≡ v

@@ -6,7 +6,7 @@ use Rattle.gz_core.specs.Configurations.{need, AreQuorums}
 use Rattle.gz_core.specs.Counts.{count_sites}
 use Rattle.gz_pick.specs.declared.heard.Heard.{Heard}
 use Rattle.gz_pick.specs.declared.heard.Pick.TheVariants.{Forced, Free}
-use Rattle.gz_pick.specs.Choices.{AreSites, pick_of, top_of, carries}
+use Rattle.gz_pick.specs.Choices.{AreHeardSites, pick_of, top_of, carries}
 
 -- whether a site voted for a value in a ballot
 abbrev pub Votes : Type 0
@@ -36,8 +36,8 @@ CarriesOne vote = (b : BallotAt) (x y : Name) (s t : ℕ) → same_ballot b fast
 abbrev pub AreSafe : ℕ → ℕ → ℕ → Votes → Votes → Type 0
 AreSafe n qc qf vote stand = (b : BallotAt) (x : Name) (s : ℕ) → same_ballot b fast ≡ false → vote b x s ≡ true → IsSafe n qc qf stand b x
 
--- what a site's promise of a ballot tells: its highest vote below the ballot, and that it casts none there any more
-pub record TellsBelow (vote stand : Votes) (b : BallotAt) (h : Heard) : Type 0 where
+-- what a site's promise of a ballot shows: its highest vote below the ballot, and that it casts none there any more
+pub record ShowsBelow (vote stand : Votes) (b : BallotAt) (h : Heard) : Type 0 where
   pub was : (v : BallotAt × Name) → h.vote ≡ Some v → (vote v.0 v.1 h.site ≡ true) × (is_below v.0 b ≡ true)
   pub top : (c : BallotAt) (y : Name) → is_below c b ≡ true → vote c y h.site ≡ true → (v : BallotAt × Name) × (h.vote ≡ Some v) × (is_below v.0 c ≡ false)
   pub shut : (c : BallotAt) (y : Name) → is_below c b ≡ true → stand c y h.site ≡ true → vote c y h.site ≡ true
@@ -69,12 +69,12 @@ Allows n qf heard x = (pick_of n qf heard ≡ Free) ⊎ ((at : ℕ) × (pick_of 
 -- what is known when a coordinator has heard a classic quorum's promises of its ballot
 pub record IsRecovered (n qc qf : ℕ) (vote stand : Votes) (b : BallotAt) (heard : List Heard) : Type 0 where
   pub quorums : AreQuorums n qc qf
-  pub sites : AreSites n heard
+  pub sites : AreHeardSites n heard
   pub enough : qc ≤ length heard
   pub once : VotesOnce vote
   pub one : CarriesOne vote
   pub safe : AreSafe n qc qf vote stand
-  pub told : (at : ℕ) (h : Heard) → slice_get heard at ≡ Some h → TellsBelow vote stand b h
+  pub told : (at : ℕ) (h : Heard) → slice_get heard at ≡ Some h → ShowsBelow vote stand b h
 
 -- two sets of sites have a common site
 abbrev pub Meet : ℕ → (ℕ → Bool) → (ℕ → Bool) → Type 0

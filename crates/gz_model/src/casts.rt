@@ -78,14 +78,14 @@ impl Cast {
         key
     }
 
-    // Whether the vote was cast at this version of the object.
+    /// Whether the vote was cast at this version of the object.
     fn is_at(&self, key: &Key, v: Version) -> bool
         ensures { result ≡ is_at self.now key.now v }
     {
         self.version == v && self.key == *key
     }
 
-    // Whether the other cast is this vote, by whatever site.
+    /// Whether the other cast is this vote, by whatever site.
     fn is_vote(&self, other: &Cast) -> bool
         ensures { result ≡ is_vote self.now other.now.key other.now.version other.now.ballot other.now.name }
     {
@@ -95,7 +95,7 @@ impl Cast {
     }
 }
 
-// Whether a quorum has cast this vote.
+/// Whether a quorum has cast this vote.
 fn is_chosen(cfg: &Config, casts: &[Cast], cast: &Cast) -> bool
     requires { IsConfig cfg.now }
     ensures { result ≡ has_enough cfg.now casts.now cast.now.key cast.now.version cast.now.ballot cast.now.name }
@@ -108,7 +108,7 @@ fn is_chosen(cfg: &Config, casts: &[Cast], cast: &Cast) -> bool
     need <= votes_of(cfg.n, casts, cast)
 }
 
-// How many sites have cast this vote.
+/// How many sites have cast this vote.
 fn votes_of(sites: u16, casts: &[Cast], cast: &Cast) -> u16
     ensures { result ≡ count_sites sites (has_cast casts.now cast.now.key cast.now.version cast.now.ballot cast.now.name) }
 {
@@ -121,7 +121,7 @@ fn votes_of(sites: u16, casts: &[Cast], cast: &Cast) -> u16
     votes
 }
 
-// Whether a site has cast this vote.
+/// Whether a site has cast this vote.
 fn has_voted(casts: &[Cast], cast: &Cast, site: u16) -> bool
     ensures { result ≡ has_cast casts.now cast.now.key cast.now.version cast.now.ballot cast.now.name site }
 {
@@ -133,7 +133,7 @@ fn has_voted(casts: &[Cast], cast: &Cast, site: u16) -> bool
     false
 }
 
-// Whether a name stands before the least one so far.
+/// Whether a name stands before the least one so far.
 fn is_before(name: PutName, least: &Option<PutName>) -> bool
     ensures { result ≡ is_before_name name least.now }
 {

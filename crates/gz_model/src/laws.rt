@@ -18,7 +18,7 @@ pub fn one_forced()
 
 /// What the choice rule allows in a ballot is safe there, where a classic quorum promised the ballot, each vote of
 /// a classic ballot so far is safe, a classic ballot carries one value, no site votes for two values in one ballot,
-/// and each heard site tells its highest vote below the ballot and casts none there any more.
+/// and each heard site shows its highest vote below the ballot and casts none there any more.
 pub fn allowed_is_safe()
     ensures { AllowedIsSafe }
 {}

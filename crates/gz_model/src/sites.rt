@@ -33,14 +33,14 @@ pub fn meet3(a: &[SiteId], b: &[SiteId], c: &[SiteId]) -> Option<SiteId>
     least
 }
 
-// Whether a site stands before the least one so far, and is in the list.
+/// Whether a site stands before the least one so far, and is in the list.
 fn is_lower(site: SiteId, least: &Option<SiteId>, sites: &[SiteId]) -> bool
     ensures { result ≡ (is_before_least site least.now && has_site sites.now site) }
 {
     is_before(site, least) && is_in(sites, site)
 }
 
-// Whether a site stands before the least one so far.
+/// Whether a site stands before the least one so far.
 fn is_before(site: SiteId, least: &Option<SiteId>) -> bool
     ensures { result ≡ is_before_least site least.now }
 {
@@ -50,7 +50,7 @@ fn is_before(site: SiteId, least: &Option<SiteId>) -> bool
     }
 }
 
-// Whether a site is in the list.
+/// Whether a site is in the list.
 fn is_in(sites: &[SiteId], site: SiteId) -> bool
     ensures { result ≡ has_site sites.now site }
 {

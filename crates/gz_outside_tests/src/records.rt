@@ -12,7 +12,7 @@ pub enum Asked {
     Get,
 }
 
-/// What a call was told: versions, the session whose first call is named, the two bytes that were read.
+/// What a call learnt: versions, the session whose first call is named, the two bytes that were read.
 #[derive(Clone, Copy)]
 pub enum Told {
     Open,
@@ -26,7 +26,7 @@ pub enum Told {
     UnsureContended,
 }
 
-/// A call of a session: its session, its key, what it does, its ticks, and what it was told.
+/// A call of a session: its session, its key, what it does, its ticks, and what it learnt.
 pub type Brief = (u32, u8, Asked, u32, u32, Told);
 
 /// How the calls of a table are numbered within their sessions.

@@ -178,7 +178,7 @@ fn told(sink: &mut MemSink) -> ([Result<usize, SinkError>; 2], [Result<(), SinkE
     ([first, failed], [flushed, rest])
 }
 
-/// Whether a sink that fails its third call tells so, and keeps what it took.
+/// Whether a sink that fails its third call says so, and keeps what it took.
 fn keeps_what_is_written(alloc: Global) -> Option<bool> {
     let mut sink = MemSink::new(alloc, Vec::from_slice(alloc, &[3]).ok()?);
     let wanted = ([Ok(2), Err(SinkError::Failed)], [Ok(()), Ok(())]);

@@ -21,7 +21,7 @@ pub join_none : (top : Option BallotAt) → join top None ≡ top
 join_none None = refl
 join_none (Some top) = refl
 
--- the order of two ballots does not tell which is higher
+-- the order of two ballots does not matter to which is higher
 higher_swap : (a b : BallotAt) → higher_ballot (Some a) b ≡ higher_ballot (Some b) a
 higher_swap a b =
     elim (cases_Bool (is_below a b)) [

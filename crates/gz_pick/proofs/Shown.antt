@@ -165,7 +165,7 @@ decided_shows n qc qf rows v len s first =
     let below = site.0 in
     decided_names n qc qf rows v (row_at rows s) site.1 (λ x named. count_one n (λ t. decides x v (row_at rows t)) s (omega arith) named)
 
--- the site that is told shows a value that is known to be chosen, and where none is told no value is
+-- the site that is answered shows a value that is known to be chosen, and where none is answered no value is
 pub evidence_shows : (n qc qf : ℕ) (rows : List (Option RowAt)) (v : ℕ) → length rows ≡ n → 1 ≤ qc → 1 ≤ qf → IsEvidence n qc qf rows v (evidence_of qc qf rows v)
 evidence_shows n qc qf rows v len classic quick =
     first_shows n qc qf rows v (position (has_decided v) rows) (first_in qc qf rows v (Some fast)) (first_in qc qf rows v (top_ballot (is_chosen qc qf rows v) (votes_at v rows)))

@@ -39,11 +39,11 @@ abbrev pub pick_of : ℕ → ℕ → List Heard → Pick
 pick_of n qf heard = choice_in n qf heard (top_of heard)
 
 -- the site was heard
-abbrev pub has_site : ℕ → List Heard → Bool
-has_site s [] = false
-has_site s (h ∷ hs) = if h.site == s then true else has_site s hs
+abbrev pub has_heard_site : ℕ → List Heard → Bool
+has_heard_site s [] = false
+has_heard_site s (h ∷ hs) = if h.site == s then true else has_heard_site s hs
 
 -- the sites differ, and each is below n
-abbrev pub AreSites : ℕ → List Heard → Type 0
-AreSites n [] = Unit {0}
-AreSites n (h ∷ hs) = (h.site < n) × ((has_site h.site hs ≡ false) × AreSites n hs)
+abbrev pub AreHeardSites : ℕ → List Heard → Type 0
+AreHeardSites n [] = Unit {0}
+AreHeardSites n (h ∷ hs) = (h.site < n) × ((has_heard_site h.site hs ≡ false) × AreHeardSites n hs)

@@ -1,7 +1,7 @@
 //! What a coordinator may propose.
 ghost use Rattle.std.specs.Prelude.{◌≡◌, ◌≤◌, length, position};
 ghost use Rattle.gz_core.specs.Configurations.{IsConfig};
-ghost use Rattle.gz_pick.specs.Choices.{pick_of, AreSites, top_of, heard_votes, has_threshold, carries};
+ghost use Rattle.gz_pick.specs.Choices.{pick_of, AreHeardSites, top_of, heard_votes, has_threshold, carries};
 
 use crate::heard::{Heard, Pick};
 use crate::votes::{is_cast_for, is_cast_in, raise};
@@ -10,10 +10,10 @@ use gz_core::{Ballot, Config, PutName};
 /// What the votes of a classic quorum or more leave to a coordinator: where none was heard any value; where the
 /// highest vote is of a classic ballot its value; where the highest is fast the value that so many fast votes
 /// name that a fast quorum may have chosen it, and any value where there is none. The least place that forces
-/// the value is told. Takes no memory.
+/// the value is named. Takes no memory.
 pub fn pick(config: &Config, heard: &[Heard]) -> Pick
     requires config { IsConfig config.now }
-    requires sites { AreSites config.now.n heard.now }
+    requires sites { AreHeardSites config.now.n heard.now }
     requires quorum { config.now.qc ≤ length heard.now }
     ensures { result ≡ pick_of config.now.n config.now.qf heard.now }
 {

@@ -107,7 +107,7 @@ columns_valued (Some (Decided value)) x e = refl
 pub named_has : (row : RowAt) (v : ℕ) (x : Name) → row_name row v ≡ Some x → IsSome (row_value row v)
 named_has row v x e = columns_valued (column_in row.columns v) x e
 
--- the value that an answer tells has the name that the row shows
+-- the value that an answer gives has the name that the row shows
 put_named : (column : Column) (x : Name) (value : Value) → slot_name (slot_of (Some column)) ≡ Some x → column_value (Some column) ≡ Some value → name_of value ≡ x
 put_named (Open promise None) x value e k = absurd (none-some x e)
 put_named (Open promise (Some vote)) x value e k = ap name_of (sym (same_Some vote.value value k)) ∙ same_Some (name_of vote.value) x e

@@ -7,18 +7,18 @@ use Rattle.gz_core.specs.declared.calls.Answer.TheVariants.{NoQuorum, Contended,
 use Rattle.gz_core.specs.declared.calls.UnsureWhy.TheVariants.{NoQuorum as UnsureNoQuorum, Contended as UnsureContended}
 use Rattle.gz_config.specs.declared.Config.{Config}
 use Rattle.gz_round.specs.declared.run.Run.{Run}
-use Rattle.gz_round.specs.History.{Moment, Caller, Tale}
+use Rattle.gz_round.specs.History.{Action, Caller, Trace}
 use Rattle.gz_round.specs.Counting.{outs}
 use Rattle.gz_round.specs.Causes.{HasCause, IsCutOff, IsOvertaken}
 use Rattle.gz_round.specs.Standing.{Stands}
 use Rattle.gz_round.specs.Acting.{IsPlain, contended_of, cut_off_of}
 use Rattle.gz_round.proofs.Known.{known_counted}
 
-abbrev Told : Config → Caller → List Moment → Answer → Type 0
+abbrev Told : Config → Caller → List Action → Answer → Type 0
 Told c w ms a = HasCause c w ms a × IsPlain a
 
 -- a call that was overtaken as often as it tries
-pub contended_cause : (c : Config) (w : Caller) (past : List Tale) (run : Run) (ms : List Moment) → Stands c w past run ms → c.tries ≤ run.met → Told c w ms (contended_of run)
+pub contended_cause : (c : Config) (w : Caller) (past : List Trace) (run : Run) (ms : List Action) → Stands c w past run ms → c.tries ≤ run.met → Told c w ms (contended_of run)
 contended_cause c w past run ms h often =
     let met_is = h.met_is in
     let overtaken : IsOvertaken c ms run.met = (omega arith, met_is) in
@@ -28,7 +28,7 @@ contended_cause c w past run ms h often =
     ]
 
 -- a call with too few sites left
-pub cut_off_cause : (c : Config) (w : Caller) (past : List Tale) (run : Run) (ms : List Moment) → Stands c w past run ms → run.met < c.tries → c.n < outs c ms + c.qc → Told c w ms (cut_off_of run)
+pub cut_off_cause : (c : Config) (w : Caller) (past : List Trace) (run : Run) (ms : List Action) → Stands c w past run ms → run.met < c.tries → c.n < outs c ms + c.qc → Told c w ms (cut_off_of run)
 cut_off_cause c w past run ms h few lost =
     let met_is = h.met_is in
     let heard : ℕ = count_by (λ row. is_some row) run.rows in

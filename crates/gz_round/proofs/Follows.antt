@@ -16,7 +16,7 @@ use Rattle.gz_core.proofs.SlotNames.{decision_named, vote_named}
 use Rattle.gz_pick.specs.Evidences.{votes_for, decides, IsEvidence, row_at, is_for, is_named}
 use Rattle.gz_round.specs.declared.run.Run.{Run}
 use Rattle.gz_round.specs.declared.following.Next.TheVariants.{Vote as VoteAt, Chosen}
-use Rattle.gz_round.specs.History.{Moment, Sent, Handed, GaveUp, Rested, GaveIn, Caller, Tale}
+use Rattle.gz_round.specs.History.{Action, Sent, Handed, GaveUp, Rested, GaveIn, Caller, Trace}
 use Rattle.gz_round.specs.Sites.{some_heard}
 use Rattle.gz_core.specs.declared.requests.RowStep.{RowStep}
 use Rattle.gz_core.specs.declared.requests.RowStep.TheVariants.{FastVote, Promise, ClassicVote, Decide, Trim}
@@ -32,7 +32,7 @@ use Rattle.gz_round.specs.declared.run.Stage.{Stage}
 use Rattle.gz_round.specs.declared.run.Stage.TheVariants.{Look, Fast, Prepare, Accept}
 use Rattle.gz_round.specs.Standing.{Stands, StageStands, IsUnpromised}
 use Rattle.gz_round.specs.Evidence.{NoneEvident, EvidentAt}
-use Rattle.gz_round.specs.Following.{NoEvidence, NextMeans, MayPass, IsFirst, IsFound, IsStageAt, IsUnmet, is_topless, is_blank_known}
+use Rattle.gz_round.specs.Following.{NoEvidence, NextMeans, MayPass, IsUnwritten, IsFound, IsStageAt, IsUnmet, is_topless, is_blank_known}
 use Rattle.gz_round.proofs.Lists.{all_at}
 use Rattle.gz_round.proofs.Heard.{counted_heard, heard_means, heard_passes}
 use Rattle.gz_round.proofs.Columns.{named_top, top_highest}
@@ -42,7 +42,7 @@ placed : (rows : List (Option RowAt)) (s : ℕ) (row : RowAt) (o : Option (Optio
 placed rows s row None e h = absurd (none-some row (sym (rw e refl) ∙ h))
 placed rows s row (Some other) e h = e ∙ ap (λ z. Some z) (sym (rw e refl) ∙ h)
 
--- what evidence tells
+-- what evidence shows
 pub evidence_means : (c : Config) (rows : List (Option RowAt)) (v : ℕ) (o : Option ℕ) → length rows ≡ c.n → IsEvidence c.n c.qc c.qf rows v o → MatchOption o (NoneEvident c rows v) (λ site. EvidentAt c rows v site)
 evidence_means c rows v None len h = h
 evidence_means c rows v (Some s) len h =
@@ -62,30 +62,30 @@ own_none None h = refl
 own_none (Some x) h = absurd (true≢false h)
 
 -- the call writes a value
-pub own_of : (c : Config) (w : Caller) (past : List Tale) (run : Run) (ms : List Moment) → Stands c w past run ms → is_some run.own ≡ true → (x : Value) × (own_value w.name w.call ≡ Some x)
+pub own_of : (c : Config) (w : Caller) (past : List Trace) (run : Run) (ms : List Action) → Stands c w past run ms → is_some run.own ≡ true → (x : Value) × (own_value w.name w.call ≡ Some x)
 own_of c w past run ms h some = let k = own_some run.own some in (k.0, sym h.own_is ∙ k.1)
 
 -- it writes none
-pub no_own : (c : Config) (w : Caller) (past : List Tale) (run : Run) (ms : List Moment) → Stands c w past run ms → is_some run.own ≡ false → own_value w.name w.call ≡ None
+pub no_own : (c : Config) (w : Caller) (past : List Trace) (run : Run) (ms : List Action) → Stands c w past run ms → is_some run.own ≡ false → own_value w.name w.call ≡ None
 no_own c w past run ms h none = sym h.own_is ∙ own_none run.own none
 
 -- the call's own value is chosen
-pub chosen_means : (c : Config) (w : Caller) (past : List Tale) (run : Run) (ms : List Moment) (v s : ℕ) → Stands c w past run ms → is_some run.own ≡ true → MayPass c w ms v → (e : EvidentAt c run.rows v s) → row_name e.row v ≡ Some run.name → NextMeans c w run ms (Chosen v)
+pub chosen_means : (c : Config) (w : Caller) (past : List Trace) (run : Run) (ms : List Action) (v s : ℕ) → Stands c w past run ms → is_some run.own ≡ true → MayPass c w ms v → (e : EvidentAt c run.rows v s) → row_name e.row v ≡ Some run.name → NextMeans c w run ms (Chosen v)
 chosen_means c w past run ms v s h writes m e own =
     let same : e.name ≡ w.name = same_Some e.name run.name (sym e.named ∙ own) ∙ h.name_is in
     (m.above, subst (λ (x : Name). IsShown c ms v x) same (listed_shown c run ms h.knows v e.name e.evident), own_of c w past run ms h writes)
 
-heard_weaker : (c : Config) (p q : RowAt → Bool) (ms : List Moment) → ((r : RowAt) → p r ≡ true → q r ≡ true) → heard_at c p ms ≤ heard_at c q ms
+heard_weaker : (c : Config) (p q : RowAt → Bool) (ms : List Action) → ((r : RowAt) → p r ≡ true → q r ≡ true) → heard_at c p ms ≤ heard_at c q ms
 heard_weaker c p q ms h = count_weaker c.n (some_heard p ms) (some_heard q ms) (λ (s : ℕ) (k : some_heard p ms s ≡ true). let w = heard_means p ms s k in heard_passes q ms s w.0 w.2 (h w.0 w.1))
 
-counted_weaker : (c : Config) (ms : List Moment) (v u : ℕ) → v ≤ u → heard_at c (λ r. leb (row_top r) v) ms ≤ heard_at c (λ r. leb (row_top r) u) ms
+counted_weaker : (c : Config) (ms : List Action) (v u : ℕ) → v ≤ u → heard_at c (λ r. leb (row_top r) v) ms ≤ heard_at c (λ r. leb (row_top r) u) ms
 counted_weaker c ms v u l = heard_weaker c (λ r. leb (row_top r) v) (λ r. leb (row_top r) u) ms (λ (r : RowAt) (k : leb (row_top r) v ≡ true). le-leb (row_top r) u (omega (arith, leb-true (row_top r) v k)))
 
-current_next : (c : Config) (ms : List Moment) (v u : ℕ) → v ≤ u → IsCurrent c ms v → IsCurrent c ms u
+current_next : (c : Config) (ms : List Action) (v u : ℕ) → v ≤ u → IsCurrent c ms v → IsCurrent c ms u
 current_next c ms v u l h = omega (arith, h, counted_weaker c ms v u l)
 
 -- another value is chosen, and the call may vote at the next version
-pub other_means : (c : Config) (w : Caller) (past : List Tale) (run : Run) (ms : List Moment) (v s : ℕ) → Stands c w past run ms → MayPass c w ms v → (e : EvidentAt c run.rows v s) → (row_name e.row v ≡ Some run.name → ⊥) → MayFastVote c w ms (v + 1)
+pub other_means : (c : Config) (w : Caller) (past : List Trace) (run : Run) (ms : List Action) (v s : ℕ) → Stands c w past run ms → MayPass c w ms v → (e : EvidentAt c run.rows v s) → (row_name e.row v ≡ Some run.name → ⊥) → MayFastVote c w ms (v + 1)
 other_means c w past run ms v s h m e other =
     let shown : IsShown c ms v e.name = listed_shown c run ms h.knows v e.name e.evident in
     let differs : e.name ≢ w.name = λ (k : e.name ≡ w.name). other (e.named ∙ ap (λ (x : Name). Some x) (k ∙ sym h.name_is)) in
@@ -100,18 +100,18 @@ other_means c w past run ms v s h m e other =
     }
 
 -- no promise above a version is none above a later one
-pub unpromised_from : (ms : List Moment) (v u : ℕ) → v ≤ u → IsUnpromised ms v → IsUnpromised ms u
+pub unpromised_from : (ms : List Action) (v u : ℕ) → v ≤ u → IsUnpromised ms v → IsUnpromised ms u
 unpromised_from ms v u l h k d m = h k d (omega arith)
 
 -- a call that may vote may pass on
-pub pass_from : (c : Config) (w : Caller) (ms : List Moment) (v : ℕ) → MayFastVote c w ms v → IsUnpromised ms v → MayPass c w ms v
+pub pass_from : (c : Config) (w : Caller) (ms : List Action) (v : ℕ) → MayFastVote c w ms v → IsUnpromised ms v → MayPass c w ms v
 pass_from c w ms v h later = record { above = h.above; current = h.current; clear = h.clear; later = unpromised_from ms v (v + 1) (omega arith) later }
 
 some_passes : (o : Option ℕ) (u : ℕ) → passes_sent (λ k. k == u) o ≡ true → passes_sent (λ k. true) o ≡ true
 some_passes None u h = absurd (false≢true h)
 some_passes (Some k) u h = refl
 
-voted_some : (x : Name) (ms : List Moment) (u : ℕ) → voted_at x ms u ≡ true → voted x ms ≡ true
+voted_some : (x : Name) (ms : List Action) (u : ℕ) → voted_at x ms u ≡ true → voted x ms ≡ true
 voted_some x [] u h = absurd (false≢true h)
 voted_some x (m ∷ ms) u h =
     elim (or_cases (passes_sent (λ k. k == u) (of_sent (vote_by x) m)) (voted_at x ms u) h) [
@@ -120,7 +120,7 @@ voted_some x (m ∷ ms) u h =
     ]
 
 -- a call that hasn't voted is clear everywhere
-pub unvoted_clear : (c : Config) (x : Name) (ms : List Moment) (v : ℕ) → voted x ms ≡ false → IsClear c x ms v
+pub unvoted_clear : (c : Config) (x : Name) (ms : List Action) (v : ℕ) → voted x ms ≡ false → IsClear c x ms v
 unvoted_clear c x ms v h u n k = absurd (both_ways (voted x ms) h (voted_some x ms u k))
 
 for_some : (b : BallotAt) (x : Name) (o : Option (BallotAt × Name)) → is_for b x o ≡ true → (vote : BallotAt × Name) × (o ≡ Some vote)
@@ -146,7 +146,7 @@ need_some c b h = let q = h.quorums in elim (cases_Bool (same_ballot b fast)) [
 ]
 
 -- no value is evident above what the known rows show
-pub none_above : (c : Config) (ms : List Moment) (v : ℕ) → IsConfig c → ((s : ℕ) (row : RowAt) → s < c.n → rows_known ms s ≡ Some row → row_top row < v) → NoEvidence c ms v
+pub none_above : (c : Config) (ms : List Action) (v : ℕ) → IsConfig c → ((s : ℕ) (row : RowAt) → s < c.n → rows_known ms s ≡ Some row → row_top row < v) → NoEvidence c ms v
 none_above c ms v h low x (inl k) =
     let found = count_found c.n (λ s. votes_for k.0 x v (rows_known ms s)) (omega (arith, k.1, need_some c k.0 h)) in
     let w = votes_top k.0 x v (rows_known ms found.0) found.2 in
@@ -173,25 +173,25 @@ some_row : (o : Option RowAt) → is_some o ≡ true → (row : RowAt) × (o ≡
 some_row None h = absurd (false≢true h)
 some_row (Some row) h = (row, refl)
 
-step_unpromised : (step : RowStep) (ms : List Moment) (u : ℕ) (d : BallotAt) → phase_or_look (or_earlier (phase_by step) (last_sent phase_by ms)) ≡ NotBegun → has_promised_at ms u d ≡ false → (passes_sent (λ p. (p.0 == u) && same_ballot p.1 d) (promise_by step) || has_promised_at ms u d) ≡ false
+step_unpromised : (step : RowStep) (ms : List Action) (u : ℕ) (d : BallotAt) → phase_or_look (or_earlier (phase_by step) (last_sent phase_by ms)) ≡ NotBegun → has_promised_at ms u d ≡ false → (passes_sent (λ p. (p.0 == u) && same_ballot p.1 d) (promise_by step) || has_promised_at ms u d) ≡ false
 step_unpromised (FastVote v x) ms u d e h = h
 step_unpromised (Promise v b) ms u d e h = absurd (cc)
 step_unpromised (ClassicVote v b x) ms u d e h = h
 step_unpromised (Decide v x) ms u d e h = h
 step_unpromised (Trim to x) ms u d e h = h
 
-earlier_looks : (step : RowStep) (ms : List Moment) → phase_or_look (or_earlier (phase_by step) (last_sent phase_by ms)) ≡ NotBegun → phase_of ms ≡ NotBegun
+earlier_looks : (step : RowStep) (ms : List Action) → phase_or_look (or_earlier (phase_by step) (last_sent phase_by ms)) ≡ NotBegun → phase_of ms ≡ NotBegun
 earlier_looks (FastVote v x) ms e = absurd (cc)
 earlier_looks (Promise v b) ms e = absurd (cc)
 earlier_looks (ClassicVote v b x) ms e = absurd (cc)
 earlier_looks (Decide v x) ms e = e
 earlier_looks (Trim to x) ms e = absurd (cc)
 
-op_unpromised : (op : Op) (ms : List Moment) (u : ℕ) (d : BallotAt) → phase_or_look (or_earlier (of_step phase_by op) (last_sent phase_by ms)) ≡ NotBegun → (phase_of ms ≡ NotBegun → has_promised_at ms u d ≡ false) → (passes_sent (λ p. (p.0 == u) && same_ballot p.1 d) (of_step promise_by op) || has_promised_at ms u d) ≡ false
+op_unpromised : (op : Op) (ms : List Action) (u : ℕ) (d : BallotAt) → phase_or_look (or_earlier (of_step phase_by op) (last_sent phase_by ms)) ≡ NotBegun → (phase_of ms ≡ NotBegun → has_promised_at ms u d ≡ false) → (passes_sent (λ p. (p.0 == u) && same_ballot p.1 d) (of_step promise_by op) || has_promised_at ms u d) ≡ false
 op_unpromised (ReadRow key) ms u d e h = h e
 op_unpromised (WriteRow key expect step row) ms u d e h = step_unpromised step ms u d e (h (earlier_looks step ms e))
 
-none_promised : (ms : List Moment) (u : ℕ) (d : BallotAt) → phase_of ms ≡ NotBegun → has_promised_at ms u d ≡ false
+none_promised : (ms : List Action) (u : ℕ) (d : BallotAt) → phase_of ms ≡ NotBegun → has_promised_at ms u d ≡ false
 none_promised [] u d e = refl
 none_promised (Sent a ∷ ms) u d e = op_unpromised a.op ms u d e (none_promised ms u d)
 none_promised (Handed a reply ∷ ms) u d e = none_promised ms u d e
@@ -200,17 +200,17 @@ none_promised (Rested ∷ ms) u d e = none_promised ms u d e
 none_promised (GaveIn ∷ ms) u d e = none_promised ms u d e
 
 -- a call that has sent no row write has promised nothing
-pub looks_unpromised : (ms : List Moment) (v : ℕ) → phase_of ms ≡ NotBegun → IsUnpromised ms v
+pub looks_unpromised : (ms : List Action) (v : ℕ) → phase_of ms ≡ NotBegun → IsUnpromised ms v
 looks_unpromised ms v e u d l = none_promised ms u d e
 
 -- an object that was never written is voted for at its first version
-pub first_means : (c : Config) (w : Caller) (past : List Tale) (run : Run) (ms : List Moment) → Stands c w past run ms → IsFirst c w ms → is_some run.own ≡ true → NextMeans c w run ms (VoteAt 1)
+pub first_means : (c : Config) (w : Caller) (past : List Trace) (run : Run) (ms : List Action) → Stands c w past run ms → IsUnwritten c w ms → is_some run.own ≡ true → NextMeans c w run ms (VoteAt 1)
 first_means c w past run ms h f some =
     let low : heard_at c is_blank ms ≤ heard_at c (λ r. leb (row_top r) 1) ms = heard_weaker c is_blank (λ r. leb (row_top r) 1) ms (λ (r : RowAt) (k : is_blank r ≡ true). let top : row_top r ≡ 0 = eqb-true (row_top r) 0 (and_parts (row_top r == 0) (r.floor == 0) k).0 in le-leb (row_top r) 1 (omega arith)) in
     (record { above = omega arith; current = omega (arith, f.blank, low); next = inl refl; clear = unvoted_clear c w.name ms 1 f.unvoted }, f.none, own_of c w past run ms h some, unpromised_from ms 0 1 (omega arith) f.unpromised)
 
 -- the known rows of a classic quorum show nothing
-pub first_from : (c : Config) (w : Caller) (past : List Tale) (run : Run) (ms : List Moment) → IsConfig c → Stands c w past run ms → voted w.name ms ≡ false → phase_of ms ≡ NotBegun → list_all is_blank_known run.rows ≡ true → list_all is_topless run.rows ≡ true → c.qc ≤ known_count c ms → IsFirst c w ms
+pub first_from : (c : Config) (w : Caller) (past : List Trace) (run : Run) (ms : List Action) → IsConfig c → Stands c w past run ms → voted w.name ms ≡ false → phase_of ms ≡ NotBegun → list_all is_blank_known run.rows ≡ true → list_all is_topless run.rows ≡ true → c.qc ≤ known_count c ms → IsUnwritten c w ms
 first_from c w past run ms config h unvoted looks blank topless enough =
     let counted : known_count c ms ≤ heard_at c is_blank ms = counted_heard c is_blank (λ s. is_some (rows_known ms s)) ms (λ (s : ℕ) (l : s < c.n) (k : is_some (rows_known ms s) ≡ true).
     let w = some_row (rows_known ms s) k in
@@ -227,7 +227,7 @@ first_from c w past run ms config h unvoted looks blank topless enough =
     }
 
 -- the call may work at the highest version that the known rows of a classic quorum show
-pub latest_from : (c : Config) (w : Caller) (past : List Tale) (run : Run) (ms : List Moment) → Stands c w past run ms → voted w.name ms ≡ false → phase_of ms ≡ NotBegun → list_all is_topless run.rows ≡ false → c.qc ≤ known_count c ms → MayPass c w ms (highest_of run.rows)
+pub latest_from : (c : Config) (w : Caller) (past : List Trace) (run : Run) (ms : List Action) → Stands c w past run ms → voted w.name ms ≡ false → phase_of ms ≡ NotBegun → list_all is_topless run.rows ≡ false → c.qc ≤ known_count c ms → MayPass c w ms (highest_of run.rows)
 latest_from c w past run ms h unvoted looks shown enough = record {
   above = highest_positive run.rows shown;
   current = known_current c run ms h.knows (highest_of run.rows) enough (λ (s : ℕ) (row : RowAt) (e : slice_get run.rows s ≡ Some (Some row)). top_highest run.rows s row e);
@@ -236,7 +236,7 @@ latest_from c w past run ms h unvoted looks shown enough = record {
 }
 
 -- a call that writes nothing has learnt the value
-pub found_means : (c : Config) (w : Caller) (past : List Tale) (run : Run) (ms : List Moment) (v s : ℕ) → Stands c w past run ms → MayPass c w ms v → EvidentAt c run.rows v s → is_some run.own ≡ false → IsFound c w run ms v s
+pub found_means : (c : Config) (w : Caller) (past : List Trace) (run : Run) (ms : List Action) (v s : ℕ) → Stands c w past run ms → MayPass c w ms v → EvidentAt c run.rows v s → is_some run.own ≡ false → IsFound c w run ms v s
 found_means c w past run ms v s h l e none = record {
   reads = no_own c w past run ms h none;
   current = l.current;
@@ -249,14 +249,14 @@ found_means c w past run ms v s h l e none = record {
 }
 
 -- where no value is known to be chosen at its version, a phase hasn't reached its goal
-pub unmet_at : (c : Config) (run : Run) (ms : List Moment) (v : ℕ) (stage : Stage) → IsStageAt stage v → NoEvidence c ms v → IsUnmet c run stage ms
+pub unmet_at : (c : Config) (run : Run) (ms : List Action) (v : ℕ) (stage : Stage) → IsStageAt stage v → NoEvidence c ms v → IsUnmet c run stage ms
 unmet_at c run ms v Look at none = absurd at
 unmet_at c run ms v (Fast u) at none = subst (NoEvidence c ms) (sym at) none
 unmet_at c run ms v (Prepare u b found) at none = subst (NoEvidence c ms) (sym at) none
 unmet_at c run ms v (Accept u b x) at none = subst (NoEvidence c ms) (sym at) none
 
 -- a call that works at a version may pass on from there
-pub pass_at : (c : Config) (w : Caller) (past : List Tale) (ms : List Moment) (v : ℕ) (stage : Stage) → IsStageAt stage v → StageStands c w past stage ms → MayPass c w ms v
+pub pass_at : (c : Config) (w : Caller) (past : List Trace) (ms : List Action) (v : ℕ) (stage : Stage) → IsStageAt stage v → StageStands c w past stage ms → MayPass c w ms v
 pass_at c w past ms v Look at s = absurd at
 pass_at c w past ms v (Fast u) at s = subst (MayPass c w ms) at (pass_from c w ms u s.0 s.2)
 pass_at c w past ms v (Prepare u b found) at s = subst (MayPass c w ms) at s.0.works.pass

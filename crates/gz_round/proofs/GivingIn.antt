@@ -20,7 +20,7 @@ use Rattle.gz_pick.specs.Looks.{highest_of}
 use Rattle.gz_round.specs.declared.run.Run.{Run}
 use Rattle.gz_round.specs.declared.run.Stage.{Stage}
 use Rattle.gz_round.specs.declared.run.Stage.TheVariants.{Look, Fast, Prepare, Accept}
-use Rattle.gz_round.specs.History.{Moment, GaveIn, Caller, Tale}
+use Rattle.gz_round.specs.History.{Action, GaveIn, Caller, Trace}
 use Rattle.gz_round.specs.Rounds.{promises_known, above_known}
 use Rattle.gz_round.specs.Sent.{last_promise}
 use Rattle.gz_round.specs.Sending.{MayGiveIn, NoPromise, NoVote, Collected, IsIdle, IsStuck, IsShort, NoEvidence, rows_known, answer_of}
@@ -42,7 +42,7 @@ count_none zero = refl
 count_none (suc n) = count_none n
 
 -- every site is out
-pub given_in_turned : (c : Config) (w : Caller) (past : List Tale) (run : Run) (ms : List Moment) → IsConfig c → Stands c w past run ms → IsGoing c ms → MayGiveIn c w past ms → HasTurned c w past run ms (Some (given_in_of run))
+pub given_in_turned : (c : Config) (w : Caller) (past : List Trace) (run : Run) (ms : List Action) → IsConfig c → Stands c w past run ms → IsGoing c ms → MayGiveIn c w past ms → HasTurned c w past run ms (Some (given_in_of run))
 given_in_turned c w past run ms config h going may =
     let few = going.few in
     let q = config.quorums in
@@ -55,15 +55,15 @@ given_in_turned c w past run ms config h going may =
     (GaveIn ∷ [], inr refl, ((may, h.allowed), cause, h.round_is))
 
 -- too few known rows promise the ballot
-pub short_known : (c : Config) (run : Run) (ms : List Moment) (v : ℕ) (b : BallotAt) → Knows c run ms → count_by (promises_known v b) run.rows < c.qc → IsShort c ms v b
+pub short_known : (c : Config) (run : Run) (ms : List Action) (v : ℕ) (b : BallotAt) → Knows c run ms → count_by (promises_known v b) run.rows < c.qc → IsShort c ms v b
 short_known c run ms v b k l = let told = count_told (promises_known v b) c.n run.rows (rows_known ms) k.rows_len k.rows in omega arith
 
 -- nothing is awaited
-idle_from : (c : Config) (w : Caller) (past : List Tale) (run : Run) (ms : List Moment) (v : ℕ) → RunsOut c w past run ms → working_version run ≡ v → IsIdle c ms v
+idle_from : (c : Config) (w : Caller) (past : List Trace) (run : Run) (ms : List Action) (v : ℕ) → RunsOut c w past run ms → working_version run ≡ v → IsIdle c ms v
 idle_from c w past run ms v r at = record { awaits = r.idle; heard = r.heard; undecided = subst (NoEvidence c ms) at r.none }
 
 -- a ballot leads no further
-stuck_from : (c : Config) (w : Caller) (past : List Tale) (run : Run) (ms : List Moment) (v : ℕ) (b : BallotAt) (step : RowStep) → RunsOut c w past run ms → stage_step run ≡ Some step → IsIdle c ms v → last_promise ms ≡ Some (v, b) →
+stuck_from : (c : Config) (w : Caller) (past : List Trace) (run : Run) (ms : List Action) (v : ℕ) (b : BallotAt) (step : RowStep) → RunsOut c w past run ms → stage_step run ≡ Some step → IsIdle c ms v → last_promise ms ≡ Some (v, b) →
     ((s : ℕ) (row : RowAt) → s < c.n → rows_known ms s ≡ Some row → answer_of step row ≢ Done → answer_of step row ≡ Already) → IsStuck c ms v b step
 stuck_from c w past run ms v b step r is idle last taken = record {
   going = r.going;
@@ -72,7 +72,7 @@ stuck_from c w past run ms v b step r is idle last taken = record {
   taken = λ (s : ℕ) (row : RowAt) (l : s < c.n) (e : rows_known ms s ≡ Some row). taken s row l e (r.untaken step is s row l e);
 }
 
-prepared_out : (c : Config) (w : Caller) (past : List Tale) (run : Run) (ms : List Moment) (v : ℕ) (b : BallotAt) (found : Option Value) → run.stage ≡ Prepare v b found → RunsOut c w past run ms → MayGiveIn c w past ms
+prepared_out : (c : Config) (w : Caller) (past : List Trace) (run : Run) (ms : List Action) (v : ℕ) (b : BallotAt) (found : Option Value) → run.stage ≡ Prepare v b found → RunsOut c w past run ms → MayGiveIn c w past ms
 prepared_out c w past run ms v b found at r =
     let s : StageStands c w past (Prepare v b found) ms = subst (λ st. StageStands c w past st ms) at r.stage in
     let ahead : is_overtaken_in run (Prepare v b found) ≡ false = subst (λ st. is_overtaken_in run st ≡ false) at r.ahead in
@@ -85,7 +85,7 @@ prepared_out c w past run ms v b found at r =
       | inr kept ↦ NoPromise v b (stuck_from c w past run ms v b (Promise v b) r (ap (λ st. step_in st run.own) at) idle last (λ (site : ℕ) (row : RowAt) (l : site < c.n) (e : rows_known ms site ≡ Some row). promise_untaken row v b (kept site row l e) (undecided_known c ms v site row idle.undecided l e) (above site row l e))) s.0.uncast (short_known c run ms v b r.stands.knows short)
     ]
 
-voted_out : (c : Config) (w : Caller) (past : List Tale) (run : Run) (ms : List Moment) (v : ℕ) (b : BallotAt) (x : Value) → run.stage ≡ Accept v b x → RunsOut c w past run ms → MayGiveIn c w past ms
+voted_out : (c : Config) (w : Caller) (past : List Trace) (run : Run) (ms : List Action) (v : ℕ) (b : BallotAt) (x : Value) → run.stage ≡ Accept v b x → RunsOut c w past run ms → MayGiveIn c w past ms
 voted_out c w past run ms v b x at r =
     let s : StageStands c w past (Accept v b x) ms = subst (λ st. StageStands c w past st ms) at r.stage in
     let ahead : is_overtaken_in run (Accept v b x) ≡ false = subst (λ st. is_overtaken_in run st ≡ false) at r.ahead in
@@ -97,11 +97,11 @@ voted_out c w past run ms v b x at r =
     ]
 
 -- a phase that has ended without its goal ends the call, but for the first phases
-ended_at : (c : Config) (w : Caller) (past : List Tale) (run : Run) (ms : List Moment) (stage : Stage) (answer : Answer) → IsConfig c → run.stage ≡ stage → RunsOut c w past run ms → ended_in run stage ≡ Some answer → HasTurned c w past run ms (Some answer)
+ended_at : (c : Config) (w : Caller) (past : List Trace) (run : Run) (ms : List Action) (stage : Stage) (answer : Answer) → IsConfig c → run.stage ≡ stage → RunsOut c w past run ms → ended_in run stage ≡ Some answer → HasTurned c w past run ms (Some answer)
 ended_at c w past run ms Look answer config at r e = absurd (none-some answer e)
 ended_at c w past run ms (Fast v) answer config at r e = absurd (none-some answer e)
 ended_at c w past run ms (Prepare v b found) answer config at r e = subst (λ a. HasTurned c w past run ms (Some a)) (same_Some (given_in_of run) answer e) (given_in_turned c w past run ms config r.stands r.going (prepared_out c w past run ms v b found at r))
 ended_at c w past run ms (Accept v b x) answer config at r e = subst (λ a. HasTurned c w past run ms (Some a)) (same_Some (given_in_of run) answer e) (given_in_turned c w past run ms config r.stands r.going (voted_out c w past run ms v b x at r))
 
-pub ended_turned : (c : Config) (w : Caller) (past : List Tale) (run : Run) (ms : List Moment) (answer : Answer) → IsConfig c → RunsOut c w past run ms → ended_of run ≡ Some answer → HasTurned c w past run ms (Some answer)
+pub ended_turned : (c : Config) (w : Caller) (past : List Trace) (run : Run) (ms : List Action) (answer : Answer) → IsConfig c → RunsOut c w past run ms → ended_of run ≡ Some answer → HasTurned c w past run ms (Some answer)
 ended_turned c w past run ms answer config r e = ended_at c w past run ms run.stage answer config refl r e

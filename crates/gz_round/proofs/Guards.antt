@@ -12,10 +12,10 @@ use Rattle.gz_core.specs.declared.requests.RowStep.TheVariants.{FastVote, Promis
 use Rattle.gz_core.specs.declared.requests.Op.{Op}
 use Rattle.gz_core.specs.declared.requests.Op.TheVariants.{ReadRow, WriteRow}
 use Rattle.gz_core.proofs.Ballots.{same_means, name_means}
-use Rattle.gz_round.specs.History.{Asked, Moment, Sent, Caller, Tale}
+use Rattle.gz_round.specs.History.{Asked, Action, Sent, Caller, Trace}
 use Rattle.gz_round.specs.Sent.{vote_by, promise_by, of_step, or_earlier, passes_sent, voted_at, has_promised_at, last_promise, top_round, round_after}
 use Rattle.gz_round.specs.Shown.{IsClear}
-use Rattle.gz_round.specs.Rounds.{MayPromise, MayClassicVote, MayPropose, IsLeft, IsPromiseHeard, passed_since, Cast, cast_by, has_cast, is_promise, IsValueKnown, round_known, greatest, next_round, rounds_used, top_rounds}
+use Rattle.gz_round.specs.Rounds.{MayPromise, MayClassicVote, MayPropose, IsLeft, IsPromiseHeard, passed_since, ClassicCast, cast_by, has_classic_cast, is_promise, IsValueKnown, round_known, greatest, next_round, rounds_used, top_rounds}
 use Rattle.gz_pick.specs.declared.heard.Heard.{Heard}
 use Rattle.gz_round.specs.Sites.{rows_known}
 use Rattle.gz_round.specs.Sending.{MayFastVote, MayMake}
@@ -50,7 +50,7 @@ classic_version : (x : Name) (v u : ℕ) (b : BallotAt) (value : Value) → pass
 classic_version x v u b value h = vote_version x v u value h
 
 -- a call votes at no other version while it votes at one
-pub clear_vote : (c : Config) (x : Name) (ms : List Moment) (a : Asked) (v : ℕ) → ((u : ℕ) → passes_sent (λ k. k == u) (of_step (vote_by x) a.op) ≡ true → v ≡ u) → IsClear c x ms v → IsClear c x (Sent a ∷ ms) v
+pub clear_vote : (c : Config) (x : Name) (ms : List Action) (a : Asked) (v : ℕ) → ((u : ℕ) → passes_sent (λ k. k == u) (of_step (vote_by x) a.op) ≡ true → v ≡ u) → IsClear c x ms v → IsClear c x (Sent a ∷ ms) v
 clear_vote c x ms a v only clear u n h =
     elim (or_cases (passes_sent (λ k. k == u) (of_step (vote_by x) a.op)) (voted_at x ms u) h) [
       | inl e ↦ absurd (n (sym (only u e)))
@@ -66,7 +66,7 @@ pub only_classic : (x : Name) (op : Op) (v : ℕ) (b : BallotAt) (value : Value)
 only_classic x (ReadRow key) v b value u is h = absurd (false≢true h)
 only_classic x (WriteRow key expect step row) v b value u is h = classic_version x v u b value (subst (λ s. passes_sent (λ k. k == u) (vote_by x s) ≡ true) (sym (same_Some (ClassicVote v b value) step (is.writes step refl))) h)
 
-pub fast_kept : (c : Config) (w : Caller) (ms : List Moment) (a : Asked) (v : ℕ) (value : Value) → IsOf a.op (Some (FastVote v value)) → MayFastVote c w ms v → MayFastVote c w (Sent a ∷ ms) v
+pub fast_kept : (c : Config) (w : Caller) (ms : List Action) (a : Asked) (v : ℕ) (value : Value) → IsOf a.op (Some (FastVote v value)) → MayFastVote c w ms v → MayFastVote c w (Sent a ∷ ms) v
 fast_kept c w ms a v value is h = record {
   above = h.above;
   current = h.current;
@@ -92,20 +92,20 @@ greatest_same zero f g h = refl
 greatest_same (suc n) f g h = ap (λ k. max k (f n)) (greatest_same n f g h) ∙ ap (max (greatest n g)) (h n)
 
 -- a request that promises nothing leaves the round of the next ballot
-next_round_sent : (c : Config) (past : List Tale) (ms : List Moment) (a : Asked) (v : ℕ) → of_step promise_by a.op ≡ None → next_round c past ms v ≡ next_round c past (Sent a ∷ ms) v
+next_round_sent : (c : Config) (past : List Trace) (ms : List Action) (a : Asked) (v : ℕ) → of_step promise_by a.op ≡ None → next_round c past ms v ≡ next_round c past (Sent a ∷ ms) v
 next_round_sent c past ms a v e =
     let known : greatest c.n (λ s. round_known v (rows_known ms s)) ≡ greatest c.n (λ s. round_known v (rows_known (Sent a ∷ ms) s)) = greatest_same c.n (λ s. round_known v (rows_known ms s)) (λ s. round_known v (rows_known (Sent a ∷ ms) s)) (λ (s : ℕ). ap (round_known v) (known_after_sent a ms s)) in
     let used : rounds_used past ms ≡ rounds_used past (Sent a ∷ ms) = sym (ap (λ o. max (top_rounds past) (round_after o (top_round ms))) e) in
     ap (λ k. max k (greatest c.n (λ s. round_known v (rows_known ms s))) + 1) used ∙ ap (λ k. max (rounds_used past (Sent a ∷ ms)) k + 1) known
 
-round_promise : (c : Config) (past : List Tale) (ms : List Moment) (a : Asked) (v : ℕ) (b : BallotAt) → (of_step promise_by a.op ≡ None) ⊎ (of_step promise_by a.op ≡ Some (v, b)) → (b.round ≡ next_round c past ms v) ⊎ (last_promise ms ≡ Some (v, b)) →
+round_promise : (c : Config) (past : List Trace) (ms : List Action) (a : Asked) (v : ℕ) (b : BallotAt) → (of_step promise_by a.op ≡ None) ⊎ (of_step promise_by a.op ≡ Some (v, b)) → (b.round ≡ next_round c past ms v) ⊎ (last_promise ms ≡ Some (v, b)) →
     (b.round ≡ next_round c past (Sent a ∷ ms) v) ⊎ (last_promise (Sent a ∷ ms) ≡ Some (v, b))
 round_promise c past ms a v b (inl e) (inl h) = inl (h ∙ next_round_sent c past ms a v e)
 round_promise c past ms a v b (inr e) (inl h) = inr (ap (λ o. or_earlier o (last_promise ms)) e)
 round_promise c past ms a v b k (inr h) = inr (last_promised (of_step promise_by a.op) (last_promise ms) v b k h)
 
 -- other ballots that were promised at the version stay passed
-pub passed_still : (ms : List Moment) (a : Asked) (v : ℕ) (b : BallotAt) → (of_step promise_by a.op ≡ None) ⊎ (of_step promise_by a.op ≡ Some (v, b)) → ((d : BallotAt) → d ≢ b → has_promised_at ms v d ≡ true → passed_since v d ms ≡ true) →
+pub passed_still : (ms : List Action) (a : Asked) (v : ℕ) (b : BallotAt) → (of_step promise_by a.op ≡ None) ⊎ (of_step promise_by a.op ≡ Some (v, b)) → ((d : BallotAt) → d ≢ b → has_promised_at ms v d ≡ true → passed_since v d ms ≡ true) →
     (d : BallotAt) → d ≢ b → has_promised_at (Sent a ∷ ms) v d ≡ true → passed_since v d (Sent a ∷ ms) ≡ true
 passed_still ms a v b sent h d n k =
     let other : is_promise v d (of_step promise_by a.op) ≡ false = other_promise (of_step promise_by a.op) v b d sent n in
@@ -113,7 +113,7 @@ passed_still ms a v b sent h d n k =
     cond-false (is_promise v d (of_step promise_by a.op)) false (passed_since v d ms) other ∙ h d n old
 
 -- where a request promises this ballot at the version, or none
-promise_still : (c : Config) (w : Caller) (past : List Tale) (ms : List Moment) (a : Asked) (v : ℕ) (b : BallotAt) → (of_step promise_by a.op ≡ None) ⊎ (of_step promise_by a.op ≡ Some (v, b)) → MayPromise c w past ms v b → MayPromise c w past (Sent a ∷ ms) v b
+promise_still : (c : Config) (w : Caller) (past : List Trace) (ms : List Action) (a : Asked) (v : ℕ) (b : BallotAt) → (of_step promise_by a.op ≡ None) ⊎ (of_step promise_by a.op ≡ Some (v, b)) → MayPromise c w past ms v b → MayPromise c w past (Sent a ∷ ms) v b
 promise_still c w past ms a v b sent h =
     record {
       above = h.above;
@@ -125,14 +125,14 @@ promise_still c w past ms a v b sent h =
       passed = passed_still ms a v b sent h.passed;
     }
 
-pub promise_kept : (c : Config) (w : Caller) (past : List Tale) (ms : List Moment) (a : Asked) (v : ℕ) (b : BallotAt) → IsOf a.op (Some (Promise v b)) → MayPromise c w past ms v b → MayPromise c w past (Sent a ∷ ms) v b
+pub promise_kept : (c : Config) (w : Caller) (past : List Trace) (ms : List Action) (a : Asked) (v : ℕ) (b : BallotAt) → IsOf a.op (Some (Promise v b)) → MayPromise c w past ms v b → MayPromise c w past (Sent a ∷ ms) v b
 promise_kept c w past ms a v b is h = promise_still c w past ms a v b (promise_sent a.op v b is) h
 
 cast_sent : (op : Op) (v : ℕ) (b : BallotAt) (value : Value) → IsOf op (Some (ClassicVote v b value)) → (of_step cast_by op ≡ None) ⊎ (of_step cast_by op ≡ cast_by (ClassicVote v b value))
 cast_sent (ReadRow key) v b value is = inl refl
 cast_sent (WriteRow key expect step row) v b value is = inr (sym (ap (λ o. of_some cast_by o) (is.writes step refl)))
 
-one_cast : (o : Option Cast) (v : ℕ) (b : BallotAt) (value : Value) (y : Name) (old : Bool) → (o ≡ None) ⊎ (o ≡ cast_by (ClassicVote v b value)) → (old ≡ true → y ≡ name_of value) →
+one_cast : (o : Option ClassicCast) (v : ℕ) (b : BallotAt) (value : Value) (y : Name) (old : Bool) → (o ≡ None) ⊎ (o ≡ cast_by (ClassicVote v b value)) → (old ≡ true → y ≡ name_of value) →
     (passes_sent (λ k. (k.version == v) && same_ballot k.ballot b && same_name k.name y) o || old) ≡ true → y ≡ name_of value
 one_cast o v b value y old (inl e) h k = h (sym (ap (λ z. passes_sent (λ m. (m.version == v) && same_ballot m.ballot b && same_name m.name y) z || old) e) ∙ k)
 one_cast o v b value y old (inr e) h k =
@@ -142,23 +142,23 @@ one_cast o v b value y old (inr e) h k =
     ]
 
 -- rows that were heard stay heard
-pub promises_more : (m : Moment) (ms : List Moment) (v : ℕ) (b : BallotAt) (heard : List Heard) → All (IsPromiseHeard ms v b) heard → All (IsPromiseHeard (m ∷ ms) v b) heard
+pub promises_more : (m : Action) (ms : List Action) (v : ℕ) (b : BallotAt) (heard : List Heard) → All (IsPromiseHeard ms v b) heard → All (IsPromiseHeard (m ∷ ms) v b) heard
 promises_more m ms v b heard h = λ (k : ℕ) (d : Heard) (l : k < length heard). let one = h k d l in (one.0, inr one.1, one.2, one.3)
 
-propose_kept : (c : Config) (w : Caller) (ms : List Moment) (a : Asked) (v : ℕ) (b : BallotAt) (value : Value) → IsOf a.op (Some (ClassicVote v b value)) → MayPropose c w ms v value → MayPropose c w (Sent a ∷ ms) v value
+propose_kept : (c : Config) (w : Caller) (ms : List Action) (a : Asked) (v : ℕ) (b : BallotAt) (value : Value) → IsOf a.op (Some (ClassicVote v b value)) → MayPropose c w ms v value → MayPropose c w (Sent a ∷ ms) v value
 propose_kept c w ms a v b value is (inl h) = inl (h.0, h.1, clear_vote c w.name ms a v (λ (u : ℕ) (k : passes_sent (λ z. z == u) (of_step (vote_by w.name) a.op) ≡ true). only_classic w.name a.op v b value u is k) h.2)
 propose_kept c w ms a v b value is (inr h) = inr (h.0, h.1, h.2, h.3, inr h.4, h.5)
 
-left_kept : (c : Config) (w : Caller) (ms : List Moment) (a : Asked) (v : ℕ) (b : BallotAt) (heard : List Heard) (value : Value) → IsOf a.op (Some (ClassicVote v b value)) → IsLeft c w ms v heard value → IsLeft c w (Sent a ∷ ms) v heard value
+left_kept : (c : Config) (w : Caller) (ms : List Action) (a : Asked) (v : ℕ) (b : BallotAt) (heard : List Heard) (value : Value) → IsOf a.op (Some (ClassicVote v b value)) → IsLeft c w ms v heard value → IsLeft c w (Sent a ∷ ms) v heard value
 left_kept c w ms a v b heard value is (inl h) = inl h
 left_kept c w ms a v b heard value is (inr h) = inr (h.0, propose_kept c w ms a v b value is h.1)
 
 -- a value that is known stays so
-known_kept : (w : Caller) (ms : List Moment) (a : Asked) (v : ℕ) (value : Value) → IsValueKnown w ms v value → IsValueKnown w (Sent a ∷ ms) v value
+known_kept : (w : Caller) (ms : List Action) (a : Asked) (v : ℕ) (value : Value) → IsValueKnown w ms v value → IsValueKnown w (Sent a ∷ ms) v value
 known_kept w ms a v value (inl own) = inl own
 known_kept w ms a v value (inr h) = inr (h.0, h.1, inr h.2, h.3)
 
-pub classic_kept : (c : Config) (w : Caller) (ms : List Moment) (a : Asked) (v : ℕ) (b : BallotAt) (value : Value) → IsOf a.op (Some (ClassicVote v b value)) → MayClassicVote c w ms v b value → MayClassicVote c w (Sent a ∷ ms) v b value
+pub classic_kept : (c : Config) (w : Caller) (ms : List Action) (a : Asked) (v : ℕ) (b : BallotAt) (value : Value) → IsOf a.op (Some (ClassicVote v b value)) → MayClassicVote c w ms v b value → MayClassicVote c w (Sent a ∷ ms) v b value
 classic_kept c w ms a v b value is h = record {
   above = h.above;
   promised = or_right (passes_sent (λ p. (p.0 == v) && same_ballot p.1 b) (of_step promise_by a.op)) (has_promised_at ms v b) h.promised;
@@ -168,18 +168,18 @@ classic_kept c w ms a v b value is h = record {
   rows = promises_more (Sent a) ms v b h.heard h.rows;
   choice = left_kept c w ms a v b h.heard value is h.choice;
   known = known_kept w ms a v value h.known;
-  one = λ (y : Name) (k : has_cast (Sent a ∷ ms) v b y ≡ true). one_cast (of_step cast_by a.op) v b value y (has_cast ms v b y) (cast_sent a.op v b value is) (h.one y) k;
+  one = λ (y : Name) (k : has_classic_cast (Sent a ∷ ms) v b y ≡ true). one_cast (of_step cast_by a.op) v b value y (has_classic_cast ms v b y) (cast_sent a.op v b value is) (h.one y) k;
   back = λ reads free. back_more c (Sent a) ms v b (Some value) h.promised (h.back reads free);
 }
 
 -- a guard that holds goes on to hold
-pub may_kept : (c : Config) (w : Caller) (past : List Tale) (ms : List Moment) (a : Asked) (step : RowStep) → IsOf a.op (Some step) → MayMake c w past ms step → MayMake c w past (Sent a ∷ ms) step
+pub may_kept : (c : Config) (w : Caller) (past : List Trace) (ms : List Action) (a : Asked) (step : RowStep) → IsOf a.op (Some step) → MayMake c w past ms step → MayMake c w past (Sent a ∷ ms) step
 may_kept c w past ms a (FastVote v value) is h = (h.0, fast_kept c w ms a v value is h.1)
 may_kept c w past ms a (Promise v b) is h = promise_kept c w past ms a v b is h
 may_kept c w past ms a (ClassicVote v b value) is h = classic_kept c w ms a v b value is h
 may_kept c w past ms a (Decide v value) is h = (h.0, known_kept w ms a v value h.1)
 may_kept c w past ms a (Trim to value) is h = h
 
-pub may_kept_of : (c : Config) (w : Caller) (past : List Tale) (ms : List Moment) (a : Asked) (step : Option RowStep) → IsOf a.op step → MayMakeOf c w past ms step → MayMakeOf c w past (Sent a ∷ ms) step
+pub may_kept_of : (c : Config) (w : Caller) (past : List Trace) (ms : List Action) (a : Asked) (step : Option RowStep) → IsOf a.op step → MayMakeOf c w past ms step → MayMakeOf c w past (Sent a ∷ ms) step
 may_kept_of c w past ms a None is h = tt
 may_kept_of c w past ms a (Some step) is h = may_kept c w past ms a step is h

@@ -13,7 +13,7 @@ use Rattle.gz_pick.specs.Looks.{row_top, highest_of}
 use Rattle.gz_pick.specs.Evidences.{votes_for, decides, IsEvident, row_at}
 use Rattle.gz_round.specs.declared.hearing.Seen.{Seen}
 use Rattle.gz_round.specs.declared.run.Run.{Run}
-use Rattle.gz_round.specs.History.{Asked, Moment, Sent, Handed, GaveUp, Rested, GaveIn}
+use Rattle.gz_round.specs.History.{Asked, Action, Sent, Handed, GaveUp, Rested, GaveIn}
 use Rattle.gz_round.specs.Sites.{SiteNow, site_now, after, after_reply, after_sent, known, row_seen, seen_in, seen_under, seen_written, written_by, is_changed, concerns, heard_in, WasHeard, can_stand}
 use Rattle.gz_round.specs.Shown.{heard_at, IsShown, IsCurrent}
 use Rattle.gz_round.specs.Counting.{known_count, outs}
@@ -22,7 +22,7 @@ use Rattle.gz_round.specs.Standing.{Knows, mark_of}
 use Rattle.gz_round.specs.Evidence.{NoneEvident}
 use Rattle.gz_round.specs.Following.{NoEvidence}
 use Rattle.gz_round.proofs.Lists.{count_same, count_told}
-use Rattle.gz_round.proofs.Moments.{now_here, now_other, each_site}
+use Rattle.gz_round.proofs.Actions.{now_here, now_other, each_site}
 use Rattle.gz_round.proofs.Heard.{counted_heard}
 use Rattle.gz_round.proofs.Columns.{stands_low, empty_stands, highest_below}
 
@@ -42,14 +42,14 @@ pub out_sent : (a : Asked) (now : SiteNow) → (after_sent a now).out ≡ now.ou
 out_sent a now = elim (cases_Bool a.awaited) [ inl e ↦ ap (λ n. n.out) (cond-true a.awaited _ now e) | inr e ↦ ap (λ n. n.out) (cond-false a.awaited _ now e) ]
 
 -- a request that is sent leaves what is known
-pub known_after_sent : (a : Asked) (ms : List Moment) (s : ℕ) → known (site_now ms s) ≡ known (site_now (Sent a ∷ ms) s)
+pub known_after_sent : (a : Asked) (ms : List Action) (s : ℕ) → known (site_now ms s) ≡ known (site_now (Sent a ∷ ms) s)
 known_after_sent a ms s = each_site (λ n. known (site_now ms s) ≡ known n) (Sent a) ms s (λ h. sym (known_sent a (site_now ms s))) (λ h. refl)
 
 -- and what is out
-pub out_after_sent : (a : Asked) (ms : List Moment) (s : ℕ) → (site_now ms s).out ≡ (site_now (Sent a ∷ ms) s).out
+pub out_after_sent : (a : Asked) (ms : List Action) (s : ℕ) → (site_now ms s).out ≡ (site_now (Sent a ∷ ms) s).out
 out_after_sent a ms s = each_site (λ n. (site_now ms s).out ≡ n.out) (Sent a) ms s (λ h. sym (out_sent a (site_now ms s))) (λ h. refl)
 
-pub row_after_sent : (a : Asked) (ms : List Moment) (s : ℕ) → (site_now ms s).row ≡ (site_now (Sent a ∷ ms) s).row
+pub row_after_sent : (a : Asked) (ms : List Action) (s : ℕ) → (site_now ms s).row ≡ (site_now (Sent a ∷ ms) s).row
 row_after_sent a ms s = each_site (λ n. (site_now ms s).row ≡ n.row) (Sent a) ms s (λ h. sym (sent_row a (site_now ms s))) (λ h. refl)
 
 handed_row : (seen : Option Seen) (changed : Bool) (now : SiteNow) (last : Seen) → (after_reply seen changed now).row ≡ Some last → (seen ≡ Some last) ⊎ (now.row ≡ Some last)
@@ -57,19 +57,19 @@ handed_row (Some seen) changed now last e = inl e
 handed_row None true now last e = inr e
 handed_row None false now last e = inr e
 
-last_after : (m : Moment) (now : SiteNow) (last : Seen) → (after m now).row ≡ Some last → (heard_in m ≡ Some last) ⊎ (now.row ≡ Some last)
+last_after : (m : Action) (now : SiteNow) (last : Seen) → (after m now).row ≡ Some last → (heard_in m ≡ Some last) ⊎ (now.row ≡ Some last)
 last_after (Sent a) now last e = inr (sym (sent_row a now) ∙ e)
 last_after (Handed a reply) now last e = handed_row (seen_in (written_by a.op) reply) (is_changed reply) now last e
 last_after (GaveUp a) now last e = inr e
 last_after Rested now last e = inr e
 last_after GaveIn now last e = inr e
 
-last_here : (m : Moment) (ms : List Moment) (s : ℕ) (last : Seen) → concerns m s ≡ true → ((site_now ms s).row ≡ Some last → WasHeard ms s last.row) → (heard_in m ≡ Some last) ⊎ ((site_now ms s).row ≡ Some last) → WasHeard (m ∷ ms) s last.row
+last_here : (m : Action) (ms : List Action) (s : ℕ) (last : Seen) → concerns m s ≡ true → ((site_now ms s).row ≡ Some last → WasHeard ms s last.row) → (heard_in m ≡ Some last) ⊎ ((site_now ms s).row ≡ Some last) → WasHeard (m ∷ ms) s last.row
 last_here m ms s last k h (inl e) = inl (last, k, e, refl)
 last_here m ms s last k h (inr e) = inr (h e)
 
 -- the last row of a site was heard there
-pub last_heard : (ms : List Moment) (s : ℕ) (last : Seen) → (site_now ms s).row ≡ Some last → WasHeard ms s last.row
+pub last_heard : (ms : List Action) (s : ℕ) (last : Seen) → (site_now ms s).row ≡ Some last → WasHeard ms s last.row
 last_heard [] s last e = absurd (none-some last e)
 last_heard (m ∷ ms) s last e =
     elim (cases_Bool (concerns m s)) [
@@ -100,17 +100,17 @@ reply_stands written (Written etag) seen e = written_stands etag written seen e
 reply_stands written Changed seen e = absurd (none-some seen e)
 reply_stands written Failed seen e = absurd (none-some seen e)
 
-moment_stands : (m : Moment) (seen : Seen) → heard_in m ≡ Some seen → can_stand seen.row ≡ true
-moment_stands (Sent a) seen e = absurd (none-some seen e)
-moment_stands (Handed a reply) seen e = reply_stands (written_by a.op) reply seen e
-moment_stands (GaveUp a) seen e = absurd (none-some seen e)
-moment_stands Rested seen e = absurd (none-some seen e)
-moment_stands GaveIn seen e = absurd (none-some seen e)
+action_stands : (m : Action) (seen : Seen) → heard_in m ≡ Some seen → can_stand seen.row ≡ true
+action_stands (Sent a) seen e = absurd (none-some seen e)
+action_stands (Handed a reply) seen e = reply_stands (written_by a.op) reply seen e
+action_stands (GaveUp a) seen e = absurd (none-some seen e)
+action_stands Rested seen e = absurd (none-some seen e)
+action_stands GaveIn seen e = absurd (none-some seen e)
 
 -- a row that was heard is one that a run can hold
-pub heard_stands : (ms : List Moment) (s : ℕ) (row : RowAt) → WasHeard ms s row → can_stand row ≡ true
+pub heard_stands : (ms : List Action) (s : ℕ) (row : RowAt) → WasHeard ms s row → can_stand row ≡ true
 heard_stands [] s row w = absurd w
-heard_stands (m ∷ ms) s row (inl k) = subst (λ r. can_stand r ≡ true) k.3 (moment_stands m k.0 k.2)
+heard_stands (m ∷ ms) s row (inl k) = subst (λ r. can_stand r ≡ true) k.3 (action_stands m k.0 k.2)
 heard_stands (m ∷ ms) s row (inr k) = heard_stands ms s row k
 
 seen_from : (o : Option Seen) (row : RowAt) → row_seen o ≡ Some row → (seen : Seen) × (o ≡ Some seen) × (seen.row ≡ row)
@@ -130,17 +130,17 @@ pub last_known : (now : SiteNow) (seen : Seen) → now.row ≡ Some seen → now
 last_known now seen e h = cond-false now.out None (row_seen now.row) h ∙ ap row_seen e
 
 -- a row that is known was heard
-pub known_heard : (ms : List Moment) (s : ℕ) (row : RowAt) → rows_known ms s ≡ Some row → WasHeard ms s row
+pub known_heard : (ms : List Action) (s : ℕ) (row : RowAt) → rows_known ms s ≡ Some row → WasHeard ms s row
 known_heard ms s row e =
     let w = known_last (site_now ms s) row e in
     subst (λ r. WasHeard ms s r) w.2 (last_heard ms s w.0 w.1)
 
 -- the list of rows has at each site the row that is known there
-pub row_at_known : (c : Config) (run : Run) (ms : List Moment) → Knows c run ms → (s : ℕ) → s < c.n → row_at run.rows s ≡ rows_known ms s
+pub row_at_known : (c : Config) (run : Run) (ms : List Action) → Knows c run ms → (s : ℕ) → s < c.n → row_at run.rows s ≡ rows_known ms s
 row_at_known c run ms k s l = rw (k.rows s l) refl
 
 -- a row in the list is known
-pub listed_known : (c : Config) (run : Run) (ms : List Moment) → Knows c run ms → (s : ℕ) (row : RowAt) → s < c.n → slice_get run.rows s ≡ Some (Some row) → rows_known ms s ≡ Some row
+pub listed_known : (c : Config) (run : Run) (ms : List Action) → Knows c run ms → (s : ℕ) (row : RowAt) → s < c.n → slice_get run.rows s ≡ Some (Some row) → rows_known ms s ≡ Some row
 listed_known c run ms k s row l e = same_Some (rows_known ms s) (Some row) (sym (k.rows s l) ∙ e)
 
 voted_shown : (b : BallotAt) (x : Name) (v : ℕ) (o : Option RowAt) → votes_for b x v o ≡ true → (row : RowAt) × (o ≡ Some row) × (votes_for b x v (Some row) ≡ true)
@@ -152,7 +152,7 @@ decided_shown x v None h = absurd (cc)
 decided_shown x v (Some row) h = (row, refl, h)
 
 -- what the known rows make evident is shown
-pub evident_shown : (c : Config) (ms : List Moment) (v : ℕ) (x : Name) → IsEvident c.n c.qc c.qf (rows_known ms) v x → IsShown c ms v x
+pub evident_shown : (c : Config) (ms : List Action) (v : ℕ) (x : Name) → IsEvident c.n c.qc c.qf (rows_known ms) v x → IsShown c ms v x
 evident_shown c ms v x (inl k) =
     let counted : count_sites c.n (λ s. votes_for k.0 x v (rows_known ms s)) ≤ heard_at c (λ r. votes_for k.0 x v (Some r)) ms = counted_heard c (λ r. votes_for k.0 x v (Some r)) (λ s. votes_for k.0 x v (rows_known ms s)) ms (λ (s : ℕ) (l : s < c.n) (h : votes_for k.0 x v (rows_known ms s) ≡ true). let w = voted_shown k.0 x v (rows_known ms s) h in (w.0, known_heard ms s w.0 w.1, w.2)) in
     inl (k.0, omega (arith, k.1, counted))
@@ -170,11 +170,11 @@ evident_same c rows others v x same (inr k) =
     inr (omega (arith, k, counted))
 
 -- what the list makes evident is shown
-pub listed_shown : (c : Config) (run : Run) (ms : List Moment) → Knows c run ms → (v : ℕ) (x : Name) → IsEvident c.n c.qc c.qf (row_at run.rows) v x → IsShown c ms v x
+pub listed_shown : (c : Config) (run : Run) (ms : List Action) → Knows c run ms → (v : ℕ) (x : Name) → IsEvident c.n c.qc c.qf (row_at run.rows) v x → IsShown c ms v x
 listed_shown c run ms k v x e = evident_shown c ms v x (evident_same c (row_at run.rows) (rows_known ms) v x (row_at_known c run ms k) e)
 
 -- what the list does not make evident is not evident
-pub none_evident : (c : Config) (run : Run) (ms : List Moment) → Knows c run ms → (v : ℕ) → NoneEvident c run.rows v → NoEvidence c ms v
+pub none_evident : (c : Config) (run : Run) (ms : List Action) → Knows c run ms → (v : ℕ) → NoneEvident c run.rows v → NoEvidence c ms v
 none_evident c run ms k v none x e = none x (evident_same c (rows_known ms) (row_at run.rows) v x (λ (s : ℕ) (l : s < c.n). sym (row_at_known c run ms k s l)) e)
 
 some_shown : (o : Option RowAt) → is_some o ≡ true → (row : RowAt) × (o ≡ Some row)
@@ -185,7 +185,7 @@ slice_inside : {A : Type 0} (xs : List A) (s n : ℕ) (x : A) → length xs ≡ 
 slice_inside xs s n x len e = omega (arith, slice_get_within xs s x e)
 
 -- a quorum of known rows that show nothing above a version makes the call current there
-pub known_current : (c : Config) (run : Run) (ms : List Moment) → Knows c run ms → (v : ℕ) → c.qc ≤ known_count c ms → ((s : ℕ) (row : RowAt) → slice_get run.rows s ≡ Some (Some row) → row_top row ≤ v) → IsCurrent c ms v
+pub known_current : (c : Config) (run : Run) (ms : List Action) → Knows c run ms → (v : ℕ) → c.qc ≤ known_count c ms → ((s : ℕ) (row : RowAt) → slice_get run.rows s ≡ Some (Some row) → row_top row ≤ v) → IsCurrent c ms v
 known_current c run ms k v enough low =
     let counted : known_count c ms ≤ heard_at c (λ r. leb (row_top r) v) ms = counted_heard c (λ r. leb (row_top r) v) (λ s. is_some (rows_known ms s)) ms (λ (s : ℕ) (l : s < c.n) (h : is_some (rows_known ms s) ≡ true).
     let w = some_shown (rows_known ms s) h in
@@ -194,15 +194,15 @@ known_current c run ms k v enough low =
     omega arith
 
 -- no known row shows a version beyond those that a run reaches
-pub known_low : (c : Config) (run : Run) (ms : List Moment) → Knows c run ms → highest_of run.rows < 2 ^ 62
+pub known_low : (c : Config) (run : Run) (ms : List Action) → Knows c run ms → highest_of run.rows < 2 ^ 62
 known_low c run ms k =
     highest_below run.rows (2 ^ 62) (omega arith) (λ (s : ℕ) (row : RowAt) (e : slice_get run.rows s ≡ Some (Some row)).
     let inside : s < c.n = slice_inside run.rows s c.n (Some row) k.rows_len e in
     stands_low row (heard_stands ms s row (known_heard ms s row (listed_known c run ms k s row inside e))))
 
 -- the counts that the lists have
-pub known_counted : (c : Config) (run : Run) (ms : List Moment) → Knows c run ms → count_by (λ row. is_some row) run.rows ≡ known_count c ms
+pub known_counted : (c : Config) (run : Run) (ms : List Action) → Knows c run ms → count_by (λ row. is_some row) run.rows ≡ known_count c ms
 known_counted c run ms k = count_told (λ row. is_some row) c.n run.rows (λ s. known (site_now ms s)) k.rows_len k.rows
 
-pub outs_counted : (c : Config) (run : Run) (ms : List Moment) → Knows c run ms → count_by (λ mark. mark.out) run.marks ≡ outs c ms
+pub outs_counted : (c : Config) (run : Run) (ms : List Action) → Knows c run ms → count_by (λ mark. mark.out) run.marks ≡ outs c ms
 outs_counted c run ms k = count_told (λ mark. mark.out) c.n run.marks (λ s. mark_of (site_now ms s)) k.marks_len k.marks

@@ -8,7 +8,7 @@ use Rattle.gz_config.specs.declared.Config.{Config}
 use Rattle.gz_core.proofs.Counting.{count_within, count_added, count_new}
 use Rattle.gz_round.specs.declared.run.Mark.{Mark}
 use Rattle.gz_round.specs.declared.run.Run.{Run}
-use Rattle.gz_round.specs.History.{Asked, Moment}
+use Rattle.gz_round.specs.History.{Asked, Action}
 use Rattle.gz_round.specs.Sites.{site_now}
 use Rattle.gz_round.specs.Standing.{Knows, AreSound, mark_of, awaited_of}
 use Rattle.gz_round.specs.Numbering.{AreNumbered, awaits_number, live_where, IsLiveAt}
@@ -71,7 +71,7 @@ number_awaits None n e = absurd (none-some n e)
 number_awaits (Some a) n e = (a, refl, same_Some a.number n e)
 
 -- a number that stands in the list is awaited from the site
-pub mark_awaits : (c : Config) (run : Run) (ms : List Moment) (s n : ℕ) (mark : Mark) → Knows c run ms → slice_get run.marks s ≡ Some mark → number_of mark ≡ Some n → (a : Asked) × (s < c.n) × ((site_now ms s).awaits ≡ Some a) × (a.number ≡ n)
+pub mark_awaits : (c : Config) (run : Run) (ms : List Action) (s n : ℕ) (mark : Mark) → Knows c run ms → slice_get run.marks s ≡ Some mark → number_of mark ≡ Some n → (a : Asked) × (s < c.n) × ((site_now ms s).awaits ≡ Some a) × (a.number ≡ n)
 mark_awaits c run ms s n mark k g e =
     let len = k.marks_len in
     let inside : s < c.n = omega (arith, slice_get_within run.marks s mark g) in
@@ -80,7 +80,7 @@ mark_awaits c run ms s n mark k g e =
     (w.0, inside, w.1, w.2)
 
 -- and the other way round
-pub awaits_mark : (c : Config) (run : Run) (ms : List Moment) (s : ℕ) (a : Asked) → Knows c run ms → s < c.n → (site_now ms s).awaits ≡ Some a → (slice_get run.marks s ≡ Some (mark_of (site_now ms s))) × (number_of (mark_of (site_now ms s)) ≡ Some a.number)
+pub awaits_mark : (c : Config) (run : Run) (ms : List Action) (s : ℕ) (a : Asked) → Knows c run ms → s < c.n → (site_now ms s).awaits ≡ Some a → (slice_get run.marks s ≡ Some (mark_of (site_now ms s))) × (number_of (mark_of (site_now ms s)) ≡ Some a.number)
 awaits_mark c run ms s a k l e = (k.marks s l, ap (λ (o : Option Asked). awaited_number (option_map awaited_of o)) e)
 
 tests_agree : (p q : ℕ → Bool) (o : Option Asked) → ((a : Asked) → o ≡ Some a → p a.number ≡ q a.number) → awaits_number p o ≡ awaits_number q o
@@ -98,12 +98,12 @@ fails_test : (p : ℕ → Bool) (o : Option Asked) (a : Asked) → o ≡ Some a 
 fails_test p o a e h = ap (awaits_number p) e ∙ h
 
 -- where no number stands from `low` on, all are below
-pub all_below : (c : Config) (run : Run) (ms : List Moment) (low : ℕ) → Knows c run ms → IsLeastFrom run.marks low None → live_where c (λ m. true) ms ≡ live_where c (λ m. nat_lt m low) ms
+pub all_below : (c : Config) (run : Run) (ms : List Action) (low : ℕ) → Knows c run ms → IsLeastFrom run.marks low None → live_where c (λ m. true) ms ≡ live_where c (λ m. nat_lt m low) ms
 all_below c run ms low k h = count_same c.n (λ s. awaits_number (λ m. true) (site_now ms s).awaits) (λ s. awaits_number (λ m. nat_lt m low) (site_now ms s).awaits) (λ (s : ℕ) (l : s < c.n). tests_agree (λ m. true) (λ m. nat_lt m low) (site_now ms s).awaits (λ (a : Asked) (e : (site_now ms s).awaits ≡ Some a).
     let w = awaits_mark c run ms s a k l e in sym (lt-ltb a.number low (h s (mark_of (site_now ms s)) a.number (slice_get_within run.marks s (mark_of (site_now ms s)) w.0) w.0 w.1))))
 
 -- none stands between `low` and the least from there on
-pub none_between : (c : Config) (run : Run) (ms : List Moment) (low n : ℕ) → Knows c run ms → IsLeastFrom run.marks low (Some n) → live_where c (λ m. nat_lt m n) ms ≡ live_where c (λ m. nat_lt m low) ms
+pub none_between : (c : Config) (run : Run) (ms : List Action) (low n : ℕ) → Knows c run ms → IsLeastFrom run.marks low (Some n) → live_where c (λ m. nat_lt m n) ms ≡ live_where c (λ m. nat_lt m low) ms
 none_between c run ms low n k h = count_same c.n (λ s. awaits_number (λ m. nat_lt m n) (site_now ms s).awaits) (λ s. awaits_number (λ m. nat_lt m low) (site_now ms s).awaits) (λ (s : ℕ) (l : s < c.n). tests_agree (λ m. nat_lt m n) (λ m. nat_lt m low) (site_now ms s).awaits (λ (a : Asked) (e : (site_now ms s).awaits ≡ Some a).
     let w = awaits_mark c run ms s a k l e in
     let from : low ≤ n = h.0.4 in
@@ -113,7 +113,7 @@ none_between c run ms low n k h = count_same c.n (λ s. awaits_number (λ m. nat
     ]))
 
 -- at most one more site is below the number after one
-count_newer : (c : Config) (ms : List Moment) (n s : ℕ) (a : Asked) (next : ℕ) → AreNumbered c ms next → s < c.n → (site_now ms s).awaits ≡ Some a → a.number ≡ n → live_where c (λ m. nat_lt m (n + 1)) ms ≤ suc (live_where c (λ m. nat_lt m n) ms)
+count_newer : (c : Config) (ms : List Action) (n s : ℕ) (a : Asked) (next : ℕ) → AreNumbered c ms next → s < c.n → (site_now ms s).awaits ≡ Some a → a.number ≡ n → live_where c (λ m. nat_lt m (n + 1)) ms ≤ suc (live_where c (λ m. nat_lt m n) ms)
 count_newer c ms n s a next numbered inside e is =
     let limited : count_sites c.n (λ u. awaits_number (λ m. nat_lt m (n + 1)) (site_now ms u).awaits) ≤ count_sites c.n (λ u. nat_lt u c.n && awaits_number (λ m. nat_lt m (n + 1)) (site_now ms u).awaits) = count_within c.n (λ u. awaits_number (λ m. nat_lt m (n + 1)) (site_now ms u).awaits) (λ u. nat_lt u c.n && awaits_number (λ m. nat_lt m (n + 1)) (site_now ms u).awaits) (λ (u : ℕ) (l : u < c.n) (t : awaits_number (λ m. nat_lt m (n + 1)) (site_now ms u).awaits ≡ true). and_from (nat_lt u c.n) (awaits_number (λ m. nat_lt m (n + 1)) (site_now ms u).awaits) (lt-ltb u c.n l) t) in
     let newer : count_sites c.n (λ u. nat_lt u c.n && awaits_number (λ m. nat_lt m (n + 1)) (site_now ms u).awaits) ≤ suc (live_where c (λ m. nat_lt m n) ms) = count_new c.n s (λ u. awaits_number (λ m. nat_lt m n) (site_now ms u).awaits) (λ u. nat_lt u c.n && awaits_number (λ m. nat_lt m (n + 1)) (site_now ms u).awaits) (λ (u : ℕ) (t : (nat_lt u c.n && awaits_number (λ m. nat_lt m (n + 1)) (site_now ms u).awaits) ≡ true).
@@ -126,7 +126,7 @@ count_newer c ms n s a next numbered inside e is =
     omega arith
 
 -- one more is below the number after the least
-pub one_more : (c : Config) (run : Run) (ms : List Moment) (low n next : ℕ) → Knows c run ms → AreNumbered c ms next → IsLeastFrom run.marks low (Some n) → live_where c (λ m. nat_lt m (n + 1)) ms ≡ live_where c (λ m. nat_lt m low) ms + 1
+pub one_more : (c : Config) (run : Run) (ms : List Action) (low n next : ℕ) → Knows c run ms → AreNumbered c ms next → IsLeastFrom run.marks low (Some n) → live_where c (λ m. nat_lt m (n + 1)) ms ≡ live_where c (λ m. nat_lt m low) ms + 1
 one_more c run ms low n next k numbered h =
     let w = mark_awaits c run ms h.0.0 n h.0.1 k h.0.2 h.0.3 in
     let same : live_where c (λ m. nat_lt m n) ms ≡ live_where c (λ m. nat_lt m low) ms = none_between c run ms low n k h in
@@ -149,11 +149,11 @@ none_low None = refl
 none_low (Some a) = le-ltb a.number 0 (omega arith)
 
 -- no number is below 0
-pub live_none : (c : Config) (ms : List Moment) → live_where c (λ m. nat_lt m 0) ms ≡ 0
+pub live_none : (c : Config) (ms : List Action) → live_where c (λ m. nat_lt m 0) ms ≡ 0
 live_none c ms = count_same c.n (λ s. awaits_number (λ m. nat_lt m 0) (site_now ms s).awaits) (λ s. false) (λ (s : ℕ) (l : s < c.n). none_low (site_now ms s).awaits) ∙ count_false c.n
 
 -- the least number from one on, below which i numbers stand, is the i-th
-pub live_from : (c : Config) (run : Run) (ms : List Moment) (low i : ℕ) (o : Option ℕ) → Knows c run ms → AreSound ms → IsLeastFrom run.marks low o → live_where c (λ m. nat_lt m low) ms ≡ i → IsLiveAt c ms i o
+pub live_from : (c : Config) (run : Run) (ms : List Action) (low i : ℕ) (o : Option ℕ) → Knows c run ms → AreSound ms → IsLeastFrom run.marks low o → live_where c (λ m. nat_lt m low) ms ≡ i → IsLiveAt c ms i o
 live_from c run ms low i None k sound h e = let below = all_below c run ms low k h in omega arith
 live_from c run ms low i (Some n) k sound h e =
     let w = mark_awaits c run ms h.0.0 n h.0.1 k h.0.2 h.0.3 in

@@ -30,7 +30,7 @@ place_of [] i l = absurd (omega arith)
 place_of (y ∷ ys) zero l = (y, refl)
 place_of (y ∷ ys) (suc i) l = place_of ys i (omega arith)
 
--- a list that tells a function of the site goes on to, where one place changes as the function does
+-- a list that has a function of the site goes on to, where one place changes as the function does
 pub told_after_set : {A : Type 0} (n : ℕ) (xs : List A) (f g : ℕ → A) (at : ℕ) (y : A) → length xs ≡ n → ((s : ℕ) → s < n → slice_get xs s ≡ Some (f s)) →
     y ≡ g at → ((s : ℕ) → s ≢ at → f s ≡ g s) → (s : ℕ) → s < n → slice_get (set xs at y) s ≡ Some (g s)
 told_after_set n xs f g at y len told here others s l =
@@ -68,7 +68,7 @@ pub count_first : (n : ℕ) (p : ℕ → Bool) → count_sites (suc n) p ≡ con
 count_first zero p = one_site (p 0)
 count_first (suc n) p = rw (count_first n p) (last_or_first (p (suc n)) (p 0) (count_sites n (λ s. p (suc s))) 0)
 
--- a count over a list that tells a function of the site is the count of the sites
+-- a count over a list that has a function of the site is the count of the sites
 pub count_told : {A : Type 0} (p : A → Bool) (n : ℕ) (xs : List A) (f : ℕ → A) → length xs ≡ n → ((s : ℕ) → s < n → slice_get xs s ≡ Some (f s)) → count_by p xs ≡ count_sites n (λ s. p (f s))
 count_told p zero [] f len told = refl
 count_told p zero (x ∷ xs) f len told = absurd (omega arith)

@@ -9,7 +9,7 @@ use Rattle.gz_core.specs.declared.requests.RowStep.{RowStep}
 use Rattle.gz_core.specs.declared.requests.Out.{Out}
 use Rattle.gz_round.specs.declared.run.Mark.{Mark}
 use Rattle.gz_round.specs.declared.run.Run.{Run}
-use Rattle.gz_round.specs.History.{Moment, Caller, Tale, sent_from}
+use Rattle.gz_round.specs.History.{Action, Caller, Trace, sent_from}
 use Rattle.gz_core.specs.Names.{BallotAt}
 use Rattle.gz_round.specs.Sent.{of_step, vote_by, phase_by, promise_by, round_after, passes_sent}
 use Rattle.gz_round.specs.Asking.{asks_of, sent_run, marked_as, phase_after, AskedBy, IsAskedAt, IsLeftBy, round_of}
@@ -83,7 +83,7 @@ left_asked run new at first outs sent step l k h =
 pub record Going (c : Config) (start run : Run) (step : Option RowStep) (first : ℕ) (outs sent : List Out) (at : ℕ) : Type 0 where
   pub few : length sent ≤ length outs + at
   pub left : IsLeftBy start run step
-  pub asked : (w : Caller) (past : List Tale) (ms : List Moment) → Asks c w past start (sent_from first outs ms) step → Passed c w past run (sent_from first sent ms) step at
+  pub asked : (w : Caller) (past : List Trace) (ms : List Action) → Asks c w past start (sent_from first outs ms) step → Passed c w past run (sent_from first sent ms) step at
 
 pub going_none : (c : Config) (run : Run) (step : Option RowStep) (first : ℕ) (outs : List Out) → Going c run run step first outs outs 0
 going_none c run step first outs = record {
@@ -108,6 +108,6 @@ going_more c start run new step first outs sent more at k l few asked g =
       asked = λ w past ms h. passed_more c w past run new ms first sent more step at l asked (g.asked w past ms h);
     }
 
-pub going_all : (c : Config) (start run : Run) (step : Option RowStep) (first : ℕ) (outs sent : List Out) → Going c start run step first outs sent c.n → (w : Caller) (past : List Tale) (ms : List Moment) → Asks c w past start (sent_from first outs ms) step →
+pub going_all : (c : Config) (start run : Run) (step : Option RowStep) (first : ℕ) (outs sent : List Out) → Going c start run step first outs sent c.n → (w : Caller) (past : List Trace) (ms : List Action) → Asks c w past start (sent_from first outs ms) step →
     Asks c w past run (sent_from first sent ms) step × AreServed c w (sent_from first sent ms) step
 going_all c start run step first outs sent g w past ms h = let p = g.asked w past ms h in (p.asks, p.served)

@@ -29,12 +29,12 @@ use Rattle.gz_pick.specs.Looks.{row_top, highest_of}
 use Rattle.gz_round.specs.declared.run.Run.{Run}
 use Rattle.gz_round.specs.declared.run.Stage.{Stage}
 use Rattle.gz_round.specs.declared.run.Stage.TheVariants.{Look, Fast, Prepare, Accept}
-use Rattle.gz_round.specs.History.{Moment, Sent, Handed, GaveUp, Rested, GaveIn, Caller, Tale, sent_from}
+use Rattle.gz_round.specs.History.{Action, Sent, Handed, GaveUp, Rested, GaveIn, Caller, Trace, sent_from}
 use Rattle.gz_round.specs.Sites.{SiteNow, site_now, some_heard}
 use Rattle.gz_round.specs.Sent.{promise_by, of_step, of_sent, passes_sent, some_sent, has_promised, has_promised_at, top_round, round_after}
 use Rattle.gz_round.specs.Shown.{heard_at}
 use Rattle.gz_round.specs.LookBack.{lowest_vote, IsLookedBack}
-use Rattle.gz_round.specs.Rounds.{IsUnused, Cast, cast_by, has_cast, passed_since, above_known, round_known, slot_round, slot_promises_above, greatest, next_round, top_rounds}
+use Rattle.gz_round.specs.Rounds.{IsUnused, ClassicCast, cast_by, has_classic_cast, passed_since, above_known, round_known, slot_round, slot_promises_above, greatest, next_round, top_rounds}
 use Rattle.gz_round.specs.Sending.{Collected, IsIdle, NoEvidence, NoneAbove, AreAllowed, MayAsk, MayMake, rows_known}
 use Rattle.gz_round.specs.Counting.{known_count, IsGoing}
 use Rattle.gz_round.specs.Asking.{IsLeftBy}
@@ -61,7 +61,7 @@ round_grows : (o : Option (ℕ × BallotAt)) (round : ℕ) → round ≤ round_a
 round_grows None round = omega arith
 round_grows (Some q) round = omega arith
 
-some_round : (p : (ℕ × BallotAt) → Bool) (b : BallotAt) (ms : List Moment) → ((q : ℕ × BallotAt) → p q ≡ true → q.1 ≡ b) → some_sent promise_by p ms ≡ true → b.round ≤ top_round ms
+some_round : (p : (ℕ × BallotAt) → Bool) (b : BallotAt) (ms : List Action) → ((q : ℕ × BallotAt) → p q ≡ true → q.1 ≡ b) → some_sent promise_by p ms ≡ true → b.round ≤ top_round ms
 some_round p b [] h e = absurd (false≢true e)
 some_round p b (m ∷ ms) h e =
     elim (or_cases (passes_sent p (of_sent promise_by m)) (some_sent promise_by p ms) e) [
@@ -69,31 +69,31 @@ some_round p b (m ∷ ms) h e =
       | inr rest ↦ omega (arith, some_round p b ms h rest, round_grows (of_sent promise_by m) (top_round ms))
     ]
 
-pub promised_round : (ms : List Moment) (b : BallotAt) → has_promised ms b ≡ true → b.round ≤ top_round ms
+pub promised_round : (ms : List Action) (b : BallotAt) → has_promised ms b ≡ true → b.round ≤ top_round ms
 promised_round ms b e = some_round (λ p. same_ballot p.1 b) b ms (λ (q : ℕ × BallotAt) (k : same_ballot q.1 b ≡ true). same_means q.1 b k) e
 
-pub promised_round_at : (ms : List Moment) (v : ℕ) (b : BallotAt) → has_promised_at ms v b ≡ true → b.round ≤ top_round ms
+pub promised_round_at : (ms : List Action) (v : ℕ) (b : BallotAt) → has_promised_at ms v b ≡ true → b.round ≤ top_round ms
 promised_round_at ms v b e = some_round (λ p. (p.0 == v) && same_ballot p.1 b) b ms (λ (q : ℕ × BallotAt) (k : ((q.0 == v) && same_ballot q.1 b) ≡ true). same_means q.1 b (and_parts (q.0 == v) (same_ballot q.1 b) k).1) e
 
-unpromised_above : (ms : List Moment) (b : BallotAt) → top_round ms < b.round → has_promised ms b ≡ false
+unpromised_above : (ms : List Action) (b : BallotAt) → top_round ms < b.round → has_promised ms b ≡ false
 unpromised_above ms b l = false_from_ne_true (has_promised ms b) (λ (e : has_promised ms b ≡ true). let low = promised_round ms b e in omega arith)
 
 -- the next ballot was not promised yet
-pub next_unpromised : (c : Config) (past : List Tale) (ms : List Moment) (v : ℕ) (b : BallotAt) → b.round ≡ next_round c past ms v → has_promised ms b ≡ false
+pub next_unpromised : (c : Config) (past : List Trace) (ms : List Action) (v : ℕ) (b : BallotAt) → b.round ≡ next_round c past ms v → has_promised ms b ≡ false
 next_unpromised c past ms v b e = unpromised_above ms b (omega arith)
 
-unpromised_at_above : (ms : List Moment) (v : ℕ) (b : BallotAt) → top_round ms < b.round → has_promised_at ms v b ≡ false
+unpromised_at_above : (ms : List Action) (v : ℕ) (b : BallotAt) → top_round ms < b.round → has_promised_at ms v b ≡ false
 unpromised_at_above ms v b l = false_from_ne_true (has_promised_at ms v b) (λ (e : has_promised_at ms v b ≡ true). let low = promised_round_at ms v b e in omega arith)
 
-unused_above : (past : List Tale) (b : BallotAt) → top_rounds past < b.round → IsUnused past b
+unused_above : (past : List Trace) (b : BallotAt) → top_rounds past < b.round → IsUnused past b
 unused_above [] b l = tt
-unused_above (tale ∷ tales) b l = (unpromised_above tale.moments b (omega arith), unused_above tales b (omega arith))
+unused_above (trace ∷ traces) b l = (unpromised_above trace.actions b (omega arith), unused_above traces b (omega arith))
 
-cast_same : (o : Option Cast) (v : ℕ) (b : BallotAt) (y : Name) → passes_sent (λ k. (k.version == v) && same_ballot k.ballot b && same_name k.name y) o ≡ true → (k : Cast) × (o ≡ Some k) × (((k.version == v) && same_ballot k.ballot b && same_name k.name y) ≡ true)
+cast_same : (o : Option ClassicCast) (v : ℕ) (b : BallotAt) (y : Name) → passes_sent (λ k. (k.version == v) && same_ballot k.ballot b && same_name k.name y) o ≡ true → (k : ClassicCast) × (o ≡ Some k) × (((k.version == v) && same_ballot k.ballot b && same_name k.name y) ≡ true)
 cast_same None v b y e = absurd (false≢true e)
 cast_same (Some k) v b y e = (k, refl, e)
 
-step_cast : (c : Config) (w : Caller) (past : List Tale) (ms : List Moment) (step : RowStep) (v : ℕ) (b : BallotAt) (y : Name) → MayMake c w past ms step → passes_sent (λ k. (k.version == v) && same_ballot k.ballot b && same_name k.name y) (cast_by step) ≡ true → has_promised_at ms v b ≡ true
+step_cast : (c : Config) (w : Caller) (past : List Trace) (ms : List Action) (step : RowStep) (v : ℕ) (b : BallotAt) (y : Name) → MayMake c w past ms step → passes_sent (λ k. (k.version == v) && same_ballot k.ballot b && same_name k.name y) (cast_by step) ≡ true → has_promised_at ms v b ≡ true
 step_cast c w past ms (FastVote u x) v b y may e = absurd (false≢true e)
 step_cast c w past ms (Promise u d) v b y may e = absurd (false≢true e)
 step_cast c w past ms (ClassicVote u d x) v b y may e =
@@ -103,15 +103,15 @@ step_cast c w past ms (ClassicVote u d x) v b y may e =
 step_cast c w past ms (Decide u x) v b y may e = absurd (false≢true e)
 step_cast c w past ms (Trim to x) v b y may e = absurd may
 
-op_cast : (c : Config) (w : Caller) (past : List Tale) (ms : List Moment) (now : SiteNow) (op : Op) (v : ℕ) (b : BallotAt) (y : Name) → MayAsk c w past ms now op → passes_sent (λ k. (k.version == v) && same_ballot k.ballot b && same_name k.name y) (of_step cast_by op) ≡ true → has_promised_at ms v b ≡ true
+op_cast : (c : Config) (w : Caller) (past : List Trace) (ms : List Action) (now : SiteNow) (op : Op) (v : ℕ) (b : BallotAt) (y : Name) → MayAsk c w past ms now op → passes_sent (λ k. (k.version == v) && same_ballot k.ballot b && same_name k.name y) (of_step cast_by op) ≡ true → has_promised_at ms v b ≡ true
 op_cast c w past ms now (ReadRow key) v b y may e = absurd (false≢true e)
 op_cast c w past ms now (WriteRow key expect step row) v b y may e = step_cast c w past ms step v b y may.1.guard e
 
 -- a call votes in a classic ballot only once it has promised it
-pub cast_promised : (c : Config) (w : Caller) (past : List Tale) (ms : List Moment) (v : ℕ) (b : BallotAt) (y : Name) → AreAllowed c w past ms → has_cast ms v b y ≡ true → has_promised_at ms v b ≡ true
+pub cast_promised : (c : Config) (w : Caller) (past : List Trace) (ms : List Action) (v : ℕ) (b : BallotAt) (y : Name) → AreAllowed c w past ms → has_classic_cast ms v b y ≡ true → has_promised_at ms v b ≡ true
 cast_promised c w past [] v b y allowed e = absurd (false≢true e)
 cast_promised c w past (Sent a ∷ ms) v b y allowed e =
-    elim (or_cases (passes_sent (λ k. (k.version == v) && same_ballot k.ballot b && same_name k.name y) (of_step cast_by a.op)) (has_cast ms v b y) e) [
+    elim (or_cases (passes_sent (λ k. (k.version == v) && same_ballot k.ballot b && same_name k.name y) (of_step cast_by a.op)) (has_classic_cast ms v b y) e) [
       | inl here ↦ or_right (passes_sent (λ p. (p.0 == v) && same_ballot p.1 b) (of_step promise_by a.op)) (has_promised_at ms v b) (op_cast c w past ms (site_now ms a.site) a.op v b y allowed.0.asks here)
       | inr rest ↦ or_right (passes_sent (λ p. (p.0 == v) && same_ballot p.1 b) (of_step promise_by a.op)) (has_promised_at ms v b) (cast_promised c w past ms v b y allowed.1 rest)
     ]
@@ -120,8 +120,8 @@ cast_promised c w past (GaveUp a ∷ ms) v b y allowed e = cast_promised c w pas
 cast_promised c w past (Rested ∷ ms) v b y allowed e = cast_promised c w past ms v b y allowed.1 e
 cast_promised c w past (GaveIn ∷ ms) v b y allowed e = cast_promised c w past ms v b y allowed.1 e
 
-uncast_above : (c : Config) (w : Caller) (past : List Tale) (ms : List Moment) (v : ℕ) (b : BallotAt) (y : Name) → AreAllowed c w past ms → top_round ms < b.round → has_cast ms v b y ≡ false
-uncast_above c w past ms v b y allowed l = false_from_ne_true (has_cast ms v b y) (λ (e : has_cast ms v b y ≡ true). let low = promised_round_at ms v b (cast_promised c w past ms v b y allowed e) in omega arith)
+uncast_above : (c : Config) (w : Caller) (past : List Trace) (ms : List Action) (v : ℕ) (b : BallotAt) (y : Name) → AreAllowed c w past ms → top_round ms < b.round → has_classic_cast ms v b y ≡ false
+uncast_above c w past ms v b y allowed l = false_from_ne_true (has_classic_cast ms v b y) (λ (e : has_classic_cast ms v b y ≡ true). let low = promised_round_at ms v b (cast_promised c w past ms v b y allowed e) in omega arith)
 
 -- the rounds that rows promise are at most the greatest one
 round_listed : (v : ℕ) (rows : List (Option RowAt)) (s : ℕ) (o : Option RowAt) → slice_get rows s ≡ Some o → round_known v o ≤ round_in v rows
@@ -155,7 +155,7 @@ greatest_reached (suc n) f =
     ]
 
 -- the greatest round of the list is that of the rows that are known
-round_greatest : (c : Config) (run : Run) (ms : List Moment) (v : ℕ) → Knows c run ms → round_in v run.rows ≡ greatest c.n (λ s. round_known v (rows_known ms s))
+round_greatest : (c : Config) (run : Run) (ms : List Action) (v : ℕ) → Knows c run ms → round_in v run.rows ≡ greatest c.n (λ s. round_known v (rows_known ms s))
 round_greatest c run ms v k =
     let most : round_in v run.rows ≤ greatest c.n (λ s. round_known v (rows_known ms s)) = elim (round_reached v run.rows) [
       | inl zero_is ↦ omega arith
@@ -170,12 +170,12 @@ round_greatest c run ms v k =
     ] in
     omega arith
 
-round_below : (c : Config) (run : Run) (ms : List Moment) (v s : ℕ) (o : Option RowAt) → Knows c run ms → s < c.n → rows_known ms s ≡ o → round_known v o < 2 ^ 31
+round_below : (c : Config) (run : Run) (ms : List Action) (v s : ℕ) (o : Option RowAt) → Knows c run ms → s < c.n → rows_known ms s ≡ o → round_known v o < 2 ^ 31
 round_below c run ms v s None k l e = omega arith
 round_below c run ms v s (Some row) k l e = stands_round row v (heard_stands ms s row (known_heard ms s row e))
 
 -- a known row promises no round beyond those that a run reaches
-pub rounds_below : (c : Config) (run : Run) (ms : List Moment) (v : ℕ) → Knows c run ms → round_in v run.rows < 2 ^ 31
+pub rounds_below : (c : Config) (run : Run) (ms : List Action) (v : ℕ) → Knows c run ms → round_in v run.rows < 2 ^ 31
 rounds_below c run ms v k =
     elim (round_reached v run.rows) [
       | inl zero_is ↦ omega arith
@@ -189,15 +189,15 @@ low_above Gone b l = refl
 low_above (DecidedAs x) b l = refl
 low_above (OpenAt promise vote) b l = grind (arith, nat_tests)
 
-low_listed : (c : Config) (run : Run) (ms : List Moment) (v : ℕ) (b : BallotAt) (s : ℕ) (row : RowAt) → Knows c run ms → round_in v run.rows < b.round → s < c.n → rows_known ms s ≡ Some row → slot_round (slots row v) < b.round
+low_listed : (c : Config) (run : Run) (ms : List Action) (v : ℕ) (b : BallotAt) (s : ℕ) (row : RowAt) → Knows c run ms → round_in v run.rows < b.round → s < c.n → rows_known ms s ≡ Some row → slot_round (slots row v) < b.round
 low_listed c run ms v b s row k l i e = omega (arith, round_listed v run.rows s (Some row) (k.rows s i ∙ ap (λ o. Some o) e))
 
 -- no known row promises a ballot above the new one
-pub none_above_new : (c : Config) (run : Run) (ms : List Moment) (v : ℕ) (b : BallotAt) → Knows c run ms → round_in v run.rows < b.round → NoneAbove c ms v b
+pub none_above_new : (c : Config) (run : Run) (ms : List Action) (v : ℕ) (b : BallotAt) → Knows c run ms → round_in v run.rows < b.round → NoneAbove c ms v b
 none_above_new c run ms v b k l s row i e = low_above (slots row v) b (low_listed c run ms v b s row k l i e)
 
 -- what a call looks back at as it prepares a ballot, whatever it sends at that event
-pub looked_back : (c : Config) (w : Caller) (past : List Tale) (run : Run) (ms : List Moment) (first : ℕ) (sent more : List Out) (v : ℕ) (b : BallotAt) (found : Option Value) → Prepares c w past run (sent_from first sent ms) v → IsBallotAbove run v b → found ≡ lowest_vote c.n v (sent_from first sent ms) → IsLookedBack c (sent_from first more ms) v b found
+pub looked_back : (c : Config) (w : Caller) (past : List Trace) (run : Run) (ms : List Action) (first : ℕ) (sent more : List Out) (v : ℕ) (b : BallotAt) (found : Option Value) → Prepares c w past run (sent_from first sent ms) v → IsBallotAbove run v b → found ≡ lowest_vote c.n v (sent_from first sent ms) → IsLookedBack c (sent_from first more ms) v b found
 looked_back c w past run ms first sent more v b found p n e =
     let round = n.round in
     let used = p.stands.round_is in
@@ -205,7 +205,7 @@ looked_back c w past run ms first sent more v b found p n e =
     e ∙ (ap (lowest_vote c.n v) (sym (before_none v b (sent_from first sent ms) unpromised)) ∙ (back_sent_from c first sent ms v b ∙ sym (back_sent_from c first more ms v b)))
 
 -- what is kept while the new ballot is promised
-pub prepared_asks : (c : Config) (w : Caller) (past : List Tale) (run : Run) (ms : List Moment) (v : ℕ) (b : BallotAt) (found : Option Value) → Prepares c w past run ms v → IsBallotAbove run v b → Asks c w past (record run { stage = Prepare v b found }) ms (Some (Promise v b))
+pub prepared_asks : (c : Config) (w : Caller) (past : List Trace) (run : Run) (ms : List Action) (v : ℕ) (b : BallotAt) (found : Option Value) → Prepares c w past run ms v → IsBallotAbove run v b → Asks c w past (record run { stage = Prepare v b found }) ms (Some (Promise v b))
 prepared_asks c w past run ms v b found p n =
     let round = n.round in
     let used = p.stands.round_is in
@@ -233,7 +233,7 @@ known_some None e = absurd (false≢true e)
 known_some (Some row) e = (row, refl)
 
 -- where no known row takes a ballot above all that they promise, one has its version collected
-prepared_gone : (c : Config) (w : Caller) (new : Run) (ns : List Moment) (v : ℕ) (b : BallotAt) → IsConfig c → Knows c new ns → IsGoing c ns → IsIdle c ns v → round_in v new.rows < b.round → ((s : ℕ) (row : RowAt) → s < c.n → rows_known ns s ≡ Some row → promise_answer row v b ≢ Done) → HasGone c ns v
+prepared_gone : (c : Config) (w : Caller) (new : Run) (ns : List Action) (v : ℕ) (b : BallotAt) → IsConfig c → Knows c new ns → IsGoing c ns → IsIdle c ns v → round_in v new.rows < b.round → ((s : ℕ) (row : RowAt) → s < c.n → rows_known ns s ≡ Some row → promise_answer row v b ≢ Done) → HasGone c ns v
 prepared_gone c w new ns v b config k going idle low untaken =
     let enough : c.qc ≤ known_count c ns = quorum_known c ns idle.heard going.enough in
     let one : 0 < known_count c ns = let q = config.quorums in omega (arith, config.some, q.majority) in
@@ -245,7 +245,7 @@ prepared_gone c w new ns v b config k going idle low untaken =
     ]
 
 -- once the new ballot was promised at each site that takes it, the call waits, or gives in
-pub prepared_turned : (c : Config) (w : Caller) (past : List Tale) (run new : Run) (ms : List Moment) (v : ℕ) (b : BallotAt) (found : Option Value) (ns : List Moment) → IsConfig c → Prepares c w past run ms v → IsBallotAbove run v b → IsGoing c ns → NoEvidence c ns v → (own_value w.name w.call ≡ None → IsLookedBack c ns v b found) →
+pub prepared_turned : (c : Config) (w : Caller) (past : List Trace) (run new : Run) (ms : List Action) (v : ℕ) (b : BallotAt) (found : Option Value) (ns : List Action) → IsConfig c → Prepares c w past run ms v → IsBallotAbove run v b → IsGoing c ns → NoEvidence c ns v → (own_value w.name w.call ≡ None → IsLookedBack c ns v b found) →
     Asks c w past new ns (Some (Promise v b)) → AreServed c w ns (Some (Promise v b)) → IsLeftBy (record run { stage = Prepare v b found }) new (Some (Promise v b)) → HasTurned c w past new ns (prepared_of new)
 prepared_turned c w past run new ms v b found ns config p n going none back asks served left =
     let round = n.round in
@@ -262,13 +262,13 @@ prepared_turned c w past run new ms v b found ns config p n going none back asks
           (given_in_turned c w past new ns config k going (Collected v b (record { going = going; idle = idle; promise = asks.may; gone = gone }))))
     ]
 
-heard_one : (c : Config) (p : RowAt → Bool) (ms : List Moment) (s : ℕ) (row : RowAt) → s < c.n → rows_known ms s ≡ Some row → p row ≡ true → 1 ≤ heard_at c p ms
+heard_one : (c : Config) (p : RowAt → Bool) (ms : List Action) (s : ℕ) (row : RowAt) → s < c.n → rows_known ms s ≡ Some row → p row ≡ true → 1 ≤ heard_at c p ms
 heard_one c p ms s row l e h = count_one c.n (some_heard p ms) s l (heard_passes p ms s row (known_heard ms s row e) h)
 
-unpromised_passed : (ms : List Moment) (v u : ℕ) → v ≤ u → IsUnpromised ms v → (d : BallotAt) → has_promised_at ms u d ≡ true → passed_since u d ms ≡ true
+unpromised_passed : (ms : List Action) (v u : ℕ) → v ≤ u → IsUnpromised ms v → (d : BallotAt) → has_promised_at ms u d ≡ true → passed_since u d ms ≡ true
 unpromised_passed ms v u l h d e = absurd (both_ways (has_promised_at ms u d) (h u d l) e)
 
-ended_prepares : (c : Config) (w : Caller) (past : List Tale) (run : Run) (ms : List Moment) (stage : Stage) → run.stage ≡ stage → RunsOut c w past run ms → ended_in run stage ≡ None → Prepares c w past run ms (version_in stage (highest_of run.rows))
+ended_prepares : (c : Config) (w : Caller) (past : List Trace) (run : Run) (ms : List Action) (stage : Stage) → run.stage ≡ stage → RunsOut c w past run ms → ended_in run stage ≡ None → Prepares c w past run ms (version_in stage (highest_of run.rows))
 ended_prepares c w past run ms Look at r e =
     let s : StageStands c w past Look ms = subst (λ st. StageStands c w past st ms) at r.stage in
     let above : 1 ≤ highest_of run.rows = subst (λ st. 1 ≤ version_in st (highest_of run.rows)) at r.above in
@@ -297,14 +297,14 @@ ended_prepares c w past run ms (Prepare v b found) at r e = absurd (none-some _ 
 ended_prepares c w past run ms (Accept v b x) at r e = absurd (none-some _ (sym e))
 
 -- a call prepares once its first phases ended
-pub out_prepares : (c : Config) (w : Caller) (past : List Tale) (run : Run) (ms : List Moment) → RunsOut c w past run ms → ended_of run ≡ None → Prepares c w past run ms (working_version run)
+pub out_prepares : (c : Config) (w : Caller) (past : List Trace) (run : Run) (ms : List Action) → RunsOut c w past run ms → ended_of run ≡ None → Prepares c w past run ms (working_version run)
 out_prepares c w past run ms r e = ended_prepares c w past run ms run.stage refl r e
 
-passed_row : (c : Config) (ms : List Moment) (v : ℕ) (b : BallotAt) (s : ℕ) (o : Option RowAt) → s < c.n → rows_known ms s ≡ o → ArePassed c ms v b → above_known v b o ≡ true → passed_since v b ms ≡ true
+passed_row : (c : Config) (ms : List Action) (v : ℕ) (b : BallotAt) (s : ℕ) (o : Option RowAt) → s < c.n → rows_known ms s ≡ o → ArePassed c ms v b → above_known v b o ≡ true → passed_since v b ms ≡ true
 passed_row c ms v b s None l e passed h = absurd (false≢true h)
 passed_row c ms v b s (Some row) l e passed h = passed s row l e h
 
-passed_by : (c : Config) (w : Caller) (past : List Tale) (run : Run) (ms : List Moment) (v : ℕ) (b d : BallotAt) → Stands c w past run ms → IsWorking c w past ms v b → ArePassed c ms v b → (run.round < b.round) ⊎ (list_any (above_known v b) run.rows ≡ true) → has_promised_at ms v d ≡ true → passed_since v d ms ≡ true
+passed_by : (c : Config) (w : Caller) (past : List Trace) (run : Run) (ms : List Action) (v : ℕ) (b d : BallotAt) → Stands c w past run ms → IsWorking c w past ms v b → ArePassed c ms v b → (run.round < b.round) ⊎ (list_any (above_known v b) run.rows ≡ true) → has_promised_at ms v d ≡ true → passed_since v d ms ≡ true
 passed_by c w past run ms v b d h may passed why e =
     elim (cases_Bool (same_ballot d b)) [
       | inr apart ↦ may.passed d (λ (k : d ≡ b). both_ways (same_ballot d b) apart (same_from d b k)) e
@@ -322,7 +322,7 @@ passed_by c w past run ms v b d h may passed why e =
       ])
     ]
 
-lost_prepares : (c : Config) (w : Caller) (past : List Tale) (run : Run) (ms : List Moment) (stage : Stage) → run.stage ≡ stage → Carries c w past run ms → is_overtaken_in run stage ≡ true → Prepares c w past run ms (version_in stage (highest_of run.rows))
+lost_prepares : (c : Config) (w : Caller) (past : List Trace) (run : Run) (ms : List Action) (stage : Stage) → run.stage ≡ stage → Carries c w past run ms → is_overtaken_in run stage ≡ true → Prepares c w past run ms (version_in stage (highest_of run.rows))
 lost_prepares c w past run ms Look at p e = absurd (false≢true e)
 lost_prepares c w past run ms (Fast v) at p e = absurd (false≢true e)
 lost_prepares c w past run ms (Prepare v b found) at p e =
@@ -338,5 +338,5 @@ lost_prepares c w past run ms (Accept v b x) at p e =
     record { stands = h; going = p.acts.going; pass = s.1.works.pass; grounded = s.1.works.grounded; passed = λ (d : BallotAt) (k : has_promised_at ms v d ≡ true). passed_by c w past run ms v b d h s.1.works s.2 (inr e) k; begun = λ reads. begun_heard c ms v b (s.1.works.begun reads); none = none }
 
 -- a call prepares again where its ballot leads no further
-pub overtaken_prepares : (c : Config) (w : Caller) (past : List Tale) (run : Run) (ms : List Moment) → Carries c w past run ms → is_overtaken run ≡ true → Prepares c w past run ms (working_version run)
+pub overtaken_prepares : (c : Config) (w : Caller) (past : List Trace) (run : Run) (ms : List Action) → Carries c w past run ms → is_overtaken run ≡ true → Prepares c w past run ms (working_version run)
 overtaken_prepares c w past run ms p e = lost_prepares c w past run ms run.stage refl p e

@@ -22,22 +22,22 @@ use Rattle.gz_core.specs.declared.rows.Column.TheVariants.{Open, Decided}
 use Rattle.gz_config.specs.declared.Config.{Config}
 use Rattle.gz_core.proofs.Ballots.{same_means, same_from}
 use Rattle.gz_pick.specs.Evidences.{is_in}
-use Rattle.gz_pick.specs.Choices.{pick_of, choice_in, choice_at, carries, has_threshold, top_of, has_site, AreSites}
+use Rattle.gz_pick.specs.Choices.{pick_of, choice_in, choice_at, carries, has_threshold, top_of, has_heard_site, AreHeardSites}
 use Rattle.gz_pick.specs.declared.heard.Heard.{Heard}
 use Rattle.gz_pick.specs.declared.heard.Pick.TheVariants.{Forced, Free}
 use Rattle.gz_round.specs.declared.run.Run.{Run}
 use Rattle.gz_round.specs.declared.run.Stage.TheVariants.{Prepare, Accept}
-use Rattle.gz_round.specs.History.{Moment, Caller, Tale}
+use Rattle.gz_round.specs.History.{Action, Caller, Trace}
 use Rattle.gz_round.specs.Sent.{last_promise}
 use Rattle.gz_core.specs.Calls.{own_value}
 use Rattle.gz_round.specs.LookBack.{or_next, IsLookedBack}
-use Rattle.gz_round.specs.Rounds.{MayClassicVote, MayPropose, IsPromiseHeard, IsLeft, promises_known, slot_promises, has_cast, rounds_used, IsValueKnown}
+use Rattle.gz_round.specs.Rounds.{MayClassicVote, MayPropose, IsPromiseHeard, IsLeft, promises_known, slot_promises, has_classic_cast, rounds_used, IsValueKnown}
 use Rattle.gz_round.specs.Causes.{row_value, column_value, vote_value}
 use Rattle.gz_round.specs.Sending.{NoEvidence, MayGiveIn, NoValue}
 use Rattle.gz_round.specs.Standing.{Knows, Stands, StageStands, MayPass}
 use Rattle.gz_round.specs.Following.{IsUnmet}
-use Rattle.gz_round.specs.Choosing.{promised_vote, heard_vote, IsHeardIn, AreHeardIn, IsProposed}
-use Rattle.gz_round.specs.Acting.{Acts, Carries, IsFewIn, ChoiceMeans, choice_of}
+use Rattle.gz_round.specs.Choosing.{promised_vote, heard_vote, IsHeardIn, AreHeardIn, IsProposal}
+use Rattle.gz_round.specs.Acting.{IsGoalUnmet, Carries, IsFewIn, ChoiceMeans, choice_of}
 use Rattle.gz_round.proofs.Known.{listed_known, known_heard}
 use Rattle.gz_round.proofs.LookBacks.{back_heard, last_promised_at}
 use Rattle.gz_round.proofs.Arms.{stands_stage}
@@ -68,15 +68,15 @@ known_no : (v : ℕ) (b : BallotAt) (o : Option RowAt) → heard_vote v b o ≡ 
 known_no v b None e = refl
 known_no v b (Some row) e = vote_no b (slots row v) e
 
-has_pushed : (s : ℕ) (hs : List Heard) (h : Heard) → has_site s hs ≡ false → h.site ≢ s → has_site s (hs ++ (h ∷ [])) ≡ false
+has_pushed : (s : ℕ) (hs : List Heard) (h : Heard) → has_heard_site s hs ≡ false → h.site ≢ s → has_heard_site s (hs ++ (h ∷ [])) ≡ false
 has_pushed s [] h e n = cond-false (h.site == s) true false (ne_eqb h.site s n)
 has_pushed s (g ∷ hs) h e n =
     elim (cases_Bool (g.site == s)) [
-      | inl k ↦ absurd (true≢false (sym (cond-true (g.site == s) true (has_site s hs) k) ∙ e))
-      | inr k ↦ cond-false (g.site == s) true (has_site s (hs ++ (h ∷ []))) k ∙ has_pushed s hs h (sym (cond-false (g.site == s) true (has_site s hs) k) ∙ e) n
+      | inl k ↦ absurd (true≢false (sym (cond-true (g.site == s) true (has_heard_site s hs) k) ∙ e))
+      | inr k ↦ cond-false (g.site == s) true (has_heard_site s (hs ++ (h ∷ []))) k ∙ has_pushed s hs h (sym (cond-false (g.site == s) true (has_heard_site s hs) k) ∙ e) n
     ]
 
-sites_pushed : (n at : ℕ) (hs : List Heard) (h : Heard) → AreSites n hs → All (λ (g : Heard). g.site < at) hs → h.site ≡ at → at < n → AreSites n (hs ++ (h ∷ []))
+sites_pushed : (n at : ℕ) (hs : List Heard) (h : Heard) → AreHeardSites n hs → All (λ (g : Heard). g.site < at) hs → h.site ≡ at → at < n → AreHeardSites n (hs ++ (h ∷ []))
 sites_pushed n at [] h are below e l = (omega arith, (refl, tt))
 sites_pushed n at (g ∷ hs) h are below e l =
     let low : g.site < at = below zero g (omega arith) in
@@ -133,7 +133,7 @@ slot_open b (OpenAt promise held) vote e =
     (ap (λ p. OpenAt p held) ballot ∙ ap (OpenAt b) same, subst (λ o. IsVoteOf b o → ⊥) same (not_in b held (not_true (is_in b held) both.1)))
 
 -- rows that are known to promise the ballot were heard to promise it
-pub promises_heard : (c : Config) (run : Run) (ms : List Moment) (v : ℕ) (b : BallotAt) (heard : List Heard) → Knows c run ms → All (IsHeardIn run.rows v b) heard → All (IsPromiseHeard ms v b) heard
+pub promises_heard : (c : Config) (run : Run) (ms : List Action) (v : ℕ) (b : BallotAt) (heard : List Heard) → Knows c run ms → All (IsHeardIn run.rows v b) heard → All (IsPromiseHeard ms v b) heard
 promises_heard c run ms v b heard k h =
     All-weaker (IsHeardIn run.rows v b) (IsPromiseHeard ms v b) (λ (one : Heard) (w : IsHeardIn run.rows v b one).
     let inside : one.site < c.n = let len = k.rows_len in omega (arith, slice_get_within run.rows one.site (Some w.0) w.1) in
@@ -221,7 +221,7 @@ forced_free : (at : ℕ) → Forced at ≡ Free → ⊥
 forced_free at e = cc
 
 -- what a call proposes where no value is forced: its own, or what it looked back at
-free_may : (c : Config) (w : Caller) (past : List Tale) (run : Run) (ms : List Moment) (v : ℕ) (b : BallotAt) (found : Option Value) (x : Value) (own : Option Value) → own_value w.name w.call ≡ own → Stands c w past run ms → MayPass c w ms v → (own_value w.name w.call ≡ None → IsLookedBack c ms v b found) → Some x ≡ or_next run.own found →
+free_may : (c : Config) (w : Caller) (past : List Trace) (run : Run) (ms : List Action) (v : ℕ) (b : BallotAt) (found : Option Value) (x : Value) (own : Option Value) → own_value w.name w.call ≡ own → Stands c w past run ms → MayPass c w ms v → (own_value w.name w.call ≡ None → IsLookedBack c ms v b found) → Some x ≡ or_next run.own found →
     MayPropose c w ms v x × IsValueKnown w ms v x × (own_value w.name w.call ≡ None → IsLookedBack c ms v b (Some x))
 free_may c w past run ms v b found x (Some y) is h pass back e =
     let same : y ≡ x = next_some run.own found x y (h.own_is ∙ is) e in
@@ -234,7 +234,7 @@ free_may c w past run ms v b found x None is h pass back e =
     (inr (w'.0, w'.1, w'.2, is, w'.3, w'.4), inr (w'.0, w'.1, w'.3, w'.5), λ reads. looked)
 
 -- what is proposed is left to the call, which knows it
-proposed_may : (c : Config) (w : Caller) (past : List Tale) (run : Run) (ms : List Moment) (v : ℕ) (b : BallotAt) (found : Option Value) (heard : List Heard) (x : Value) → Stands c w past run ms → MayPass c w ms v → (own_value w.name w.call ≡ None → IsLookedBack c ms v b found) → All (IsHeardIn run.rows v b) heard → IsProposed c run v found heard (Some x) →
+proposed_may : (c : Config) (w : Caller) (past : List Trace) (run : Run) (ms : List Action) (v : ℕ) (b : BallotAt) (found : Option Value) (heard : List Heard) (x : Value) → Stands c w past run ms → MayPass c w ms v → (own_value w.name w.call ≡ None → IsLookedBack c ms v b found) → All (IsHeardIn run.rows v b) heard → IsProposal c run v found heard (Some x) →
     IsLeft c w ms v heard x × IsValueKnown w ms v x × (own_value w.name w.call ≡ None → pick_of c.n c.qf heard ≡ Free → IsLookedBack c ms v b (Some x))
 proposed_may c w past run ms v b found heard x h pass back all (inl k) =
     let may = free_may c w past run ms v b found x (own_value w.name w.call) refl h pass back k.1 in
@@ -251,16 +251,16 @@ proposed_may c w past run ms v b found heard x h pass back all (inr k) =
     (inl (k.0, k.3, (one, named.0, k.4, named.1, named.2)), inr (one.site, k.2, known_heard ms one.site k.2 (listed_known c run ms h.knows one.site k.2 inside k.5), value), λ reads free. absurd (forced_free k.0 (sym k.3 ∙ free)))
 
 -- where nothing is proposed, the call writes nothing and looked back at nothing
-proposed_none : (c : Config) (w : Caller) (past : List Tale) (run : Run) (ms : List Moment) (v : ℕ) (b : BallotAt) (found : Option Value) (heard : List Heard) → Stands c w past run ms → IsProposed c run v found heard None → (own_value w.name w.call ≡ None) × (found ≡ None) × (pick_of c.n c.qf heard ≡ Free)
+proposed_none : (c : Config) (w : Caller) (past : List Trace) (run : Run) (ms : List Action) (v : ℕ) (b : BallotAt) (found : Option Value) (heard : List Heard) → Stands c w past run ms → IsProposal c run v found heard None → (own_value w.name w.call ≡ None) × (found ≡ None) × (pick_of c.n c.qf heard ≡ Free)
 proposed_none c w past run ms v b found heard h (inl k) = let both = next_both run.own found (sym k.1) in (sym h.own_is ∙ both.0, both.1, k.0)
 proposed_none c w past run ms v b found heard h (inr k) = absurd (none-some k.6 k.8)
 
-was_last : (past : List Tale) (ms : List Moment) (v : ℕ) (b : BallotAt) (round : ℕ) → round ≡ rounds_used past ms → b.round ≤ round → (last_promise ms ≡ Some (v, b)) ⊎ (rounds_used past ms < b.round) → last_promise ms ≡ Some (v, b)
+was_last : (past : List Trace) (ms : List Action) (v : ℕ) (b : BallotAt) (round : ℕ) → round ≡ rounds_used past ms → b.round ≤ round → (last_promise ms ≡ Some (v, b)) ⊎ (rounds_used past ms < b.round) → last_promise ms ≡ Some (v, b)
 was_last past ms v b round e l (inl h) = h
 was_last past ms v b round e l (inr h) = absurd (omega arith)
 
 -- a quorum promises the ballot, and the call may vote in it
-chosen_carries : (c : Config) (w : Caller) (past : List Tale) (run : Run) (ms : List Moment) (v : ℕ) (b : BallotAt) (found : Option Value) (heard : List Heard) (x : Value) → run.stage ≡ Prepare v b found → Acts c w past run ms → b.round ≤ run.round → AreHeardIn c run.rows v b heard c.n → c.qc ≤ length heard → IsProposed c run v found heard (Some x) →
+chosen_carries : (c : Config) (w : Caller) (past : List Trace) (run : Run) (ms : List Action) (v : ℕ) (b : BallotAt) (found : Option Value) (heard : List Heard) (x : Value) → run.stage ≡ Prepare v b found → IsGoalUnmet c w past run ms → b.round ≤ run.round → AreHeardIn c run.rows v b heard c.n → c.qc ≤ length heard → IsProposal c run v found heard (Some x) →
     Carries c w past (record run { stage = Accept v b x }) ms
 chosen_carries c w past run ms v b found heard x at a reached are enough proposed =
     let s : StageStands c w past (Prepare v b found) ms = subst (λ st. StageStands c w past st ms) at a.ready.stage in
@@ -276,7 +276,7 @@ chosen_carries c w past run ms v b found heard x at a reached are enough propose
       rows = promises_heard c run ms v b heard a.ready.stands.knows are.rows_are;
       choice = may.0;
       known = may.1;
-      one = λ (y : Name) (k : has_cast ms v b y ≡ true). absurd (both_ways (has_cast ms v b y) (s.0.uncast y) k);
+      one = λ (y : Name) (k : has_classic_cast ms v b y ≡ true). absurd (both_ways (has_classic_cast ms v b y) (s.0.uncast y) k);
       back = may.2;
     } in
     record {
@@ -285,7 +285,7 @@ chosen_carries c w past run ms v b found heard x at a reached are enough propose
     }
 
 -- a quorum promises the ballot, and the call has no value to vote for
-nothing_gives_in : (c : Config) (w : Caller) (past : List Tale) (run : Run) (ms : List Moment) (v : ℕ) (b : BallotAt) (found : Option Value) (heard : List Heard) → run.stage ≡ Prepare v b found → Acts c w past run ms → b.round ≤ run.round → AreHeardIn c run.rows v b heard c.n → c.qc ≤ length heard → IsProposed c run v found heard None → MayGiveIn c w past ms
+nothing_gives_in : (c : Config) (w : Caller) (past : List Trace) (run : Run) (ms : List Action) (v : ℕ) (b : BallotAt) (found : Option Value) (heard : List Heard) → run.stage ≡ Prepare v b found → IsGoalUnmet c w past run ms → b.round ≤ run.round → AreHeardIn c run.rows v b heard c.n → c.qc ≤ length heard → IsProposal c run v found heard None → MayGiveIn c w past ms
 nothing_gives_in c w past run ms v b found heard at a reached are enough proposed =
     let s : StageStands c w past (Prepare v b found) ms = subst (λ st. StageStands c w past st ms) at a.ready.stage in
     let none = proposed_none c w past run ms v b found heard a.ready.stands proposed in
@@ -305,7 +305,7 @@ nothing_gives_in c w past run ms v b found heard at a reached are enough propose
       undecided = subst (λ st. IsUnmet c run st ms) at a.unmet;
     })
 
-pub chosen_means : (c : Config) (w : Caller) (past : List Tale) (run : Run) (ms : List Moment) (v : ℕ) (b : BallotAt) (found : Option Value) (heard : List Heard) (o : Option Value) → run.stage ≡ Prepare v b found → Acts c w past run ms → b.round ≤ run.round → AreHeardIn c run.rows v b heard c.n → c.qc ≤ length heard → IsProposed c run v found heard o → ChoiceMeans c w past run ms (choice_of v b o)
+pub chosen_means : (c : Config) (w : Caller) (past : List Trace) (run : Run) (ms : List Action) (v : ℕ) (b : BallotAt) (found : Option Value) (heard : List Heard) (o : Option Value) → run.stage ≡ Prepare v b found → IsGoalUnmet c w past run ms → b.round ≤ run.round → AreHeardIn c run.rows v b heard c.n → c.qc ≤ length heard → IsProposal c run v found heard o → ChoiceMeans c w past run ms (choice_of v b o)
 chosen_means c w past run ms v b found heard None at a reached are enough proposed = nothing_gives_in c w past run ms v b found heard at a reached are enough proposed
 chosen_means c w past run ms v b found heard (Some x) at a reached are enough proposed = chosen_carries c w past run ms v b found heard x at a reached are enough proposed
 

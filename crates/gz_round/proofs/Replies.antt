@@ -11,7 +11,7 @@ use Rattle.gz_core.specs.declared.requests.Reply.TheVariants.{Row, NoRow, Writte
 use Rattle.gz_round.specs.declared.hearing.Seen.{Seen}
 use Rattle.gz_round.specs.declared.run.Mark.{Mark}
 use Rattle.gz_round.specs.declared.run.Run.{Run}
-use Rattle.gz_round.specs.History.{Asked, Moment, Handed, GaveUp, Caller, Tale}
+use Rattle.gz_round.specs.History.{Asked, Action, Handed, GaveUp, Caller, Trace}
 use Rattle.gz_round.specs.Sites.{SiteNow, site_now, after_reply, known, row_seen, written_by, seen_in, is_changed}
 use Rattle.gz_round.specs.Sent.{met, voted, phase_of, top_round}
 use Rattle.gz_round.specs.Rounds.{top_rounds}
@@ -20,7 +20,7 @@ use Rattle.gz_round.specs.Noting.{left_run, noted_by, written_at, written_of, Is
 use Rattle.gz_round.specs.Standing.{Knows, Stands, StageStands, IsSound, mark_of, etag_seen, awaited_of}
 use Rattle.gz_round.specs.Following.{Ready}
 use Rattle.gz_round.proofs.Lists.{told_after_set, told_same}
-use Rattle.gz_round.proofs.Moments.{is_to_same, is_to_other, now_here, now_other}
+use Rattle.gz_round.proofs.Actions.{is_to_same, is_to_other, now_here, now_other}
 use Rattle.gz_round.proofs.Stages.{Ends, stage_more}
 
 abbrev pub met_by : Option Seen → Bool → ℕ → ℕ
@@ -28,7 +28,7 @@ met_by (Some seen) changed n = n
 met_by None true n = n + 1
 met_by None false n = n
 
-ended_rows : (c : Config) (run : Run) (ms : List Moment) (m : Moment) (at : ℕ) (seen : Option Seen) (changed : Bool) → Ends m at seen changed → (site_now ms at).out ≡ false → Knows c run ms → at < c.n →
+ended_rows : (c : Config) (run : Run) (ms : List Action) (m : Action) (at : ℕ) (seen : Option Seen) (changed : Bool) → Ends m at seen changed → (site_now ms at).out ≡ false → Knows c run ms → at < c.n →
     (s : ℕ) → s < c.n → slice_get (noted_by run at (mark_of (site_now ms at)) (known (site_now ms at)) seen changed).rows s ≡ Some (known (site_now (m ∷ ms) s))
 ended_rows c run ms m at (Some seen) changed e kept k l =
     told_after_set c.n run.rows (λ s. known (site_now ms s)) (λ s. known (site_now (m ∷ ms) s)) at (Some seen.row) k.rows_len k.rows
@@ -55,7 +55,7 @@ mark_overtaken now kept = ap (λ (o : Option RowAt). let m : Mark = record { eta
 mark_left : (now : SiteNow) → now.out ≡ false → (let m : Mark = record { etag = etag_seen now.row; changed = now.changed; out = true; left = known now; awaited = None } in m) ≡ mark_of (after_reply None false now)
 mark_left now kept = ap (λ (o : Option RowAt). let m : Mark = record { etag = etag_seen now.row; changed = now.changed; out = true; left = o; awaited = None } in m) (cond-false now.out None (row_seen now.row) kept)
 
-ended_marks : (c : Config) (run : Run) (ms : List Moment) (m : Moment) (at : ℕ) (seen : Option Seen) (changed : Bool) → Ends m at seen changed → (site_now ms at).out ≡ false → Knows c run ms → at < c.n →
+ended_marks : (c : Config) (run : Run) (ms : List Action) (m : Action) (at : ℕ) (seen : Option Seen) (changed : Bool) → Ends m at seen changed → (site_now ms at).out ≡ false → Knows c run ms → at < c.n →
     (s : ℕ) → s < c.n → slice_get (noted_by run at (mark_of (site_now ms at)) (known (site_now ms at)) seen changed).marks s ≡ Some (mark_of (site_now (m ∷ ms) s))
 ended_marks c run ms m at (Some seen) changed e kept k l =
     told_after_set c.n run.marks (λ s. mark_of (site_now ms s)) (λ s. mark_of (site_now (m ∷ ms) s)) at (record { etag = seen.etag; changed = false; out = false; left = None; awaited = None }) k.marks_len k.marks
@@ -105,8 +105,8 @@ sound_ended (Some seen) changed now s = record { inside = λ (a : Asked) (e : No
 sound_ended None true now s = record { inside = λ (a : Asked) (e : None ≡ Some a). absurd (none-some a e); answered = refl }
 sound_ended None false now s = record { inside = λ (a : Asked) (e : None ≡ Some a). absurd (none-some a e); answered = refl }
 
--- what is noted stands for the moment
-pub stands_ended : (c : Config) (w : Caller) (past : List Tale) (run : Run) (ms : List Moment) (m : Moment) (at : ℕ) (seen : Option Seen) (changed : Bool) → Ends m at seen changed → at < c.n → (site_now ms at).out ≡ false →
+-- what is noted stands for the action
+pub stands_ended : (c : Config) (w : Caller) (past : List Trace) (run : Run) (ms : List Action) (m : Action) (at : ℕ) (seen : Option Seen) (changed : Bool) → Ends m at seen changed → at < c.n → (site_now ms at).out ≡ false →
     voted w.name (m ∷ ms) ≡ voted w.name ms → phase_of (m ∷ ms) ≡ phase_of ms → top_round (m ∷ ms) ≡ top_round ms → met (m ∷ ms) ≡ met_by seen changed (met ms) → IsAllowed c w past ms m → Stands c w past run ms → Stands c w past (noted_by run at (mark_of (site_now ms at)) (known (site_now ms at)) seen changed) (m ∷ ms)
 stands_ended c w past run ms m at seen changed e l kept votes phase rounds met_then may h =
     let rest = ended_else run at (mark_of (site_now ms at)) (known (site_now ms at)) seen changed in
@@ -138,13 +138,13 @@ seen_unchanged written (Written etag) seen e = refl
 seen_unchanged written Changed seen e = absurd (none-some seen e)
 seen_unchanged written Failed seen e = absurd (none-some seen e)
 
-met_handed : (a : Asked) (reply : Reply) (ms : List Moment) (seen : Option Seen) (changed : Bool) → seen_in (written_by a.op) reply ≡ seen → is_changed reply ≡ changed → met (Handed a reply ∷ ms) ≡ met_by seen changed (met ms)
+met_handed : (a : Asked) (reply : Reply) (ms : List Action) (seen : Option Seen) (changed : Bool) → seen_in (written_by a.op) reply ≡ seen → is_changed reply ≡ changed → met (Handed a reply ∷ ms) ≡ met_by seen changed (met ms)
 met_handed a reply ms (Some seen) changed e f = cond-false (is_changed reply) (met ms + 1) (met ms) (seen_unchanged (written_by a.op) reply seen e)
 met_handed a reply ms None true e f = cond-true (is_changed reply) (met ms + 1) (met ms) f
 met_handed a reply ms None false e f = cond-false (is_changed reply) (met ms + 1) (met ms) f
 
 -- a reply that is handed
-pub ready_handed : (c : Config) (w : Caller) (past : List Tale) (run new : Run) (ms : List Moment) (at : ℕ) (a : Asked) (reply : Reply) → at < c.n → (site_now ms at).awaits ≡ Some a → Ready c w past run ms → IsReplyNoted run at reply new → Ready c w past new (Handed a reply ∷ ms)
+pub ready_handed : (c : Config) (w : Caller) (past : List Trace) (run new : Run) (ms : List Action) (at : ℕ) (a : Asked) (reply : Reply) → at < c.n → (site_now ms at).awaits ≡ Some a → Ready c w past run ms → IsReplyNoted run at reply new → Ready c w past new (Handed a reply ∷ ms)
 ready_handed c w past run new ms at a reply l awaits r noted =
     let sound = (r.stands.sites at).inside a awaits in
     let mark : Mark = mark_of (site_now ms at) in
@@ -159,7 +159,7 @@ ready_handed c w past run new ms at a reply l awaits r noted =
     subst (λ (n : Run). Ready c w past n (Handed a reply ∷ ms)) (sym new_is) (record { stands = stands; stage = subst (λ st. StageStands c w past st (Handed a reply ∷ ms)) (sym (ended_else run at (mark_of (site_now ms at)) (known (site_now ms at)) (seen_in (written_by a.op) reply) (is_changed reply)).stage) stage })
 
 -- a request that is given up
-pub ready_gave_up : (c : Config) (w : Caller) (past : List Tale) (run new : Run) (ms : List Moment) (at : ℕ) (a : Asked) → at < c.n → (site_now ms at).awaits ≡ Some a → Ready c w past run ms → new ≡ left_run run at (mark_of (site_now ms at)) (known (site_now ms at)) → Ready c w past new (GaveUp a ∷ ms)
+pub ready_gave_up : (c : Config) (w : Caller) (past : List Trace) (run new : Run) (ms : List Action) (at : ℕ) (a : Asked) → at < c.n → (site_now ms at).awaits ≡ Some a → Ready c w past run ms → new ≡ left_run run at (mark_of (site_now ms at)) (known (site_now ms at)) → Ready c w past new (GaveUp a ∷ ms)
 ready_gave_up c w past run new ms at a l awaits r new_is =
     let sound = (r.stands.sites at).inside a awaits in
     let ends : Ends (GaveUp a) at None false = record { here = is_to_same a at sound.1; others = λ (s : ℕ) (n : s ≢ at). is_to_other a s (λ (q : s ≡ a.site). n (q ∙ sound.1)); after_is = λ now. refl } in

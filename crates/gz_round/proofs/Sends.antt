@@ -17,7 +17,7 @@ use Rattle.gz_accept.specs.declared.answers.Step.TheVariants.{Done, Already, Bel
 use Rattle.gz_round.specs.declared.hearing.Seen.{Seen}
 use Rattle.gz_round.specs.declared.run.Mark.{Mark}
 use Rattle.gz_round.specs.declared.run.Run.{Run}
-use Rattle.gz_round.specs.History.{Asked, Moment, Sent, Caller, Tale, asked_of, is_row_request}
+use Rattle.gz_round.specs.History.{Asked, Action, Sent, Caller, Trace, asked_of, is_row_request}
 use Rattle.gz_round.specs.Sites.{SiteNow, site_now, after_sent, is_to, known, row_seen}
 use Rattle.gz_round.specs.Sent.{is_notice, vote_by, phase_by, of_step, or_earlier, last_sent, passes_sent, phase_of, phase_or_look, promise_by, round_after, top_round}
 use Rattle.gz_round.specs.Rounds.{top_rounds}
@@ -26,7 +26,7 @@ use Rattle.gz_round.specs.Asking.{asks_of, row_out, step_out, write_out, read_ou
 use Rattle.gz_round.specs.Standing.{Knows, Stands, IsSound, mark_of, etag_seen, awaited_of}
 use Rattle.gz_round.specs.Following.{MayMakeOf}
 use Rattle.gz_round.proofs.Lists.{told_after_set, told_same}
-use Rattle.gz_round.proofs.Moments.{is_to_same, is_to_other, now_here, now_other, each_site}
+use Rattle.gz_round.proofs.Actions.{is_to_same, is_to_other, now_here, now_other, each_site}
 use Rattle.gz_round.proofs.Known.{known_last, known_after_sent}
 use Rattle.gz_round.proofs.Guards.{IsOf}
 
@@ -103,7 +103,7 @@ kind_of run at mark step row out (writes made before new s r same made_is e) = r
 pub etag_last : (o : Option Seen) (seen : Seen) → o ≡ Some seen → o ≡ Some (record { etag = etag_seen o; row = seen.row })
 etag_last o seen e = subst (λ (p : Option Seen). p ≡ Some (record { etag = etag_seen p; row = seen.row })) (sym e) refl
 
-kind_asks : (c : Config) (w : Caller) (past : List Tale) (run : Run) (ms : List Moment) (at : ℕ) (step : Option RowStep) (out : Out) → run.key ≡ key_of w.call → MayMakeOf c w past ms step →
+kind_asks : (c : Config) (w : Caller) (past : List Trace) (run : Run) (ms : List Action) (at : ℕ) (step : Option RowStep) (out : Out) → run.key ≡ key_of w.call → MayMakeOf c w past ms step →
     (site_now ms at).out ≡ false → Kind run at (mark_of (site_now ms at)) step (known (site_now ms at)) out → MayAsk c w past ms (site_now ms at) out.op
 kind_asks c w past run ms at step out key may kept (reads e (inl none)) = subst (λ (o : Out). MayAsk c w past ms (site_now ms at) o.op) (sym e) (key, inl (known_none (site_now ms at) kept none))
 kind_asks c w past run ms at step out key may kept (reads e (inr changed)) = subst (λ (o : Out). MayAsk c w past ms (site_now ms at) o.op) (sym e) (key, inr changed)
@@ -118,7 +118,7 @@ kind_awaited run at mark step row out (reads e why) = subst (λ (o : Out). o.awa
 kind_awaited run at mark step row out (writes made before new s r same made_is e) = subst (λ (o : Out). o.awaited ≡ is_awaited o.op) (sym e) refl
 
 -- it is one that may be sent
-pub kind_may : (c : Config) (w : Caller) (past : List Tale) (run : Run) (ms : List Moment) (at number : ℕ) (step : Option RowStep) (out : Out) → at < c.n → run.key ≡ key_of w.call → MayMakeOf c w past ms step →
+pub kind_may : (c : Config) (w : Caller) (past : List Trace) (run : Run) (ms : List Action) (at number : ℕ) (step : Option RowStep) (out : Out) → at < c.n → run.key ≡ key_of w.call → MayMakeOf c w past ms step →
     asks_of run at (mark_of (site_now ms at)) step (known (site_now ms at)) ≡ Some out → MaySend c w past ms (asked_of number out)
 kind_may c w past run ms at number step out l key may h =
     let k = asked_kind run at (mark_of (site_now ms at)) step (known (site_now ms at)) out h in
@@ -135,7 +135,7 @@ kind_may c w past run ms at number step out l key may h =
 pub changed_sent : (a : Asked) (now : SiteNow) → (after_sent a now).changed ≡ now.changed
 changed_sent a now = elim (cases_Bool a.awaited) [ inl e ↦ ap (λ n. n.changed) (cond-true a.awaited _ now e) | inr e ↦ ap (λ n. n.changed) (cond-false a.awaited _ now e) ]
 
-phase_sent : (o : Option Phase) (ms : List Moment) → phase_after o (phase_of ms) ≡ phase_or_look (or_earlier o (last_sent phase_by ms))
+phase_sent : (o : Option Phase) (ms : List Action) → phase_after o (phase_of ms) ≡ phase_or_look (or_earlier o (last_sent phase_by ms))
 phase_sent None ms = refl
 phase_sent (Some phase) ms = refl
 
@@ -151,7 +151,7 @@ mark_sent number out now kept e =
     ap (λ (o : Option RowAt). let m : Mark = record { etag = etag_seen now.row; changed = now.changed; out = now.out; left = o; awaited = Some (awaited_of (asked_of number out)) } in m) (sym (cond-false now.out (row_seen now.row) None kept))
     ∙ ap mark_of (sym (cond-true out.awaited (record { row = now.row; changed = now.changed; out = now.out; awaits = Some (asked_of number out); unanswered = true }) now e))
 
-marks_sent : (c : Config) (run : Run) (ms : List Moment) (at number : ℕ) (out : Out) → Knows c run ms → at < c.n → out.site ≡ at → (site_now ms at).out ≡ false →
+marks_sent : (c : Config) (run : Run) (ms : List Action) (at number : ℕ) (out : Out) → Knows c run ms → at < c.n → out.site ≡ at → (site_now ms at).out ≡ false →
     (s : ℕ) → s < c.n → slice_get (cond out.awaited (set run.marks at (marked_as (mark_of (site_now ms at)) number out)) run.marks) s ≡ Some (mark_of (site_now (Sent (asked_of number out) ∷ ms) s))
 marks_sent c run ms at number out k l here kept =
     elim (cases_Bool out.awaited) [
@@ -170,7 +170,7 @@ round_sent None round used top e = e
 round_sent (Some p) round used top e = omega (arith, e)
 
 -- what is kept once a request has gone out
-pub stands_sent : (c : Config) (w : Caller) (past : List Tale) (run : Run) (ms : List Moment) (at number : ℕ) (out : Out) → at < c.n → out.site ≡ at → Stands c w past run ms → MaySend c w past ms (asked_of number out) →
+pub stands_sent : (c : Config) (w : Caller) (past : List Trace) (run : Run) (ms : List Action) (at number : ℕ) (out : Out) → at < c.n → out.site ≡ at → Stands c w past run ms → MaySend c w past ms (asked_of number out) →
     Stands c w past (sent_run run at number (mark_of (site_now ms at)) out) (Sent (asked_of number out) ∷ ms)
 stands_sent c w past run ms at number out l here h may = record {
   name_is = h.name_is;

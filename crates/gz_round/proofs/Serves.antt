@@ -11,13 +11,13 @@ use Rattle.gz_core.specs.declared.requests.Out.{Out}
 use Rattle.gz_accept.specs.declared.answers.Step.TheVariants.{Done}
 use Rattle.gz_round.specs.declared.hearing.Seen.{Seen}
 use Rattle.gz_round.specs.declared.run.Run.{Run}
-use Rattle.gz_round.specs.History.{Asked, Moment, Sent, Caller, Tale, asked_of, sent_from}
+use Rattle.gz_round.specs.History.{Asked, Action, Sent, Caller, Trace, asked_of, sent_from}
 use Rattle.gz_round.specs.Sites.{SiteNow, site_now, known, row_seen}
 use Rattle.gz_round.specs.Sending.{MaySend, answer_of, made_by}
 use Rattle.gz_round.specs.Asking.{asks_of, row_out, step_out, write_out, read_out, made_of, is_notice, sent_run, AskedBy, IsAskedAt}
 use Rattle.gz_round.specs.Standing.{mark_of, awaited_of, etag_seen}
 use Rattle.gz_round.specs.Following.{Asks, IsServed, IsSettledBy}
-use Rattle.gz_round.proofs.Moments.{is_to_same, is_to_other, now_here, now_other, sent_append}
+use Rattle.gz_round.proofs.Actions.{is_to_same, is_to_other, now_here, now_other, sent_append}
 use Rattle.gz_round.proofs.Known.{last_known, known_last}
 use Rattle.gz_round.proofs.Guards.{may_kept_of}
 use Rattle.gz_round.proofs.Stages.{held_kept_of}
@@ -27,14 +27,14 @@ write_none : (run : Run) (at : ℕ) (etag : Option ℕ) (step : RowStep) (o : Op
 write_none run at etag step None h = refl
 write_none run at etag step (Some row) h = absurd (none-some _ (sym h))
 
-settled_none : (w : Caller) (run : Run) (ms : List Moment) (at : ℕ) (etag : Option ℕ) (seen : Seen) (step : Option RowStep) → step_out run at etag step seen.row ≡ None → IsSettledBy w ms at seen step
+settled_none : (w : Caller) (run : Run) (ms : List Action) (at : ℕ) (etag : Option ℕ) (seen : Seen) (step : Option RowStep) → step_out run at etag step seen.row ≡ None → IsSettledBy w ms at seen step
 settled_none w run ms at etag seen None h = tt
 settled_none w run ms at etag seen (Some step) h = λ (done : answer_of step seen.row ≡ Done). absurd (undone_means (answer_of step seen.row) (made_by step seen.row) (write_none run at etag step (made_of step seen.row) h) done)
 
 idle_mark : (now : SiteNow) → now.awaits ≡ None → is_some (option_map awaited_of now.awaits) ≡ false
 idle_mark now e = ap (λ (o : Option Asked). is_some (option_map awaited_of o)) e
 
-served_row : (w : Caller) (run : Run) (ms : List Moment) (at : ℕ) (step : Option RowStep) (o : Option Seen) → (site_now ms at).row ≡ o → (site_now ms at).out ≡ false →
+served_row : (w : Caller) (run : Run) (ms : List Action) (at : ℕ) (step : Option RowStep) (o : Option Seen) → (site_now ms at).row ≡ o → (site_now ms at).out ≡ false →
     row_out run at (mark_of (site_now ms at)) step (known (site_now ms at)) ≡ None → (seen : Seen) × ((site_now ms at).row ≡ Some seen) × ((site_now ms at).changed ≡ false) × IsSettledBy w ms at seen step
 served_row w run ms at step None e kept h =
     let unknown : known (site_now ms at) ≡ None = cond-false (site_now ms at).out None (row_seen (site_now ms at).row) kept ∙ ap row_seen e in
@@ -48,19 +48,19 @@ served_row w run ms at step (Some seen) e kept h =
     ]
 
 -- a site of which nothing is asked is served
-pub served_none : (w : Caller) (run : Run) (ms : List Moment) (at : ℕ) (step : Option RowStep) → asks_of run at (mark_of (site_now ms at)) step (known (site_now ms at)) ≡ None → IsServed w ms step at
+pub served_none : (w : Caller) (run : Run) (ms : List Action) (at : ℕ) (step : Option RowStep) → asks_of run at (mark_of (site_now ms at)) step (known (site_now ms at)) ≡ None → IsServed w ms step at
 served_none w run ms at step h idle kept =
     let test : ((mark_of (site_now ms at)).out || is_some (mark_of (site_now ms at)).awaited) ≡ false = or_from (site_now ms at).out (is_some (option_map awaited_of (site_now ms at).awaits)) kept (idle_mark (site_now ms at) idle) in
     served_row w run ms at step (site_now ms at).row refl kept (sym (cond-false ((mark_of (site_now ms at)).out || is_some (mark_of (site_now ms at)).awaited) None (row_out run at (mark_of (site_now ms at)) step (known (site_now ms at))) test) ∙ h)
 
-awaits_here : (ms : List Moment) (a : Asked) (at : ℕ) → a.site ≡ at → a.awaited ≡ true → (site_now (Sent a ∷ ms) at).awaits ≡ Some a
+awaits_here : (ms : List Action) (a : Asked) (at : ℕ) → a.site ≡ at → a.awaited ≡ true → (site_now (Sent a ∷ ms) at).awaits ≡ Some a
 awaits_here ms a at here e = ap (λ n. n.awaits) (now_here (Sent a) ms at (is_to_same a at here) ∙ cond-true a.awaited _ (site_now ms at) e)
 
-same_here : (ms : List Moment) (a : Asked) (at : ℕ) → a.site ≡ at → a.awaited ≡ false → site_now (Sent a ∷ ms) at ≡ site_now ms at
+same_here : (ms : List Action) (a : Asked) (at : ℕ) → a.site ≡ at → a.awaited ≡ false → site_now (Sent a ∷ ms) at ≡ site_now ms at
 same_here ms a at here e = now_here (Sent a) ms at (is_to_same a at here) ∙ cond-false a.awaited _ (site_now ms at) e
 
 -- a site that was asked for something that is awaited is served
-served_awaits : (w : Caller) (ms : List Moment) (a : Asked) (at : ℕ) (step : Option RowStep) → a.site ≡ at → a.awaited ≡ true → IsServed w (Sent a ∷ ms) step at
+served_awaits : (w : Caller) (ms : List Action) (a : Asked) (at : ℕ) (step : Option RowStep) → a.site ≡ at → a.awaited ≡ true → IsServed w (Sent a ∷ ms) step at
 served_awaits w ms a at step here e idle kept = absurd (none-some a (sym idle ∙ awaits_here ms a at here e))
 
 notice_last : (now : SiteNow) (before : RowAt) → known now ≡ Some before → (seen : Seen) × (now.row ≡ Some seen) × (seen.row ≡ before) × (seen.etag ≡ etag_seen now.row)
@@ -74,8 +74,8 @@ notice_sent : (number : ℕ) (out : Out) (at : ℕ) (key : List ℕ) (etag : Opt
 notice_sent number out at key etag made row p q r =
     ap (λ s. Sent (record { number = number; site = s; op = out.op; awaited = out.awaited })) p ∙ (ap (λ o. Sent (record { number = number; site = at; op = o; awaited = out.awaited })) q ∙ ap (λ b. Sent (record { number = number; site = at; op = WriteRow key etag made row; awaited = b })) r)
 
--- and so is one that was told by a notice
-pub served_some : (w : Caller) (run : Run) (ms : List Moment) (at number : ℕ) (step : Option RowStep) (out : Out) → run.key ≡ key_of w.call → Kind run at (mark_of (site_now ms at)) step (known (site_now ms at)) out → IsServed w (Sent (asked_of number out) ∷ ms) step at
+-- and so is one that got a notice
+pub served_some : (w : Caller) (run : Run) (ms : List Action) (at number : ℕ) (step : Option RowStep) (out : Out) → run.key ≡ key_of w.call → Kind run at (mark_of (site_now ms at)) step (known (site_now ms at)) out → IsServed w (Sent (asked_of number out) ∷ ms) step at
 served_some w run ms at number step out key (reads e why) = served_awaits w ms (asked_of number out) at step (ap (λ o. o.site) e) (ap (λ o. o.awaited) e)
 served_some w run ms at number step out key (writes made before new s r same made_is e) =
     elim (cases_Bool (is_notice made)) [
@@ -93,33 +93,33 @@ served_some w run ms at number step out key (writes made before new s r same mad
           ))
     ]
 
-settled_more : (w : Caller) (m : Moment) (ms : List Moment) (s : ℕ) (seen : Seen) (step : Option RowStep) → IsSettledBy w ms s seen step → IsSettledBy w (m ∷ ms) s seen step
+settled_more : (w : Caller) (m : Action) (ms : List Action) (s : ℕ) (seen : Seen) (step : Option RowStep) → IsSettledBy w ms s seen step → IsSettledBy w (m ∷ ms) s seen step
 settled_more w m ms s seen None h = tt
 settled_more w m ms s seen (Some step) h = λ (done : answer_of step seen.row ≡ Done). let k = h done in (k.0, (k.1.0, inr k.1.1))
 
 -- a request to one site leaves the others served
-pub served_other : (w : Caller) (ms : List Moment) (a : Asked) (s : ℕ) (step : Option RowStep) → s ≢ a.site → IsServed w ms step s → IsServed w (Sent a ∷ ms) step s
+pub served_other : (w : Caller) (ms : List Action) (a : Asked) (s : ℕ) (step : Option RowStep) → s ≢ a.site → IsServed w ms step s → IsServed w (Sent a ∷ ms) step s
 served_other w ms a s step n h idle kept =
     let stays : site_now (Sent a ∷ ms) s ≡ site_now ms s = now_other (Sent a) ms s (is_to_other a s n) in
     let old = h (sym (ap (λ k. k.awaits) stays) ∙ idle) (sym (ap (λ k. k.out) stays) ∙ kept) in
     (old.0, ap (λ k. k.row) stays ∙ old.1, ap (λ k. k.changed) stays ∙ old.2, settled_more w (Sent a) ms s old.0 step old.3)
 
 -- so far all sites below one were served
-abbrev pub BelowServed : Caller → List Moment → Option RowStep → ℕ → Type 0
+abbrev pub BelowServed : Caller → List Action → Option RowStep → ℕ → Type 0
 BelowServed w ms step bound = (s : ℕ) → s < bound → IsServed w ms step s
 
-pub record Passed (c : Config) (w : Caller) (past : List Tale) (run : Run) (ms : List Moment) (step : Option RowStep) (bound : ℕ) : Type 0 where
+pub record Passed (c : Config) (w : Caller) (past : List Trace) (run : Run) (ms : List Action) (step : Option RowStep) (bound : ℕ) : Type 0 where
   pub asks : Asks c w past run ms step
   pub served : BelowServed w ms step bound
 
-asked_none : (c : Config) (w : Caller) (past : List Tale) (run : Run) (ms : List Moment) (step : Option RowStep) (at : ℕ) → asks_of run at (mark_of (site_now ms at)) step (known (site_now ms at)) ≡ None →
+asked_none : (c : Config) (w : Caller) (past : List Trace) (run : Run) (ms : List Action) (step : Option RowStep) (at : ℕ) → asks_of run at (mark_of (site_now ms at)) step (known (site_now ms at)) ≡ None →
     Passed c w past run ms step at → Passed c w past run ms step (at + 1)
 asked_none c w past run ms step at h p = record {
   asks = p.asks;
   served = λ (s : ℕ) (l : s < at + 1). elim (cases_eq s at) [ inl e ↦ subst (IsServed w ms step) (sym e) (served_none w run ms at step h) | inr n ↦ p.served s (omega arith) ];
 }
 
-asked_some : (c : Config) (w : Caller) (past : List Tale) (run : Run) (ms : List Moment) (step : Option RowStep) (at number : ℕ) (out : Out) → at < c.n → asks_of run at (mark_of (site_now ms at)) step (known (site_now ms at)) ≡ Some out →
+asked_some : (c : Config) (w : Caller) (past : List Trace) (run : Run) (ms : List Action) (step : Option RowStep) (at number : ℕ) (out : Out) → at < c.n → asks_of run at (mark_of (site_now ms at)) step (known (site_now ms at)) ≡ Some out →
     Passed c w past run ms step at → Passed c w past (sent_run run at number (mark_of (site_now ms at)) out) (Sent (asked_of number out) ∷ ms) step (at + 1)
 asked_some c w past run ms step at number out l h p =
     let k = asked_kind run at (mark_of (site_now ms at)) step (known (site_now ms at)) out h in
@@ -137,18 +137,18 @@ asked_some c w past run ms step at number out l h p =
       ];
     }
 
-asked_by : (c : Config) (w : Caller) (past : List Tale) (run new : Run) (base : List Moment) (first : ℕ) (outs sent : List Out) (step : Option RowStep) (at : ℕ) (o : Option Out) → at < c.n →
+asked_by : (c : Config) (w : Caller) (past : List Trace) (run new : Run) (base : List Action) (first : ℕ) (outs sent : List Out) (step : Option RowStep) (at : ℕ) (o : Option Out) → at < c.n →
     asks_of run at (mark_of (site_now (sent_from first outs base) at)) step (known (site_now (sent_from first outs base) at)) ≡ o → AskedBy run at first outs (mark_of (site_now (sent_from first outs base) at)) o new sent →
     Passed c w past run (sent_from first outs base) step at → Passed c w past new (sent_from first sent base) step (at + 1)
 asked_by c w past run new base first outs sent step at None l e h p =
     subst (λ (r : Run). Passed c w past r (sent_from first sent base) step (at + 1)) (sym h.0) (subst (λ os. Passed c w past run (sent_from first os base) step (at + 1)) (sym h.1) (asked_none c w past run (sent_from first outs base) step at e p))
 asked_by c w past run new base first outs sent step at (Some out) l e h p =
     let next = asked_some c w past run (sent_from first outs base) step at (first + length outs) out l e p in
-    let moments : sent_from first sent base ≡ Sent (asked_of (first + length outs) out) ∷ sent_from first outs base = ap (λ os. sent_from first os base) h.1 ∙ sent_append first outs out base in
-    subst (λ (r : Run). Passed c w past r (sent_from first sent base) step (at + 1)) (sym h.0) (subst (λ ms. Passed c w past (sent_run run at (first + length outs) (mark_of (site_now (sent_from first outs base) at)) out) ms step (at + 1)) (sym moments) next)
+    let actions : sent_from first sent base ≡ Sent (asked_of (first + length outs) out) ∷ sent_from first outs base = ap (λ os. sent_from first os base) h.1 ∙ sent_append first outs out base in
+    subst (λ (r : Run). Passed c w past r (sent_from first sent base) step (at + 1)) (sym h.0) (subst (λ ms. Passed c w past (sent_run run at (first + length outs) (mark_of (site_now (sent_from first outs base) at)) out) ms step (at + 1)) (sym actions) next)
 
 -- one more site was asked
-pub passed_more : (c : Config) (w : Caller) (past : List Tale) (run new : Run) (base : List Moment) (first : ℕ) (outs sent : List Out) (step : Option RowStep) (at : ℕ) → at < c.n → IsAskedAt run at step first outs new sent →
+pub passed_more : (c : Config) (w : Caller) (past : List Trace) (run new : Run) (base : List Action) (first : ℕ) (outs sent : List Out) (step : Option RowStep) (at : ℕ) → at < c.n → IsAskedAt run at step first outs new sent →
     Passed c w past run (sent_from first outs base) step at → Passed c w past new (sent_from first sent base) step (at + 1)
 passed_more c w past run new base first outs sent step at l asked p =
     asked_by c w past run new base first outs sent step at (asks_of run at (mark_of (site_now (sent_from first outs base) at)) step (known (site_now (sent_from first outs base) at))) l refl

@@ -15,29 +15,29 @@ use Rattle.gz_pick.specs.declared.heard.Heard.{Heard}
 use Rattle.gz_round.specs.declared.hearing.Seen.{Seen}
 use Rattle.gz_round.specs.declared.run.Stage.{Stage}
 use Rattle.gz_round.specs.declared.run.Stage.TheVariants.{Look, Fast, Prepare, Accept}
-use Rattle.gz_round.specs.History.{Asked, Moment, Sent, Caller, Tale}
+use Rattle.gz_round.specs.History.{Asked, Action, Sent, Caller, Trace}
 use Rattle.gz_round.specs.Sites.{SiteNow, site_now, after, after_reply, concerns, known, heard_in, passes}
 use Rattle.gz_round.specs.Sent.{voted, voted_at, vote_by, promise_by, of_step, of_sent, or_earlier, passes_sent, some_sent, has_promised_at, last_promise, top_round, round_after, phase_of}
 use Rattle.gz_round.specs.Shown.{IsClear, IsGrounded}
 use Rattle.gz_round.specs.LookBack.{IsLookedBack}
-use Rattle.gz_round.specs.Rounds.{MayClassicVote, MayPropose, IsLeft, passed_since, is_promise, promises_above, cast_by, has_cast, top_rounds, rounds_used, IsValueKnown}
+use Rattle.gz_round.specs.Rounds.{MayClassicVote, MayPropose, IsLeft, passed_since, is_promise, promises_above, cast_by, has_classic_cast, top_rounds, rounds_used, IsValueKnown}
 use Rattle.gz_round.specs.Sending.{NoneAbove}
 use Rattle.gz_round.specs.Standing.{StageStands, IsUnpromised, ArePassed, MayPass, IsWorking, IsPreparing, IsVoting}
 use Rattle.gz_round.specs.Following.{HeldBy, HeldOf}
 use Rattle.gz_round.proofs.Heard.{current_more, next_more, shown_more, heard_at_more}
-use Rattle.gz_round.proofs.Moments.{now_here, now_other}
+use Rattle.gz_round.proofs.Actions.{now_here, now_other}
 use Rattle.gz_round.proofs.LookBacks.{back_more, begun_more, last_promised_at}
 use Rattle.gz_round.proofs.Guards.{IsOf, clear_vote, only_classic, promise_sent, passed_still, promises_more}
 use Rattle.gz_round.proofs.Known.{known_after_sent}
 
--- what a moment ends: the request that is awaited from one site, with the row that it showed, or overtaken, or nothing
-pub record Ends (m : Moment) (at : ℕ) (seen : Option Seen) (changed : Bool) : Type 0 where
+-- what an action ends: the request that is awaited from one site, with the row that it showed, or overtaken, or nothing
+pub record Ends (m : Action) (at : ℕ) (seen : Option Seen) (changed : Bool) : Type 0 where
   pub here : concerns m at ≡ true
   pub others : (s : ℕ) → s ≢ at → concerns m s ≡ false
   pub after_is : (now : SiteNow) → after m now ≡ after_reply seen changed now
 
--- a moment sends no promise, and no vote of any kind
-pub record IsQuiet (w : Caller) (m : Moment) (ms : List Moment) : Type 0 where
+-- an action sends no promise, and no vote of any kind
+pub record IsQuiet (w : Caller) (m : Action) (ms : List Action) : Type 0 where
   pub voted : voted w.name (m ∷ ms) ≡ voted w.name ms
   pub voted_at : (u : ℕ) → voted_at w.name (m ∷ ms) u ≡ voted_at w.name ms u
   pub phase : phase_of (m ∷ ms) ≡ phase_of ms
@@ -45,36 +45,36 @@ pub record IsQuiet (w : Caller) (m : Moment) (ms : List Moment) : Type 0 where
   pub cast : of_sent cast_by m ≡ None
 
 -- nothing more was sent of which something is read
-unsent : {T : Type 0} (f : RowStep → Option T) (p : T → Bool) (m : Moment) (ms : List Moment) → of_sent f m ≡ None → some_sent f p (m ∷ ms) ≡ some_sent f p ms
+unsent : {T : Type 0} (f : RowStep → Option T) (p : T → Bool) (m : Action) (ms : List Action) → of_sent f m ≡ None → some_sent f p (m ∷ ms) ≡ some_sent f p ms
 unsent f p m ms e = ap (λ o. passes_sent p o || some_sent f p ms) e
 
-clear_more : (c : Config) (x : Name) (m : Moment) (ms : List Moment) (v : ℕ) → ((u : ℕ) → voted_at x (m ∷ ms) u ≡ voted_at x ms u) → IsClear c x ms v → IsClear c x (m ∷ ms) v
+clear_more : (c : Config) (x : Name) (m : Action) (ms : List Action) (v : ℕ) → ((u : ℕ) → voted_at x (m ∷ ms) u ≡ voted_at x ms u) → IsClear c x ms v → IsClear c x (m ∷ ms) v
 clear_more c x m ms v same h u n k = let w = h u n (sym (same u) ∙ k) in (w.0, w.1, shown_more c m ms u w.0 w.2)
 
-unpromised_more : (m : Moment) (ms : List Moment) (v : ℕ) → of_sent promise_by m ≡ None → IsUnpromised ms v → IsUnpromised (m ∷ ms) v
+unpromised_more : (m : Action) (ms : List Action) (v : ℕ) → of_sent promise_by m ≡ None → IsUnpromised ms v → IsUnpromised (m ∷ ms) v
 unpromised_more m ms v e h u d l = unsent promise_by (λ p. (p.0 == u) && same_ballot p.1 d) m ms e ∙ h u d l
 
-grounded_more : (c : Config) (m : Moment) (ms : List Moment) (v : ℕ) → IsGrounded c ms v → IsGrounded c (m ∷ ms) v
+grounded_more : (c : Config) (m : Action) (ms : List Action) (v : ℕ) → IsGrounded c ms v → IsGrounded c (m ∷ ms) v
 grounded_more c m ms v (inl h) = inl (next_more c m ms v h)
 grounded_more c m ms v (inr h) = inr (omega (arith, h, heard_at_more c (λ r. leb v (row_top r)) m ms))
 
-passed_more : (m : Moment) (ms : List Moment) (v : ℕ) (d : BallotAt) → of_sent promise_by m ≡ None → passed_since v d ms ≡ true → passed_since v d (m ∷ ms) ≡ true
+passed_more : (m : Action) (ms : List Action) (v : ℕ) (d : BallotAt) → of_sent promise_by m ≡ None → passed_since v d ms ≡ true → passed_since v d (m ∷ ms) ≡ true
 passed_more m ms v d e h =
     cond-false (is_promise v d (of_sent promise_by m)) false (passes (λ row. promises_above row v d) (heard_in m) || passed_since v d ms) (ap (is_promise v d) e)
     ∙ or_right (passes (λ row. promises_above row v d) (heard_in m)) (passed_since v d ms) h
 
-passed_now : (m : Moment) (ms : List Moment) (v : ℕ) (d : BallotAt) → of_sent promise_by m ≡ None → passes (λ row. promises_above row v d) (heard_in m) ≡ true → passed_since v d (m ∷ ms) ≡ true
+passed_now : (m : Action) (ms : List Action) (v : ℕ) (d : BallotAt) → of_sent promise_by m ≡ None → passes (λ row. promises_above row v d) (heard_in m) ≡ true → passed_since v d (m ∷ ms) ≡ true
 passed_now m ms v d e h =
     cond-false (is_promise v d (of_sent promise_by m)) false (passes (λ row. promises_above row v d) (heard_in m) || passed_since v d ms) (ap (is_promise v d) e)
     ∙ or_left (passes (λ row. promises_above row v d) (heard_in m)) (passed_since v d ms) h
 
-last_more : (m : Moment) (ms : List Moment) (v : ℕ) (b : BallotAt) → of_sent promise_by m ≡ None → last_promise ms ≡ Some (v, b) → last_promise (m ∷ ms) ≡ Some (v, b)
+last_more : (m : Action) (ms : List Action) (v : ℕ) (b : BallotAt) → of_sent promise_by m ≡ None → last_promise ms ≡ Some (v, b) → last_promise (m ∷ ms) ≡ Some (v, b)
 last_more m ms v b e h = ap (λ o. or_earlier o (last_promise ms)) e ∙ h
 
-pass_more : (c : Config) (w : Caller) (m : Moment) (ms : List Moment) (v : ℕ) → IsQuiet w m ms → MayPass c w ms v → MayPass c w (m ∷ ms) v
+pass_more : (c : Config) (w : Caller) (m : Action) (ms : List Action) (v : ℕ) → IsQuiet w m ms → MayPass c w ms v → MayPass c w (m ∷ ms) v
 pass_more c w m ms v q h = record { above = h.above; current = current_more c m ms v h.current; clear = clear_more c w.name m ms v q.voted_at h.clear; later = unpromised_more m ms (v + 1) q.promise h.later }
 
-works_more : (c : Config) (w : Caller) (past : List Tale) (m : Moment) (ms : List Moment) (v : ℕ) (b : BallotAt) → IsQuiet w m ms → IsWorking c w past ms v b → IsWorking c w past (m ∷ ms) v b
+works_more : (c : Config) (w : Caller) (past : List Trace) (m : Action) (ms : List Action) (v : ℕ) (b : BallotAt) → IsQuiet w m ms → IsWorking c w past ms v b → IsWorking c w past (m ∷ ms) v b
 works_more c w past m ms v b q h = record {
   pass = pass_more c w m ms v q h.pass;
   classic = h.classic;
@@ -85,39 +85,39 @@ works_more c w past m ms v b q h = record {
   begun = λ reads. begun_more c m ms v b (h.begun reads);
 }
 
-used_more : (past : List Tale) (m : Moment) (ms : List Moment) (v : ℕ) (b : BallotAt) → of_sent promise_by m ≡ None → (last_promise ms ≡ Some (v, b)) ⊎ (rounds_used past ms < b.round) → (last_promise (m ∷ ms) ≡ Some (v, b)) ⊎ (rounds_used past (m ∷ ms) < b.round)
+used_more : (past : List Trace) (m : Action) (ms : List Action) (v : ℕ) (b : BallotAt) → of_sent promise_by m ≡ None → (last_promise ms ≡ Some (v, b)) ⊎ (rounds_used past ms < b.round) → (last_promise (m ∷ ms) ≡ Some (v, b)) ⊎ (rounds_used past (m ∷ ms) < b.round)
 used_more past m ms v b e (inl h) = inl (last_more m ms v b e h)
 used_more past m ms v b e (inr h) = inr (subst (λ (n : ℕ). n < b.round) (sym (ap (λ o. max (top_rounds past) (round_after o (top_round ms))) e)) h)
 
-preparing_more : (c : Config) (w : Caller) (past : List Tale) (m : Moment) (ms : List Moment) (v : ℕ) (b : BallotAt) → IsQuiet w m ms → IsPreparing c w past ms v b → IsPreparing c w past (m ∷ ms) v b
+preparing_more : (c : Config) (w : Caller) (past : List Trace) (m : Action) (ms : List Action) (v : ℕ) (b : BallotAt) → IsQuiet w m ms → IsPreparing c w past ms v b → IsPreparing c w past (m ∷ ms) v b
 preparing_more c w past m ms v b q h = record {
   works = works_more c w past m ms v b q h.works;
   uncast = λ (y : Name). unsent cast_by _ m ms q.cast ∙ h.uncast y;
   used = used_more past m ms v b q.promise h.used;
 }
 
-voting_more : (c : Config) (w : Caller) (past : List Tale) (m : Moment) (ms : List Moment) (v : ℕ) (b : BallotAt) → IsQuiet w m ms → IsVoting c w past ms v b → IsVoting c w past (m ∷ ms) v b
+voting_more : (c : Config) (w : Caller) (past : List Trace) (m : Action) (ms : List Action) (v : ℕ) (b : BallotAt) → IsQuiet w m ms → IsVoting c w past ms v b → IsVoting c w past (m ∷ ms) v b
 voting_more c w past m ms v b q h = record { works = works_more c w past m ms v b q h.works; last = last_more m ms v b q.promise h.last }
 
 -- what was looked back at before the last promise is so still
-looked_more : (c : Config) (m : Moment) (ms : List Moment) (v : ℕ) (b : BallotAt) (found : Option Value) → of_sent promise_by m ≡ None → (last_promise ms ≡ Some (v, b) → IsLookedBack c ms v b found) → last_promise (m ∷ ms) ≡ Some (v, b) → IsLookedBack c (m ∷ ms) v b found
+looked_more : (c : Config) (m : Action) (ms : List Action) (v : ℕ) (b : BallotAt) (found : Option Value) → of_sent promise_by m ≡ None → (last_promise ms ≡ Some (v, b) → IsLookedBack c ms v b found) → last_promise (m ∷ ms) ≡ Some (v, b) → IsLookedBack c (m ∷ ms) v b found
 looked_more c m ms v b found e h last =
     let before : last_promise ms ≡ Some (v, b) = sym (ap (λ o. or_earlier o (last_promise ms)) e) ∙ last in
     back_more c m ms v b found (last_promised_at ms v b before) (h before)
 
-propose_more : (c : Config) (w : Caller) (m : Moment) (ms : List Moment) (v : ℕ) (x : Value) → IsQuiet w m ms → MayPropose c w ms v x → MayPropose c w (m ∷ ms) v x
+propose_more : (c : Config) (w : Caller) (m : Action) (ms : List Action) (v : ℕ) (x : Value) → IsQuiet w m ms → MayPropose c w ms v x → MayPropose c w (m ∷ ms) v x
 propose_more c w m ms v x q (inl h) = inl (h.0, current_more c m ms v h.1, clear_more c w.name m ms v q.voted_at h.2)
 propose_more c w m ms v x q (inr h) = inr (h.0, h.1, h.2, h.3, inr h.4, h.5)
 
-left_more : (c : Config) (w : Caller) (m : Moment) (ms : List Moment) (v : ℕ) (heard : List Heard) (x : Value) → IsQuiet w m ms → IsLeft c w ms v heard x → IsLeft c w (m ∷ ms) v heard x
+left_more : (c : Config) (w : Caller) (m : Action) (ms : List Action) (v : ℕ) (heard : List Heard) (x : Value) → IsQuiet w m ms → IsLeft c w ms v heard x → IsLeft c w (m ∷ ms) v heard x
 left_more c w m ms v heard x q (inl h) = inl h
 left_more c w m ms v heard x q (inr h) = inr (h.0, propose_more c w m ms v x q h.1)
 
-known_more : (w : Caller) (m : Moment) (ms : List Moment) (v : ℕ) (x : Value) → IsValueKnown w ms v x → IsValueKnown w (m ∷ ms) v x
+known_more : (w : Caller) (m : Action) (ms : List Action) (v : ℕ) (x : Value) → IsValueKnown w ms v x → IsValueKnown w (m ∷ ms) v x
 known_more w m ms v x (inl own) = inl own
 known_more w m ms v x (inr h) = inr (h.0, h.1, inr h.2, h.3)
 
-classic_more : (c : Config) (w : Caller) (m : Moment) (ms : List Moment) (v : ℕ) (b : BallotAt) (x : Value) → IsQuiet w m ms → MayClassicVote c w ms v b x → MayClassicVote c w (m ∷ ms) v b x
+classic_more : (c : Config) (w : Caller) (m : Action) (ms : List Action) (v : ℕ) (b : BallotAt) (x : Value) → IsQuiet w m ms → MayClassicVote c w ms v b x → MayClassicVote c w (m ∷ ms) v b x
 classic_more c w m ms v b x q h = record {
   above = h.above;
   promised = unsent promise_by (λ p. (p.0 == v) && same_ballot p.1 b) m ms q.promise ∙ h.promised;
@@ -127,7 +127,7 @@ classic_more c w m ms v b x q h = record {
   rows = promises_more m ms v b h.heard h.rows;
   choice = left_more c w m ms v h.heard x q h.choice;
   known = known_more w m ms v x h.known;
-  one = λ (y : Name) (k : has_cast (m ∷ ms) v b y ≡ true). h.one y (sym (unsent cast_by _ m ms q.cast) ∙ k);
+  one = λ (y : Name) (k : has_classic_cast (m ∷ ms) v b y ≡ true). h.one y (sym (unsent cast_by _ m ms q.cast) ∙ k);
   back = λ reads free. back_more c m ms v b (Some x) h.promised (h.back reads free);
 }
 
@@ -140,22 +140,22 @@ known_in (Some seen) changed row now k = inr (seen, refl, known_seen seen row no
 known_in None true row now k = inl k
 known_in None false row now k = absurd (none-some row k)
 
-known_here : (m : Moment) (ms : List Moment) (at : ℕ) (seen : Option Seen) (changed : Bool) (row : RowAt) (now : SiteNow) → heard_in m ≡ seen → known (after_reply seen changed now) ≡ Some row → (known now ≡ Some row) ⊎ ((one : Seen) × (heard_in m ≡ Some one) × (one.row ≡ row))
+known_here : (m : Action) (ms : List Action) (at : ℕ) (seen : Option Seen) (changed : Bool) (row : RowAt) (now : SiteNow) → heard_in m ≡ seen → known (after_reply seen changed now) ≡ Some row → (known now ≡ Some row) ⊎ ((one : Seen) × (heard_in m ≡ Some one) × (one.row ≡ row))
 known_here m ms at seen changed row now heard k =
     elim (known_in seen changed row now k) [
       | inl old ↦ inl old
       | inr new ↦ inr (new.0, heard ∙ new.1, new.2)
     ]
 
--- the row that is known after a moment was known, or was heard at it
-known_after : (m : Moment) (ms : List Moment) (at : ℕ) (seen : Option Seen) (changed : Bool) (s : ℕ) (row : RowAt) → Ends m at seen changed → heard_in m ≡ seen → known (site_now (m ∷ ms) s) ≡ Some row → (known (site_now ms s) ≡ Some row) ⊎ ((one : Seen) × (heard_in m ≡ Some one) × (one.row ≡ row))
+-- the row that is known after an action was known, or was heard at it
+known_after : (m : Action) (ms : List Action) (at : ℕ) (seen : Option Seen) (changed : Bool) (s : ℕ) (row : RowAt) → Ends m at seen changed → heard_in m ≡ seen → known (site_now (m ∷ ms) s) ≡ Some row → (known (site_now ms s) ≡ Some row) ⊎ ((one : Seen) × (heard_in m ≡ Some one) × (one.row ≡ row))
 known_after m ms at seen changed s row e heard k =
     elim (cases_eq s at) [
       | inl same ↦ known_here m ms at seen changed row (site_now ms s) heard (sym (ap known (subst (λ (z : ℕ). site_now (m ∷ ms) z ≡ after_reply seen changed (site_now ms z)) (sym same) (now_here m ms at e.here ∙ e.after_is (site_now ms at)))) ∙ k)
       | inr n ↦ inl (sym (ap known (now_other m ms s (e.others s n))) ∙ k)
     ]
 
-passed_known : (c : Config) (m : Moment) (ms : List Moment) (at : ℕ) (seen : Option Seen) (changed : Bool) (v : ℕ) (b : BallotAt) → Ends m at seen changed → heard_in m ≡ seen → of_sent promise_by m ≡ None → ArePassed c ms v b → ArePassed c (m ∷ ms) v b
+passed_known : (c : Config) (m : Action) (ms : List Action) (at : ℕ) (seen : Option Seen) (changed : Bool) (v : ℕ) (b : BallotAt) → Ends m at seen changed → heard_in m ≡ seen → of_sent promise_by m ≡ None → ArePassed c ms v b → ArePassed c (m ∷ ms) v b
 passed_known c m ms at seen changed v b e heard quiet h s row l k above =
     elim (known_after m ms at seen changed s row e heard k) [
       | inl old ↦ passed_more m ms v b quiet (h s row l old above)
@@ -163,7 +163,7 @@ passed_known c m ms at seen changed v b e heard quiet h s row l k above =
     ]
 
 -- the phase goes on to stand
-pub stage_more : (c : Config) (w : Caller) (past : List Tale) (m : Moment) (ms : List Moment) (at : ℕ) (seen : Option Seen) (changed : Bool) (stage : Stage) → Ends m at seen changed → heard_in m ≡ seen → IsQuiet w m ms → StageStands c w past stage ms → StageStands c w past stage (m ∷ ms)
+pub stage_more : (c : Config) (w : Caller) (past : List Trace) (m : Action) (ms : List Action) (at : ℕ) (seen : Option Seen) (changed : Bool) (stage : Stage) → Ends m at seen changed → heard_in m ≡ seen → IsQuiet w m ms → StageStands c w past stage ms → StageStands c w past stage (m ∷ ms)
 stage_more c w past m ms at seen changed Look e heard q s = (q.voted ∙ s.0, q.phase ∙ s.1)
 stage_more c w past m ms at seen changed (Fast v) e heard q s =
     (record { above = s.0.above; current = current_more c m ms v s.0.current; next = next_more c m ms v s.0.next; clear = clear_more c w.name m ms v q.voted_at s.0.clear }, s.1, unpromised_more m ms v q.promise s.2)
@@ -179,16 +179,16 @@ other_version o v u b d old (inl e) l h = ap (λ z. passes_sent (λ p. (p.0 == u
 other_version o v u b d old (inr e) l h =
     ap (λ z. passes_sent (λ p. (p.0 == u) && same_ballot p.1 d) z || old) e ∙ (ap (λ t. (t && same_ballot b d) || old) (ne_eqb v u (λ (k : v ≡ u). omega arith)) ∙ h)
 
-later_kept : (ms : List Moment) (a : Asked) (v : ℕ) (b : BallotAt) → (of_step promise_by a.op ≡ None) ⊎ (of_step promise_by a.op ≡ Some (v, b)) → IsUnpromised ms (v + 1) → IsUnpromised (Sent a ∷ ms) (v + 1)
+later_kept : (ms : List Action) (a : Asked) (v : ℕ) (b : BallotAt) → (of_step promise_by a.op ≡ None) ⊎ (of_step promise_by a.op ≡ Some (v, b)) → IsUnpromised ms (v + 1) → IsUnpromised (Sent a ∷ ms) (v + 1)
 later_kept ms a v b sent h u d l = other_version (of_step promise_by a.op) v u b d (has_promised_at ms u d) sent (omega arith) (h u d l)
 
-pass_kept : (c : Config) (w : Caller) (ms : List Moment) (a : Asked) (v : ℕ) (b : BallotAt) → ((u : ℕ) → passes_sent (λ k. k == u) (of_step (vote_by w.name) a.op) ≡ true → v ≡ u) → (of_step promise_by a.op ≡ None) ⊎ (of_step promise_by a.op ≡ Some (v, b)) → MayPass c w ms v → MayPass c w (Sent a ∷ ms) v
+pass_kept : (c : Config) (w : Caller) (ms : List Action) (a : Asked) (v : ℕ) (b : BallotAt) → ((u : ℕ) → passes_sent (λ k. k == u) (of_step (vote_by w.name) a.op) ≡ true → v ≡ u) → (of_step promise_by a.op ≡ None) ⊎ (of_step promise_by a.op ≡ Some (v, b)) → MayPass c w ms v → MayPass c w (Sent a ∷ ms) v
 pass_kept c w ms a v b only sent h = record { above = h.above; current = h.current; clear = clear_vote c w.name ms a v only h.clear; later = later_kept ms a v b sent h.later }
 
 none_voted : (x : Name) (op : Op) (v u : ℕ) → of_step (vote_by x) op ≡ None → passes_sent (λ k. k == u) (of_step (vote_by x) op) ≡ true → v ≡ u
 none_voted x op v u e h = absurd (false≢true (sym (ap (passes_sent (λ k. k == u)) e) ∙ h))
 
-works_kept : (c : Config) (w : Caller) (past : List Tale) (ms : List Moment) (a : Asked) (v : ℕ) (b : BallotAt) → ((u : ℕ) → passes_sent (λ k. k == u) (of_step (vote_by w.name) a.op) ≡ true → v ≡ u) → (of_step promise_by a.op ≡ None) ⊎ (of_step promise_by a.op ≡ Some (v, b)) → IsWorking c w past ms v b → IsWorking c w past (Sent a ∷ ms) v b
+works_kept : (c : Config) (w : Caller) (past : List Trace) (ms : List Action) (a : Asked) (v : ℕ) (b : BallotAt) → ((u : ℕ) → passes_sent (λ k. k == u) (of_step (vote_by w.name) a.op) ≡ true → v ≡ u) → (of_step promise_by a.op ≡ None) ⊎ (of_step promise_by a.op ≡ Some (v, b)) → IsWorking c w past ms v b → IsWorking c w past (Sent a ∷ ms) v b
 works_kept c w past ms a v b only sent h = record {
   pass = pass_kept c w ms a v b only sent h.pass;
   classic = h.classic;
@@ -199,15 +199,15 @@ works_kept c w past ms a v b only sent h = record {
   begun = λ reads. begun_more c (Sent a) ms v b (h.begun reads);
 }
 
-used_kept : (past : List Tale) (ms : List Moment) (a : Asked) (v : ℕ) (b : BallotAt) → (of_step promise_by a.op ≡ None) ⊎ (of_step promise_by a.op ≡ Some (v, b)) → (last_promise ms ≡ Some (v, b)) ⊎ (rounds_used past ms < b.round) → (last_promise (Sent a ∷ ms) ≡ Some (v, b)) ⊎ (rounds_used past (Sent a ∷ ms) < b.round)
+used_kept : (past : List Trace) (ms : List Action) (a : Asked) (v : ℕ) (b : BallotAt) → (of_step promise_by a.op ≡ None) ⊎ (of_step promise_by a.op ≡ Some (v, b)) → (last_promise ms ≡ Some (v, b)) ⊎ (rounds_used past ms < b.round) → (last_promise (Sent a ∷ ms) ≡ Some (v, b)) ⊎ (rounds_used past (Sent a ∷ ms) < b.round)
 used_kept past ms a v b (inl e) h = used_more past (Sent a) ms v b e h
 used_kept past ms a v b (inr e) h = inl (ap (λ o. or_earlier o (last_promise ms)) e)
 
-none_kept : (c : Config) (ms : List Moment) (a : Asked) (v : ℕ) (b : BallotAt) → NoneAbove c ms v b → NoneAbove c (Sent a ∷ ms) v b
+none_kept : (c : Config) (ms : List Action) (a : Asked) (v : ℕ) (b : BallotAt) → NoneAbove c ms v b → NoneAbove c (Sent a ∷ ms) v b
 none_kept c ms a v b h s row l k = h s row l (known_after_sent a ms s ∙ k)
 
 -- what the phase of a step keeps goes on to hold while the step is made
-pub held_kept : (c : Config) (w : Caller) (past : List Tale) (ms : List Moment) (a : Asked) (step : RowStep) → IsOf a.op (Some step) → HeldBy c w past ms step → HeldBy c w past (Sent a ∷ ms) step
+pub held_kept : (c : Config) (w : Caller) (past : List Trace) (ms : List Action) (a : Asked) (step : RowStep) → IsOf a.op (Some step) → HeldBy c w past ms step → HeldBy c w past (Sent a ∷ ms) step
 held_kept c w past ms a (FastVote v x) is h = λ (u : ℕ) (d : BallotAt) (l : v ≤ u). unsent promise_by (λ p. (p.0 == u) && same_ballot p.1 d) (Sent a) ms (none_of promise_by a.op (FastVote v x) refl is) ∙ h u d l
 held_kept c w past ms a (Promise v b) is h =
     let sent = promise_sent a.op v b is in (
@@ -229,6 +229,6 @@ held_kept c w past ms a (ClassicVote v b x) is h =
 held_kept c w past ms a (Decide v x) is h = tt
 held_kept c w past ms a (Trim to x) is h = tt
 
-pub held_kept_of : (c : Config) (w : Caller) (past : List Tale) (ms : List Moment) (a : Asked) (step : Option RowStep) → IsOf a.op step → HeldOf c w past ms step → HeldOf c w past (Sent a ∷ ms) step
+pub held_kept_of : (c : Config) (w : Caller) (past : List Trace) (ms : List Action) (a : Asked) (step : Option RowStep) → IsOf a.op step → HeldOf c w past ms step → HeldOf c w past (Sent a ∷ ms) step
 held_kept_of c w past ms a None is h = tt
 held_kept_of c w past ms a (Some step) is h = held_kept c w past ms a step is h

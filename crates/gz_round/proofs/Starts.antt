@@ -8,12 +8,12 @@ use Rattle.gz_core.specs.Calls.{key_of, own_value}
 use Rattle.gz_core.specs.declared.calls.Call.{Call}
 use Rattle.gz_config.specs.declared.Config.{Config}
 use Rattle.gz_round.specs.declared.run.Mark.{Mark}
-use Rattle.gz_round.specs.History.{Asked, Caller, Tale}
+use Rattle.gz_round.specs.History.{Asked, Caller, Trace}
 use Rattle.gz_round.specs.Rounds.{top_rounds}
 use Rattle.gz_round.specs.Following.{Ready}
 use Rattle.gz_round.specs.Starting.{fresh_mark, idle_run}
 
-pub start_ready : (c : Config) (w : Caller) (past : List Tale) (name : Name) (call : Call) (rows : List (Option RowAt)) (marks : List Mark) (round : ℕ) → w.name ≡ name → w.call ≡ call → top_rounds past ≡ round →
+pub start_ready : (c : Config) (w : Caller) (past : List Trace) (name : Name) (call : Call) (rows : List (Option RowAt)) (marks : List Mark) (round : ℕ) → w.name ≡ name → w.call ≡ call → top_rounds past ≡ round →
     length rows ≡ c.n → ((s : ℕ) → s < c.n → slice_get rows s ≡ Some None) → length marks ≡ c.n → ((s : ℕ) → s < c.n → slice_get marks s ≡ Some fresh_mark) →
     Ready c w past (idle_run name call round rows marks) []
 start_ready c w past name call rows marks round name_is call_is round_is rows_len rows_none marks_len marks_fresh = record {

@@ -31,7 +31,7 @@ use Rattle.gz_round.specs.declared.run.Mark.{Mark}
 use Rattle.gz_round.specs.declared.run.Run.{Run}
 use Rattle.gz_round.specs.declared.run.Stage.{Stage}
 use Rattle.gz_round.specs.declared.run.Stage.TheVariants.{Look, Fast, Prepare, Accept}
-use Rattle.gz_round.specs.History.{Asked, Moment, Sent, Caller, Tale, IsEarlier, asked_of, sent_from}
+use Rattle.gz_round.specs.History.{Asked, Action, Sent, Caller, Trace, IsEarlier, asked_of, sent_from}
 use Rattle.gz_round.specs.Steps.{IsStepOf}
 use Rattle.gz_round.specs.Sites.{site_now, known}
 use Rattle.gz_round.specs.Sent.{met, last_promise}
@@ -43,49 +43,49 @@ use Rattle.gz_round.specs.Causes.{HasCause, IsCutOff, IsOvertaken, UnsureCause, 
 use Rattle.gz_round.specs.Asking.{IsLeftBy, is_notice, round_of}
 use Rattle.gz_round.specs.Standing.{Knows, Stands, StageStands, ArePassed, AreAskedAgain, IsWaiting, IsWorking, mark_of, awaited_of}
 use Rattle.gz_round.specs.Following.{Asks, MayMakeOf, AreServed, IsSettledBy, NoEvidence, IsUnmet, HeldOf, Turned, HasTurned}
-use Rattle.gz_round.specs.Acting.{IsPlain, Steps, RunsOut, Finishes, IsFewIn, IsShortIn, is_overtaken, is_overtaken_in, is_waiting, vote_for, notice_for, stage_step, step_in, working_version, version_in}
+use Rattle.gz_round.specs.Acting.{IsPlain, TakesStep, RunsOut, Finishes, IsFewIn, IsShortIn, is_overtaken, is_overtaken_in, is_waiting, vote_for, notice_for, stage_step, step_in, working_version, version_in}
 use Rattle.gz_round.proofs.Lists.{count_same, any_found, any_told}
 use Rattle.gz_round.proofs.Known.{evident_same, last_known, known_last, known_after_sent, out_after_sent, row_after_sent}
 use Rattle.gz_round.proofs.LookBacks.{earlier_refl, back_later, last_promised_at}
 
 -- what one request more leaves holds after all requests of an event
-pub over_sent : (P : List Moment → Type 0) → ((a : Asked) (ms : List Moment) → P ms → P (Sent a ∷ ms)) → (first : ℕ) (outs : List Out) (ms : List Moment) → P ms → P (sent_from first outs ms)
+pub over_sent : (P : List Action → Type 0) → ((a : Asked) (ms : List Action) → P ms → P (Sent a ∷ ms)) → (first : ℕ) (outs : List Out) (ms : List Action) → P ms → P (sent_from first outs ms)
 over_sent P step first [] ms h = h
 over_sent P step first (o ∷ os) ms h = over_sent P step (first + 1) os (Sent (asked_of first o) ∷ ms) (step (asked_of first o) ms h)
 
 -- a number that requests leave
-same_sent : (f : List Moment → ℕ) → ((a : Asked) (ms : List Moment) → f ms ≡ f (Sent a ∷ ms)) → (first : ℕ) (sent : List Out) (ms : List Moment) → f ms ≡ f (sent_from first sent ms)
-same_sent f step first sent ms = over_sent (λ ns. f ms ≡ f ns) (λ (a : Asked) (ns : List Moment) (e : f ms ≡ f ns). e ∙ step a ns) first sent ms refl
+same_sent : (f : List Action → ℕ) → ((a : Asked) (ms : List Action) → f ms ≡ f (Sent a ∷ ms)) → (first : ℕ) (sent : List Out) (ms : List Action) → f ms ≡ f (sent_from first sent ms)
+same_sent f step first sent ms = over_sent (λ ns. f ms ≡ f ns) (λ (a : Asked) (ns : List Action) (e : f ms ≡ f ns). e ∙ step a ns) first sent ms refl
 
 -- the last row of a site
-pub row_sent : (first : ℕ) (sent : List Out) (ms : List Moment) (s : ℕ) → (site_now (sent_from first sent ms) s).row ≡ (site_now ms s).row
-row_sent first sent ms s = over_sent (λ ns. (site_now ns s).row ≡ (site_now ms s).row) (λ (a : Asked) (ns : List Moment) (e : (site_now ns s).row ≡ (site_now ms s).row). sym (row_after_sent a ns s) ∙ e) first sent ms refl
+pub row_sent : (first : ℕ) (sent : List Out) (ms : List Action) (s : ℕ) → (site_now (sent_from first sent ms) s).row ≡ (site_now ms s).row
+row_sent first sent ms s = over_sent (λ ns. (site_now ns s).row ≡ (site_now ms s).row) (λ (a : Asked) (ns : List Action) (e : (site_now ns s).row ≡ (site_now ms s).row). sym (row_after_sent a ns s) ∙ e) first sent ms refl
 
-pub met_sent : (first : ℕ) (sent : List Out) (ms : List Moment) → met ms ≡ met (sent_from first sent ms)
+pub met_sent : (first : ℕ) (sent : List Out) (ms : List Action) → met ms ≡ met (sent_from first sent ms)
 met_sent first sent ms = same_sent met (λ a ns. refl) first sent ms
 
-pub outs_sent : (c : Config) (first : ℕ) (sent : List Out) (ms : List Moment) → outs c ms ≡ outs c (sent_from first sent ms)
-outs_sent c first sent ms = same_sent (outs c) (λ (a : Asked) (ns : List Moment). count_same c.n (λ s. (site_now ns s).out) (λ s. (site_now (Sent a ∷ ns) s).out) (λ (s : ℕ) (l : s < c.n). out_after_sent a ns s)) first sent ms
+pub outs_sent : (c : Config) (first : ℕ) (sent : List Out) (ms : List Action) → outs c ms ≡ outs c (sent_from first sent ms)
+outs_sent c first sent ms = same_sent (outs c) (λ (a : Asked) (ns : List Action). count_same c.n (λ s. (site_now ns s).out) (λ s. (site_now (Sent a ∷ ns) s).out) (λ (s : ℕ) (l : s < c.n). out_after_sent a ns s)) first sent ms
 
-pub known_sent : (c : Config) (first : ℕ) (sent : List Out) (ms : List Moment) → known_count c ms ≡ known_count c (sent_from first sent ms)
-known_sent c first sent ms = same_sent (known_count c) (λ (a : Asked) (ns : List Moment). count_same c.n (λ s. is_some (known (site_now ns s))) (λ s. is_some (known (site_now (Sent a ∷ ns) s))) (λ (s : ℕ) (l : s < c.n). ap (λ o. is_some o) (known_after_sent a ns s))) first sent ms
+pub known_sent : (c : Config) (first : ℕ) (sent : List Out) (ms : List Action) → known_count c ms ≡ known_count c (sent_from first sent ms)
+known_sent c first sent ms = same_sent (known_count c) (λ (a : Asked) (ns : List Action). count_same c.n (λ s. is_some (known (site_now ns s))) (λ s. is_some (known (site_now (Sent a ∷ ns) s))) (λ (s : ℕ) (l : s < c.n). ap (λ o. is_some o) (known_after_sent a ns s))) first sent ms
 
-pub heard_sent : (c : Config) (p : RowAt → Bool) (first : ℕ) (sent : List Out) (ms : List Moment) → heard_at c p ms ≡ heard_at c p (sent_from first sent ms)
+pub heard_sent : (c : Config) (p : RowAt → Bool) (first : ℕ) (sent : List Out) (ms : List Action) → heard_at c p ms ≡ heard_at c p (sent_from first sent ms)
 heard_sent c p first sent ms = same_sent (heard_at c p) (λ a ns. refl) first sent ms
 
-pub shown_sent : (c : Config) (v : ℕ) (x : Name) (first : ℕ) (sent : List Out) (ms : List Moment) → IsShown c ms v x → IsShown c (sent_from first sent ms) v x
+pub shown_sent : (c : Config) (v : ℕ) (x : Name) (first : ℕ) (sent : List Out) (ms : List Action) → IsShown c ms v x → IsShown c (sent_from first sent ms) v x
 shown_sent c v x first sent ms h = over_sent (λ ns. IsShown c ns v x) (λ a ns k. k) first sent ms h
 
-pub current_sent : (c : Config) (v : ℕ) (first : ℕ) (sent : List Out) (ms : List Moment) → IsCurrent c ms v → IsCurrent c (sent_from first sent ms) v
+pub current_sent : (c : Config) (v : ℕ) (first : ℕ) (sent : List Out) (ms : List Action) → IsCurrent c ms v → IsCurrent c (sent_from first sent ms) v
 current_sent c v first sent ms h = over_sent (λ ns. IsCurrent c ns v) (λ a ns k. k) first sent ms h
 
-pub value_sent : (v : ℕ) (x : Value) (first : ℕ) (sent : List Out) (ms : List Moment) → IsValueHeard ms v x → IsValueHeard (sent_from first sent ms) v x
+pub value_sent : (v : ℕ) (x : Value) (first : ℕ) (sent : List Out) (ms : List Action) → IsValueHeard ms v x → IsValueHeard (sent_from first sent ms) v x
 value_sent v x first sent ms h = over_sent (λ ns. IsValueHeard ns v x) (λ a ns k. (k.0, k.1, inr k.2, k.3)) first sent ms h
 
-pub evidence_sent : (c : Config) (v : ℕ) (first : ℕ) (sent : List Out) (ms : List Moment) → NoEvidence c ms v → NoEvidence c (sent_from first sent ms) v
-evidence_sent c v first sent ms h = over_sent (λ ns. NoEvidence c ns v) (λ (a : Asked) (ns : List Moment) (k : NoEvidence c ns v). λ (x : Name) (e : IsEvident c.n c.qc c.qf (rows_known (Sent a ∷ ns)) v x). k x (evident_same c (rows_known (Sent a ∷ ns)) (rows_known ns) v x (λ (s : ℕ) (l : s < c.n). sym (known_after_sent a ns s)) e)) first sent ms h
+pub evidence_sent : (c : Config) (v : ℕ) (first : ℕ) (sent : List Out) (ms : List Action) → NoEvidence c ms v → NoEvidence c (sent_from first sent ms) v
+evidence_sent c v first sent ms h = over_sent (λ ns. NoEvidence c ns v) (λ (a : Asked) (ns : List Action) (k : NoEvidence c ns v). λ (x : Name) (e : IsEvident c.n c.qc c.qf (rows_known (Sent a ∷ ns)) v x). k x (evident_same c (rows_known (Sent a ∷ ns)) (rows_known ns) v x (λ (s : ℕ) (l : s < c.n). sym (known_after_sent a ns s)) e)) first sent ms h
 
-pub going_sent : (c : Config) (first : ℕ) (sent : List Out) (ms : List Moment) → IsGoing c ms → IsGoing c (sent_from first sent ms)
+pub going_sent : (c : Config) (first : ℕ) (sent : List Out) (ms : List Action) → IsGoing c ms → IsGoing c (sent_from first sent ms)
 going_sent c first sent ms h =
     let same_met : met ms ≡ met (sent_from first sent ms) = met_sent first sent ms in
     let same_outs : outs c ms ≡ outs c (sent_from first sent ms) = outs_sent c first sent ms in
@@ -94,7 +94,7 @@ going_sent c first sent ms h =
     record { few = omega arith; enough = omega arith }
 
 -- and what holds after them held before
-pub going_back : (c : Config) (first : ℕ) (sent : List Out) (ms : List Moment) → IsGoing c (sent_from first sent ms) → IsGoing c ms
+pub going_back : (c : Config) (first : ℕ) (sent : List Out) (ms : List Action) → IsGoing c (sent_from first sent ms) → IsGoing c ms
 going_back c first sent ms h =
     let same_met : met ms ≡ met (sent_from first sent ms) = met_sent first sent ms in
     let same_outs : outs c ms ≡ outs c (sent_from first sent ms) = outs_sent c first sent ms in
@@ -102,28 +102,28 @@ going_back c first sent ms h =
     let enough : outs c (sent_from first sent ms) + c.qc ≤ c.n = h.enough in
     record { few = omega arith; enough = omega arith }
 
-pub evidence_back : (c : Config) (v : ℕ) (first : ℕ) (sent : List Out) (ms : List Moment) → NoEvidence c (sent_from first sent ms) v → NoEvidence c ms v
-evidence_back c v first sent ms = over_sent (λ ns. NoEvidence c ns v → NoEvidence c ms v) (λ (a : Asked) (ns : List Moment) (k : NoEvidence c ns v → NoEvidence c ms v) (none : NoEvidence c (Sent a ∷ ns) v).
+pub evidence_back : (c : Config) (v : ℕ) (first : ℕ) (sent : List Out) (ms : List Action) → NoEvidence c (sent_from first sent ms) v → NoEvidence c ms v
+evidence_back c v first sent ms = over_sent (λ ns. NoEvidence c ns v → NoEvidence c ms v) (λ (a : Asked) (ns : List Action) (k : NoEvidence c ns v → NoEvidence c ms v) (none : NoEvidence c (Sent a ∷ ns) v).
     k (λ (x : Name) (e : IsEvident c.n c.qc c.qf (rows_known ns) v x). none x (evident_same c (rows_known ns) (rows_known (Sent a ∷ ns)) v x (λ (s : ℕ) (l : s < c.n). known_after_sent a ns s) e))) first sent ms (λ none. none)
 
-cut_sent : (c : Config) (w : Caller) (past : List Tale) (run new : Run) (ms ns : List Moment) (phase : Phase) (heard : ℕ) → Stands c w past run ms → Stands c w past new ns → new.wrote ≡ run.wrote → met ms ≡ met ns → outs c ms ≡ outs c ns → known_count c ms ≡ known_count c ns → IsCutOff c ms phase heard → IsCutOff c ns phase heard
+cut_sent : (c : Config) (w : Caller) (past : List Trace) (run new : Run) (ms ns : List Action) (phase : Phase) (heard : ℕ) → Stands c w past run ms → Stands c w past new ns → new.wrote ≡ run.wrote → met ms ≡ met ns → outs c ms ≡ outs c ns → known_count c ms ≡ known_count c ns → IsCutOff c ms phase heard → IsCutOff c ns phase heard
 cut_sent c w past run new ms ns phase heard h k wrote same_met same_outs same_known cut =
     let few = cut.few in
     let lost = cut.lost in
     record { few = omega arith; lost = omega arith; phase_is = cut.phase_is ∙ (sym h.wrote_is ∙ (sym wrote ∙ k.wrote_is)); heard_is = cut.heard_is ∙ same_known }
 
-overtaken_sent : (c : Config) (ms ns : List Moment) (m : ℕ) → met ms ≡ met ns → IsOvertaken c ms m → IsOvertaken c ns m
+overtaken_sent : (c : Config) (ms ns : List Action) (m : ℕ) → met ms ≡ met ns → IsOvertaken c ms m → IsOvertaken c ns m
 overtaken_sent c ms ns m same h = (omega (arith, h.0), h.1 ∙ same)
 
-unsure_sent : (c : Config) (w : Caller) (past : List Tale) (run new : Run) (ms ns : List Moment) (why : UnsureWhy) → Stands c w past run ms → Stands c w past new ns → new.wrote ≡ run.wrote → met ms ≡ met ns → outs c ms ≡ outs c ns → known_count c ms ≡ known_count c ns → UnsureCause c ms why → UnsureCause c ns why
+unsure_sent : (c : Config) (w : Caller) (past : List Trace) (run new : Run) (ms ns : List Action) (why : UnsureWhy) → Stands c w past run ms → Stands c w past new ns → new.wrote ≡ run.wrote → met ms ≡ met ns → outs c ms ≡ outs c ns → known_count c ms ≡ known_count c ns → UnsureCause c ms why → UnsureCause c ns why
 unsure_sent c w past run new ms ns (UnsureNoQuorum phase heard) h k wrote same_met same_outs same_known cause = cut_sent c w past run new ms ns phase heard h k wrote same_met same_outs same_known cause
 unsure_sent c w past run new ms ns (UnsureContended m) h k wrote same_met same_outs same_known cause = overtaken_sent c ms ns m same_met cause
 
-learnt_sent : (c : Config) (w : Caller) (v : ℕ) (x : Value) (first : ℕ) (sent : List Out) (ms : List Moment) → IsLearnt c w ms v x → IsLearnt c w (sent_from first sent ms) v x
+learnt_sent : (c : Config) (w : Caller) (v : ℕ) (x : Value) (first : ℕ) (sent : List Out) (ms : List Action) → IsLearnt c w ms v x → IsLearnt c w (sent_from first sent ms) v x
 learnt_sent c w v x first sent ms h = record { reads = h.reads; shown = shown_sent c v (name_of x) first sent ms h.shown; current = current_sent c v first sent ms h.current; heard = value_sent v x first sent ms h.heard }
 
 -- reads leave the cause of a plain answer
-plain_sent : (c : Config) (w : Caller) (past : List Tale) (run new : Run) (first : ℕ) (sent : List Out) (ms : List Moment) (answer : Answer) → Stands c w past run ms → Stands c w past new (sent_from first sent ms) → new.voted ≡ run.voted → new.wrote ≡ run.wrote →
+plain_sent : (c : Config) (w : Caller) (past : List Trace) (run new : Run) (first : ℕ) (sent : List Out) (ms : List Action) (answer : Answer) → Stands c w past run ms → Stands c w past new (sent_from first sent ms) → new.voted ≡ run.voted → new.wrote ≡ run.wrote →
     HasCause c w ms answer → IsPlain answer → HasCause c w (sent_from first sent ms) answer
 plain_sent c w past run new first sent ms (Ok v) h k voted_same wrote_same cause plain = absurd plain
 plain_sent c w past run new first sent ms (Bytes v x bytes) h k voted_same wrote_same cause plain = (going_sent c first sent ms cause.0, learnt_sent c w v _ first sent ms cause.1)
@@ -138,7 +138,7 @@ plain_sent c w past run new first sent ms (Unsure why) h k voted_same wrote_same
     (sym k.voted_is ∙ (voted_same ∙ (h.voted_is ∙ cause.0)), unsure_sent c w past run new ms (sent_from first sent ms) why h k wrote_same (met_sent first sent ms) (outs_sent c first sent ms) (known_sent c first sent ms) cause.1)
 
 -- a call that ends after its reads
-pub close_turned : (c : Config) (w : Caller) (past : List Tale) (run new : Run) (ms : List Moment) (first : ℕ) (sent : List Out) (answer : Answer) → Stands c w past run ms → HasCause c w ms answer × IsPlain answer →
+pub close_turned : (c : Config) (w : Caller) (past : List Trace) (run new : Run) (ms : List Action) (first : ℕ) (sent : List Out) (answer : Answer) → Stands c w past run ms → HasCause c w ms answer × IsPlain answer →
     Asks c w past new (sent_from first sent ms) None → IsLeftBy run new None → Turned c w past new (sent_from first sent ms) (Some answer)
 close_turned c w past run new ms first sent answer h cause asks left =
     (asks.stands.allowed, plain_sent c w past run new first sent ms answer h asks.stands (left.voted refl) (left.wrote refl) cause.0 cause.1, asks.stands.round_is)
@@ -153,7 +153,7 @@ idle_from : (o : Option Asked) (b : Bool) → b ≡ is_some o → b ≡ false �
 idle_from None b e f = refl
 idle_from (Some a) b e f = absurd (true≢false (sym e ∙ f))
 
-noticed_from : (c : Config) (w : Caller) (past : List Tale) (run : Run) (ms : List Moment) (v : ℕ) (x : Value) → Stands c w past run ms → own_value w.name w.call ≡ Some x → AreServed c w ms (Some (Decide v x)) → IsNoticed c w ms v
+noticed_from : (c : Config) (w : Caller) (past : List Trace) (run : Run) (ms : List Action) (v : ℕ) (x : Value) → Stands c w past run ms → own_value w.name w.call ≡ Some x → AreServed c w ms (Some (Decide v x)) → IsNoticed c w ms v
 noticed_from c w past run ms v x h own served s l kept quiet seen last other is_own done =
     let idle : (site_now ms s).awaits ≡ None = idle_from (site_now ms s).awaits (site_now ms s).unanswered (h.sites s).answered quiet in
     let k = served s l idle kept in
@@ -174,7 +174,7 @@ notice_is_step v (Some x) l = l
 pub finish_step : (run : Run) (v : ℕ) (step : Option RowStep) → 1 ≤ v → step ≡ notice_for v run.own → IsStepOf step
 finish_step run v step l is = subst IsStepOf (sym is) (notice_is_step v run.own l)
 
-pub finish_asks : (c : Config) (w : Caller) (past : List Tale) (run : Run) (ms : List Moment) (v : ℕ) (step : Option RowStep) → Finishes c w past run ms v → step ≡ notice_for v run.own → Asks c w past run ms step
+pub finish_asks : (c : Config) (w : Caller) (past : List Trace) (run : Run) (ms : List Action) (v : ℕ) (step : Option RowStep) → Finishes c w past run ms v → step ≡ notice_for v run.own → Asks c w past run ms step
 finish_asks c w past run ms v step f is =
     let x : Value = f.own.0 in
     let own : own_value w.name w.call ≡ Some x = f.own.1 in
@@ -182,8 +182,8 @@ finish_asks c w past run ms v step f is =
     let shown : IsShown c ms v (name_of x) = subst (λ (n : Name). IsShown c ms v n) (sym (own_name w.name w.call x own)) f.shown in
     record { stands = f.stands; may = subst (MayMakeOf c w past ms) (sym step_is) (shown, inl own); held = subst (HeldOf c w past ms) (sym step_is) tt }
 
--- a call whose value is chosen, once the others were told
-pub finish_turned : (c : Config) (w : Caller) (past : List Tale) (run new : Run) (ms : List Moment) (first : ℕ) (sent : List Out) (v : ℕ) (step : Option RowStep) → Finishes c w past run ms v → step ≡ notice_for v run.own →
+-- a call whose value is chosen, once the others got a notice
+pub finish_turned : (c : Config) (w : Caller) (past : List Trace) (run new : Run) (ms : List Action) (first : ℕ) (sent : List Out) (v : ℕ) (step : Option RowStep) → Finishes c w past run ms v → step ≡ notice_for v run.own →
     (Asks c w past run ms step → Asks c w past new (sent_from first sent ms) step × AreServed c w (sent_from first sent ms) step) → Turned c w past new (sent_from first sent ms) (Some (Ok v))
 finish_turned c w past run new ms first sent v step f is asked =
     let x : Value = f.own.0 in
@@ -194,7 +194,7 @@ finish_turned c w past run new ms first sent v step f is asked =
     (done.0.stands.allowed, (going_sent c first sent ms f.going, (x, own, shown_sent c v w.name first sent ms f.shown), noticed_from c w past new (sent_from first sent ms) v x done.0.stands own served), done.0.stands.round_is)
 
 -- no known row promises a ballot above
-pub none_above_listed : (c : Config) (run : Run) (ms : List Moment) (v : ℕ) (b : BallotAt) → Knows c run ms → list_any (above_known v b) run.rows ≡ false → NoneAbove c ms v b
+pub none_above_listed : (c : Config) (run : Run) (ms : List Action) (v : ℕ) (b : BallotAt) → Knows c run ms → list_any (above_known v b) run.rows ≡ false → NoneAbove c ms v b
 none_above_listed c run ms v b k none s row l e =
     elim (cases_Bool (promises_above row v b)) [
       | inl above ↦ absurd (both_ways (list_any (above_known v b) run.rows) none (any_told (above_known v b) run.rows s (Some row) (k.rows s l ∙ ap (λ o. Some o) e) above))
@@ -202,41 +202,41 @@ none_above_listed c run ms v b k none s row l e =
     ]
 
 -- and so none was passed
-pub none_passed : (c : Config) (ms : List Moment) (v : ℕ) (b : BallotAt) → NoneAbove c ms v b → ArePassed c ms v b
+pub none_passed : (c : Config) (ms : List Action) (v : ℕ) (b : BallotAt) → NoneAbove c ms v b → ArePassed c ms v b
 none_passed c ms v b none s row l e above = absurd (both_ways (promises_above row v b) (none s row l e) above)
 
 -- a ballot that isn't overtaken was promised last
-pub last_of : (past : List Tale) (run : Run) (ms : List Moment) (v : ℕ) (b : BallotAt) (found : Option Value) → run.round ≡ rounds_used past ms → (last_promise ms ≡ Some (v, b)) ⊎ (rounds_used past ms < b.round) → is_overtaken_in run (Prepare v b found) ≡ false → last_promise ms ≡ Some (v, b)
+pub last_of : (past : List Trace) (run : Run) (ms : List Action) (v : ℕ) (b : BallotAt) (found : Option Value) → run.round ≡ rounds_used past ms → (last_promise ms ≡ Some (v, b)) ⊎ (rounds_used past ms < b.round) → is_overtaken_in run (Prepare v b found) ≡ false → last_promise ms ≡ Some (v, b)
 last_of past run ms v b found e (inl last) ahead = last
 last_of past run ms v b found e (inr low) ahead = let far = ltb-false run.round b.round (or_parts (nat_lt run.round b.round) (list_any (above_known v b) run.rows) ahead).0 in absurd (omega arith)
 
 -- and may be promised again
-pub last_may : (c : Config) (w : Caller) (past : List Tale) (ms : List Moment) (v : ℕ) (b : BallotAt) → IsWorking c w past ms v b → last_promise ms ≡ Some (v, b) → MayPromise c w past ms v b
+pub last_may : (c : Config) (w : Caller) (past : List Trace) (ms : List Action) (v : ℕ) (b : BallotAt) → IsWorking c w past ms v b → last_promise ms ≡ Some (v, b) → MayPromise c w past ms v b
 last_may c w past ms v b h last = record { above = h.pass.above; classic = h.classic; session = h.session; unused = h.unused; round = inr last; grounded = h.grounded; passed = h.passed }
 
 -- the step of a phase may be made
-stage_may : (c : Config) (w : Caller) (past : List Tale) (run : Run) (ms : List Moment) (stage : Stage) → Stands c w past run ms → StageStands c w past stage ms → is_overtaken_in run stage ≡ false → MayMakeOf c w past ms (step_in stage run.own)
+stage_may : (c : Config) (w : Caller) (past : List Trace) (run : Run) (ms : List Action) (stage : Stage) → Stands c w past run ms → StageStands c w past stage ms → is_overtaken_in run stage ≡ false → MayMakeOf c w past ms (step_in stage run.own)
 stage_may c w past run ms Look h s ahead = tt
 stage_may c w past run ms (Fast v) h s ahead = subst (λ o. MayMakeOf c w past ms (vote_for v o)) (sym (h.own_is ∙ s.1.1)) (s.1.1, s.0)
 stage_may c w past run ms (Prepare v b found) h s ahead = last_may c w past ms v b s.0.works (last_of past run ms v b found h.round_is s.0.used ahead)
 stage_may c w past run ms (Accept v b x) h s ahead = s.0
 
 -- it is a step
-stage_is_step : (c : Config) (w : Caller) (past : List Tale) (own : Option Value) (ms : List Moment) (stage : Stage) → StageStands c w past stage ms → IsStepOf (step_in stage own)
+stage_is_step : (c : Config) (w : Caller) (past : List Trace) (own : Option Value) (ms : List Action) (stage : Stage) → StageStands c w past stage ms → IsStepOf (step_in stage own)
 stage_is_step c w past own ms Look s = tt
 stage_is_step c w past own ms (Fast v) s = vote_is_step v own s.0.above
 stage_is_step c w past own ms (Prepare v b found) s = (s.0.works.pass.above, s.0.works.classic)
 stage_is_step c w past own ms (Accept v b x) s = (s.0.above, s.1.works.classic)
 
 -- the phase holds what is kept while the step is made
-stage_held : (c : Config) (w : Caller) (past : List Tale) (run : Run) (ms : List Moment) (stage : Stage) → Stands c w past run ms → StageStands c w past stage ms → is_overtaken_in run stage ≡ false → HeldOf c w past ms (step_in stage run.own)
+stage_held : (c : Config) (w : Caller) (past : List Trace) (run : Run) (ms : List Action) (stage : Stage) → Stands c w past run ms → StageStands c w past stage ms → is_overtaken_in run stage ≡ false → HeldOf c w past ms (step_in stage run.own)
 stage_held c w past run ms Look h s ahead = tt
 stage_held c w past run ms (Fast v) h s ahead = subst (λ o. HeldOf c w past ms (vote_for v o)) (sym (h.own_is ∙ s.1.1)) s.2
 stage_held c w past run ms (Prepare v b found) h s ahead = (s.0, none_above_listed c run ms v b h.knows (or_parts (nat_lt run.round b.round) (list_any (above_known v b) run.rows) ahead).1)
 stage_held c w past run ms (Accept v b x) h s ahead = (s.1, none_above_listed c run ms v b h.knows ahead)
 
 -- and once it was made at the sites the phase goes on to stand
-pub stage_kept : (c : Config) (w : Caller) (past : List Tale) (run new : Run) (ms ns : List Moment) (stage : Stage) → Stands c w past run ms → Stands c w past new ns → IsLeftBy run new (step_in stage run.own) → IsEarlier ms ns → is_overtaken_in run stage ≡ false → StageStands c w past stage ms → MayMakeOf c w past ns (step_in stage run.own) → HeldOf c w past ns (step_in stage run.own) → StageStands c w past stage ns
+pub stage_kept : (c : Config) (w : Caller) (past : List Trace) (run new : Run) (ms ns : List Action) (stage : Stage) → Stands c w past run ms → Stands c w past new ns → IsLeftBy run new (step_in stage run.own) → IsEarlier ms ns → is_overtaken_in run stage ≡ false → StageStands c w past stage ms → MayMakeOf c w past ns (step_in stage run.own) → HeldOf c w past ns (step_in stage run.own) → StageStands c w past stage ns
 stage_kept c w past run new ms ns Look h k left then ahead s may held = (sym k.voted_is ∙ (left.voted refl ∙ (h.voted_is ∙ s.0)), sym k.wrote_is ∙ (left.wrote refl ∙ (h.wrote_is ∙ s.1)))
 stage_kept c w past run new ms ns (Fast v) h k left then ahead s may held =
     let made : MayMake c w past ns (FastVote v s.1.0) = subst (λ o. MayMakeOf c w past ns (vote_for v o)) (h.own_is ∙ s.1.1) may in
@@ -247,11 +247,11 @@ stage_kept c w past run new ms ns (Prepare v b found) h k left then ahead s may 
 stage_kept c w past run new ms ns (Accept v b x) h k left then ahead s may held = (may, held.0, none_passed c ns v b held.1)
 
 -- what was there before the requests of an event
-pub earlier_sent : (first : ℕ) (sent : List Out) (ms : List Moment) → IsEarlier ms (sent_from first sent ms)
-earlier_sent first sent ms = over_sent (IsEarlier ms) (λ (a : Asked) (ns : List Moment) (h : IsEarlier ms ns). inr h) first sent ms (earlier_refl ms)
+pub earlier_sent : (first : ℕ) (sent : List Out) (ms : List Action) → IsEarlier ms (sent_from first sent ms)
+earlier_sent first sent ms = over_sent (IsEarlier ms) (λ (a : Asked) (ns : List Action) (h : IsEarlier ms ns). inr h) first sent ms (earlier_refl ms)
 
 -- each site that was served was asked again
-pub again_from : (c : Config) (w : Caller) (ms : List Moment) (step : Option RowStep) → AreServed c w ms step → AreAskedAgain c ms
+pub again_from : (c : Config) (w : Caller) (ms : List Action) (step : Option RowStep) → AreServed c w ms step → AreAskedAgain c ms
 again_from c w ms step served s l may idle =
     elim (cases_Bool (site_now ms s).out) [
       | inl e ↦ e
@@ -262,7 +262,7 @@ awaits_some : (o : Option Asked) → is_some (option_map awaited_of o) ≡ true 
 awaits_some None h = absurd (false≢true h)
 awaits_some (Some a) h = (a, refl)
 
-pub waits_from : (c : Config) (run : Run) (ms : List Moment) → Knows c run ms → list_any (λ mark. is_some mark.awaited) run.marks ≡ true → IsWaiting c ms
+pub waits_from : (c : Config) (run : Run) (ms : List Action) → Knows c run ms → list_any (λ mark. is_some mark.awaited) run.marks ≡ true → IsWaiting c ms
 waits_from c run ms k h =
     let w = any_found (λ mark. is_some mark.awaited) run.marks h in
     let inside : w.0 < c.n = let len = k.marks_len in omega (arith, slice_get_within run.marks w.0 w.1 w.2) in
@@ -270,7 +270,7 @@ waits_from c run ms k h =
     let some = awaits_some (site_now ms w.0).awaits (subst (λ (m : Mark). is_some m.awaited ≡ true) same w.3) in
     (w.0, some.0, inside, some.1)
 
-pub idle_of : (c : Config) (run : Run) (ms : List Moment) (s : ℕ) (o : Option Asked) → Knows c run ms → list_any (λ mark. is_some mark.awaited) run.marks ≡ false → s < c.n → (site_now ms s).awaits ≡ o → o ≡ None
+pub idle_of : (c : Config) (run : Run) (ms : List Action) (s : ℕ) (o : Option Asked) → Knows c run ms → list_any (λ mark. is_some mark.awaited) run.marks ≡ false → s < c.n → (site_now ms s).awaits ≡ o → o ≡ None
 idle_of c run ms s None k h l e = refl
 idle_of c run ms s (Some a) k h l e =
     absurd (both_ways (list_any (λ mark. is_some mark.awaited) run.marks) h (any_told (λ mark. is_some mark.awaited) run.marks s (mark_of (site_now ms s)) (k.marks s l) (ap (λ (p : Option Asked). is_some (option_map awaited_of p)) e)))
@@ -288,17 +288,17 @@ count_cover zero p q h = omega arith
 count_cover (suc n) p q h = cover_step (p n) (q n) n (count_sites n p) (count_sites n q) (h n (omega arith)) (count_cover n p q (λ (s : ℕ) (l : s < n). h s (omega arith)))
 
 -- where nothing is awaited after a pass, each site that isn't out is known
-pub heard_from : (c : Config) (w : Caller) (ms : List Moment) (step : Option RowStep) → AreServed c w ms step → ((s : ℕ) → s < c.n → (site_now ms s).awaits ≡ None) → (s : ℕ) → s < c.n → (site_now ms s).out ≡ false → (row : RowAt) × (rows_known ms s ≡ Some row)
+pub heard_from : (c : Config) (w : Caller) (ms : List Action) (step : Option RowStep) → AreServed c w ms step → ((s : ℕ) → s < c.n → (site_now ms s).awaits ≡ None) → (s : ℕ) → s < c.n → (site_now ms s).out ≡ false → (row : RowAt) × (rows_known ms s ≡ Some row)
 heard_from c w ms step served idle s l kept = let k = served s l (idle s l) kept in (k.0.row, last_known (site_now ms s) k.0 k.1 kept)
 
 -- and so a classic quorum of sites is known
-pub quorum_known : (c : Config) (ms : List Moment) → ((s : ℕ) → s < c.n → (site_now ms s).out ≡ false → (row : RowAt) × (rows_known ms s ≡ Some row)) → outs c ms + c.qc ≤ c.n → c.qc ≤ known_count c ms
+pub quorum_known : (c : Config) (ms : List Action) → ((s : ℕ) → s < c.n → (site_now ms s).out ≡ false → (row : RowAt) × (rows_known ms s ≡ Some row)) → outs c ms + c.qc ≤ c.n → c.qc ≤ known_count c ms
 quorum_known c ms heard enough =
     let cover : c.n ≤ outs c ms + known_count c ms = count_cover c.n (λ s. (site_now ms s).out) (λ s. is_some (known (site_now ms s))) (λ (s : ℕ) (l : s < c.n). elim (cases_Bool (site_now ms s).out) [ inl e ↦ inl e | inr e ↦ inr (ap (λ o. is_some o) (heard s l e).1) ]) in
     omega arith
 
 -- a phase that goes on has a version to work at, where no value is known to be chosen
-unmet_out : (c : Config) (w : Caller) (past : List Tale) (run : Run) (ms : List Moment) (stage : Stage) (first : ℕ) (sent : List Out) → c.qc ≤ known_count c (sent_from first sent ms) → StageStands c w past stage ms → IsUnmet c run stage ms → (1 ≤ version_in stage (highest_of run.rows)) × NoEvidence c (sent_from first sent ms) (version_in stage (highest_of run.rows))
+unmet_out : (c : Config) (w : Caller) (past : List Trace) (run : Run) (ms : List Action) (stage : Stage) (first : ℕ) (sent : List Out) → c.qc ≤ known_count c (sent_from first sent ms) → StageStands c w past stage ms → IsUnmet c run stage ms → (1 ≤ version_in stage (highest_of run.rows)) × NoEvidence c (sent_from first sent ms) (version_in stage (highest_of run.rows))
 unmet_out c w past run ms Look first sent enough s (inl few) = let same = known_sent c first sent ms in absurd (omega arith)
 unmet_out c w past run ms Look first sent enough s (inr none) = (none.0, evidence_sent c (highest_of run.rows) first sent ms none.1)
 unmet_out c w past run ms (Fast v) first sent enough s none = (s.0.above, evidence_sent c v first sent ms none)
@@ -314,7 +314,7 @@ stage_plain (Prepare v b found) own step e = sym (ap is_notice (same_Some (Promi
 stage_plain (Accept v b x) own step e = sym (ap is_notice (same_Some (ClassicVote v b x) step e))
 
 -- where nothing is awaited after a pass, no known row takes the step
-pub untaken_from : (c : Config) (w : Caller) (ms : List Moment) (step : RowStep) → is_notice step ≡ false → AreServed c w ms (Some step) → ((s : ℕ) → s < c.n → (site_now ms s).awaits ≡ None) → (s : ℕ) (row : RowAt) → s < c.n → rows_known ms s ≡ Some row → answer_of step row ≢ Done
+pub untaken_from : (c : Config) (w : Caller) (ms : List Action) (step : RowStep) → is_notice step ≡ false → AreServed c w ms (Some step) → ((s : ℕ) → s < c.n → (site_now ms s).awaits ≡ None) → (s : ℕ) (row : RowAt) → s < c.n → rows_known ms s ≡ Some row → answer_of step row ≢ Done
 untaken_from c w ms step plain served idle s row l e done =
     let last = known_last (site_now ms s) row e in
     let k = served s l (idle s l) last.3 in
@@ -342,22 +342,22 @@ still_ahead run new (Prepare v b found) rows rises e =
 still_ahead run new (Accept v b x) rows rises e = ap (list_any (above_known v b)) rows ∙ e
 
 -- after the step was made at each site that takes it
-pub record Stepped (c : Config) (w : Caller) (past : List Tale) (new : Run) (ms : List Moment) (step : Option RowStep) : Type 0 where
+pub record Stepped (c : Config) (w : Caller) (past : List Trace) (new : Run) (ms : List Action) (step : Option RowStep) : Type 0 where
   pub stands : Stands c w past new ms
   pub stage : StageStands c w past new.stage ms
   pub going : IsGoing c ms
   pub served : AreServed c w ms step
 
-pub steps_step : (c : Config) (w : Caller) (past : List Tale) (run : Run) (ms : List Moment) (step : Option RowStep) → Steps c w past run ms → step ≡ stage_step run → IsStepOf step
+pub steps_step : (c : Config) (w : Caller) (past : List Trace) (run : Run) (ms : List Action) (step : Option RowStep) → TakesStep c w past run ms → step ≡ stage_step run → IsStepOf step
 steps_step c w past run ms step p is = subst IsStepOf (sym is) (stage_is_step c w past run.own ms run.stage p.carries.acts.ready.stage)
 
-pub steps_ask : (c : Config) (w : Caller) (past : List Tale) (run : Run) (ms : List Moment) (step : Option RowStep) → Steps c w past run ms → step ≡ stage_step run → Asks c w past run ms step
+pub steps_ask : (c : Config) (w : Caller) (past : List Trace) (run : Run) (ms : List Action) (step : Option RowStep) → TakesStep c w past run ms → step ≡ stage_step run → Asks c w past run ms step
 steps_ask c w past run ms step p is =
     let a = p.carries.acts in
     let h : Stands c w past run ms = a.ready.stands in
     record { stands = h; may = subst (MayMakeOf c w past ms) (sym is) (stage_may c w past run ms run.stage h a.ready.stage p.ahead); held = subst (HeldOf c w past ms) (sym is) (stage_held c w past run ms run.stage h a.ready.stage p.ahead) }
 
-pub stepped_from : (c : Config) (w : Caller) (past : List Tale) (run new : Run) (ms : List Moment) (first : ℕ) (sent : List Out) (step : Option RowStep) → Steps c w past run ms → step ≡ stage_step run →
+pub stepped_from : (c : Config) (w : Caller) (past : List Trace) (run new : Run) (ms : List Action) (first : ℕ) (sent : List Out) (step : Option RowStep) → TakesStep c w past run ms → step ≡ stage_step run →
     (Asks c w past run ms step → Asks c w past new (sent_from first sent ms) step × AreServed c w (sent_from first sent ms) step) → IsLeftBy run new step → Stepped c w past new (sent_from first sent ms) step
 stepped_from c w past run new ms first sent step p is asked left =
     let a = p.carries.acts in
@@ -368,11 +368,11 @@ stepped_from c w past run new ms first sent step p is asked left =
     record { stands = k; stage = subst (λ st. StageStands c w past st (sent_from first sent ms)) (sym left.stage) stage; going = going_sent c first sent ms a.going; served = done.1 }
 
 -- a request is awaited, and the call runs on
-pub stepped_runs : (c : Config) (w : Caller) (past : List Tale) (new : Run) (ms : List Moment) (step : Option RowStep) → Stepped c w past new ms step → is_waiting new ≡ true → HasTurned c w past new ms None
+pub stepped_runs : (c : Config) (w : Caller) (past : List Trace) (new : Run) (ms : List Action) (step : Option RowStep) → Stepped c w past new ms step → is_waiting new ≡ true → HasTurned c w past new ms None
 stepped_runs c w past new ms step p e = ([], inl refl, record { stands = p.stands; stage = p.stage; again = again_from c w ms step p.served; going = p.going; waits = waits_from c new ms p.stands.knows e })
 
 -- nothing is awaited, and the phase has ended without its goal
-pub stepped_out : (c : Config) (w : Caller) (past : List Tale) (run new : Run) (ms : List Moment) (first : ℕ) (sent : List Out) (step : Option RowStep) → Steps c w past run ms → step ≡ stage_step run → IsLeftBy run new step → Stepped c w past new (sent_from first sent ms) step → is_waiting new ≡ false → RunsOut c w past new (sent_from first sent ms)
+pub stepped_out : (c : Config) (w : Caller) (past : List Trace) (run new : Run) (ms : List Action) (first : ℕ) (sent : List Out) (step : Option RowStep) → TakesStep c w past run ms → step ≡ stage_step run → IsLeftBy run new step → Stepped c w past new (sent_from first sent ms) step → is_waiting new ≡ false → RunsOut c w past new (sent_from first sent ms)
 stepped_out c w past run new ms first sent step p is left q e =
     let ns = sent_from first sent ms in
     let a = p.carries.acts in

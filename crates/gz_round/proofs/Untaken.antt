@@ -20,7 +20,7 @@ use Rattle.gz_accept.specs.Steps.{open_answer, is_cast_in, promise_at, classic_a
 use Rattle.gz_core.proofs.Ballots.{same_means, name_refl}
 use Rattle.gz_core.proofs.Counting.{count_found}
 use Rattle.gz_pick.specs.Evidences.{decides, is_named}
-use Rattle.gz_round.specs.History.{Moment}
+use Rattle.gz_round.specs.History.{Action}
 use Rattle.gz_round.specs.Rounds.{slot_round, slot_promises_above, promises_above}
 use Rattle.gz_round.specs.Sending.{rows_known, NoEvidence}
 
@@ -55,11 +55,11 @@ gone_row v None e = absurd (false≢true e)
 gone_row v (Some row) e = (row, refl, leb-true v row.floor e)
 
 -- a known row has the version collected
-abbrev pub HasGone : Config → List Moment → ℕ → Type 0
+abbrev pub HasGone : Config → List Action → ℕ → Type 0
 HasGone c ms v = (s : ℕ) × (row : RowAt) × (s < c.n) × (rows_known ms s ≡ Some row) × (v ≤ row.floor)
 
 -- or none has
-pub gone_or_kept : (c : Config) (ms : List Moment) (v : ℕ) → HasGone c ms v ⊎ ((s : ℕ) (row : RowAt) → s < c.n → rows_known ms s ≡ Some row → leb v row.floor ≡ false)
+pub gone_or_kept : (c : Config) (ms : List Action) (v : ℕ) → HasGone c ms v ⊎ ((s : ℕ) (row : RowAt) → s < c.n → rows_known ms s ≡ Some row → leb v row.floor ≡ false)
 gone_or_kept c ms v =
     elim (some_or_none c.n (λ s. is_gone v (rows_known ms s))) [
       | inl w ↦ (let row = gone_row v (rows_known ms w.0) w.2 in inl (w.0, row.0, w.1, row.1, row.2))
@@ -71,7 +71,7 @@ abbrev IsUndecided : Slot → Type 0
 IsUndecided slot = (x : Name) → slot ≡ DecidedAs x → ⊥
 
 -- a version is decided in no known row where no value is known to be chosen there
-pub undecided_known : (c : Config) (ms : List Moment) (v s : ℕ) (row : RowAt) → NoEvidence c ms v → s < c.n → rows_known ms s ≡ Some row → IsUndecided (slot_of (column_in row.columns v))
+pub undecided_known : (c : Config) (ms : List Action) (v s : ℕ) (row : RowAt) → NoEvidence c ms v → s < c.n → rows_known ms s ≡ Some row → IsUndecided (slot_of (column_in row.columns v))
 undecided_known c ms v s row none l e x is =
     let named : decides x v (Some row) ≡ true = ap (λ slot. is_named x (slot_decision slot)) is ∙ name_refl x in
     none x (inr (count_one c.n (λ z. decides x v (rows_known ms z)) s l (ap (decides x v) e ∙ named)))

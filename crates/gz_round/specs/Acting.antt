@@ -20,7 +20,7 @@ use Rattle.gz_round.specs.declared.choosing.Choice.{Choice}
 use Rattle.gz_round.specs.declared.choosing.Choice.TheVariants.{Wait, Accept as AcceptNext, GiveIn}
 use Rattle.gz_core.specs.declared.requests.Out.{Out}
 use Rattle.gz_accept.specs.declared.answers.Step.TheVariants.{Done}
-use Rattle.gz_round.specs.History.{Moment, Caller, Tale, sent_from}
+use Rattle.gz_round.specs.History.{Action, Caller, Trace, sent_from}
 use Rattle.gz_round.specs.Sites.{site_now}
 use Rattle.gz_round.specs.Sent.{has_promised_at}
 use Rattle.gz_round.specs.Shown.{heard_at, IsShown, IsGrounded}
@@ -70,13 +70,13 @@ abbrev pub working_version : Run → ℕ
 working_version run = version_in run.stage (highest_of run.rows)
 
 -- the phase goes on: its goal isn't reached
-pub record Acts (c : Config) (w : Caller) (past : List Tale) (run : Run) (ms : List Moment) : Type 0 where
+pub record IsGoalUnmet (c : Config) (w : Caller) (past : List Trace) (run : Run) (ms : List Action) : Type 0 where
   pub ready : Ready c w past run ms
   pub going : IsGoing c ms
   pub unmet : IsUnmet c run run.stage ms
 
 abbrev pub CanAct : Config → Run → Type 0
-CanAct c run = (w : Caller) × (past : List Tale) × (ms : List Moment) × Acts c w past run ms
+CanAct c run = (w : Caller) × (past : List Trace) × (ms : List Action) × IsGoalUnmet c w past run ms
 
 -- a quorum of known rows doesn't promise the call's ballot yet
 abbrev pub IsFewIn : Config → Run → Stage → Type 0
@@ -86,12 +86,12 @@ IsFewIn c run (Prepare v b found) = (run.round < b.round) ⊎ (count_by (promise
 IsFewIn c run (Accept v b x) = Unit {0}
 
 -- nor is there a quorum of promises
-pub record Carries (c : Config) (w : Caller) (past : List Tale) (run : Run) (ms : List Moment) : Type 0 where
-  pub acts : Acts c w past run ms
+pub record Carries (c : Config) (w : Caller) (past : List Trace) (run : Run) (ms : List Action) : Type 0 where
+  pub acts : IsGoalUnmet c w past run ms
   pub few : IsFewIn c run run.stage
 
 abbrev pub CanCarry : Config → Run → Type 0
-CanCarry c run = (w : Caller) × (past : List Tale) × (ms : List Moment) × Carries c w past run ms
+CanCarry c run = (w : Caller) × (past : List Trace) × (ms : List Action) × Carries c w past run ms
 
 -- a vote for a value follows, if there is one
 abbrev pub choice_of : ℕ → BallotAt → Option Value → Choice
@@ -99,7 +99,7 @@ choice_of v b None = GiveIn
 choice_of v b (Some x) = AcceptNext (Accept v b x)
 
 -- what the promises of the call's ballot come to
-abbrev pub ChoiceMeans : Config → Caller → List Tale → Run → List Moment → Choice → Type 0
+abbrev pub ChoiceMeans : Config → Caller → List Trace → Run → List Action → Choice → Type 0
 ChoiceMeans c w past run ms Wait = IsFewIn c run run.stage
 ChoiceMeans c w past run ms (AcceptNext stage) = Carries c w past (record run { stage = stage }) ms
 ChoiceMeans c w past run ms GiveIn = MayGiveIn c w past ms
@@ -122,15 +122,15 @@ IsShortIn c rows (Prepare v b found) = count_by (promises_known v b) rows < c.qc
 IsShortIn c rows (Accept v b x) = Unit {0}
 
 -- the step of the phase is made
-pub record Steps (c : Config) (w : Caller) (past : List Tale) (run : Run) (ms : List Moment) : Type 0 where
+pub record TakesStep (c : Config) (w : Caller) (past : List Trace) (run : Run) (ms : List Action) : Type 0 where
   pub carries : Carries c w past run ms
   pub ahead : is_overtaken run ≡ false
 
 abbrev pub CanStep : Config → Run → Type 0
-CanStep c run = (w : Caller) × (past : List Tale) × (ms : List Moment) × Steps c w past run ms
+CanStep c run = (w : Caller) × (past : List Trace) × (ms : List Action) × TakesStep c w past run ms
 
 -- the phase has ended without its goal: nothing is awaited, and no known row takes its step
-pub record RunsOut (c : Config) (w : Caller) (past : List Tale) (run : Run) (ms : List Moment) : Type 0 where
+pub record RunsOut (c : Config) (w : Caller) (past : List Trace) (run : Run) (ms : List Action) : Type 0 where
   pub stands : Stands c w past run ms
   pub stage : StageStands c w past run.stage ms
   pub going : IsGoing c ms
@@ -143,10 +143,10 @@ pub record RunsOut (c : Config) (w : Caller) (past : List Tale) (run : Run) (ms 
   pub untaken : (step : RowStep) → stage_step run ≡ Some step → (s : ℕ) (row : RowAt) → s < c.n → rows_known ms s ≡ Some row → answer_of step row ≢ Done
 
 abbrev pub CanRunOut : Config → Run → ℕ → List Out → Type 0
-CanRunOut c run first outs = (w : Caller) × (past : List Tale) × (ms : List Moment) × RunsOut c w past run (sent_from first outs ms)
+CanRunOut c run first outs = (w : Caller) × (past : List Trace) × (ms : List Action) × RunsOut c w past run (sent_from first outs ms)
 
 -- a call prepares a ballot at a version
-pub record Prepares (c : Config) (w : Caller) (past : List Tale) (run : Run) (ms : List Moment) (v : ℕ) : Type 0 where
+pub record Prepares (c : Config) (w : Caller) (past : List Trace) (run : Run) (ms : List Action) (v : ℕ) : Type 0 where
   pub stands : Stands c w past run ms
   pub going : IsGoing c ms
   pub pass : MayPass c w ms v
@@ -156,7 +156,7 @@ pub record Prepares (c : Config) (w : Caller) (past : List Tale) (run : Run) (ms
   pub none : NoEvidence c ms v
 
 abbrev pub CanPrepare : Config → Run → ℕ → List Out → ℕ → Type 0
-CanPrepare c run first outs v = (w : Caller) × (past : List Tale) × (ms : List Moment) × Prepares c w past run (sent_from first outs ms) v
+CanPrepare c run first outs v = (w : Caller) × (past : List Trace) × (ms : List Action) × Prepares c w past run (sent_from first outs ms) v
 
 -- the greatest round that known rows promise at a version
 abbrev pub round_in : ℕ → List (Option RowAt) → ℕ
@@ -170,7 +170,7 @@ pub record IsBallotAbove (run : Run) (v : ℕ) (b : BallotAt) : Type 0 where
   pub classic : IsClassic b
 
 -- the call's value is chosen at the version
-pub record Finishes (c : Config) (w : Caller) (past : List Tale) (run : Run) (ms : List Moment) (v : ℕ) : Type 0 where
+pub record Finishes (c : Config) (w : Caller) (past : List Trace) (run : Run) (ms : List Action) (v : ℕ) : Type 0 where
   pub stands : Stands c w past run ms
   pub going : IsGoing c ms
   pub above : 1 ≤ v
@@ -178,17 +178,17 @@ pub record Finishes (c : Config) (w : Caller) (past : List Tale) (run : Run) (ms
   pub own : (x : Value) × (own_value w.name w.call ≡ Some x)
 
 abbrev pub CanFinish : Config → Run → ℕ → Type 0
-CanFinish c run v = (w : Caller) × (past : List Tale) × (ms : List Moment) × Finishes c w past run ms v
+CanFinish c run v = (w : Caller) × (past : List Trace) × (ms : List Action) × Finishes c w past run ms v
 
 -- the call can go on
 abbrev pub CanFollow : Config → Run → Type 0
-CanFollow c run = (w : Caller) × (past : List Tale) × (ms : List Moment) × Ready c w past run ms × IsGoing c ms
+CanFollow c run = (w : Caller) × (past : List Trace) × (ms : List Action) × Ready c w past run ms × IsGoing c ms
 
 -- the row that is known of a site has a value at the version
-abbrev pub HasValue : Run → ℕ → ℕ → Type 0
-HasValue run s v = (row : RowAt) × (slice_get run.rows s ≡ Some (Some row)) × IsSome (row_value row v)
+abbrev pub HasKnownValue : Run → ℕ → ℕ → Type 0
+HasKnownValue run s v = (row : RowAt) × (slice_get run.rows s ≡ Some (Some row)) × IsSome (row_value row v)
 
--- the answer tells this value
+-- the answer gives this value
 abbrev pub IsAnswerFor : Value → ℕ → Answer → Type 0
 IsAnswerFor (Tomb name) v answer = answer ≡ Gone v name
 IsAnswerFor (Put put) v answer = answer ≡ Bytes v put.name put.bytes

@@ -16,8 +16,8 @@ abbrev pub IsSiteOf : List Mark → ℕ → ℕ → Type 0
 IsSiteOf marks n s = (mark : Mark) × (slice_get marks s ≡ Some mark) × (has_number n mark ≡ true)
 
 -- whether a request is awaited from a site
-abbrev pub is_live : Mark → Bool
-is_live mark = is_some mark.awaited
+abbrev pub is_mark_live : Mark → Bool
+is_mark_live mark = is_some mark.awaited
 
 abbrev pub awaited_number : Option Awaited → Option ℕ
 awaited_number None = None

@@ -12,7 +12,7 @@ use Rattle.gz_core.specs.declared.calls.UnsureWhy.TheVariants.{NoQuorum as Unsur
 use Rattle.gz_core.specs.declared.calls.Phase.{Phase}
 use Rattle.gz_config.specs.declared.Config.{Config}
 use Rattle.gz_pick.specs.Looks.{row_top}
-use Rattle.gz_round.specs.History.{Moment, Caller}
+use Rattle.gz_round.specs.History.{Action, Caller}
 use Rattle.gz_round.specs.Sent.{met, voted, phase_of}
 use Rattle.gz_round.specs.Shown.{heard_at, IsShown, IsCurrent}
 pub use Rattle.gz_round.specs.Shown.{vote_value, column_value, row_value, IsValueHeard}
@@ -20,11 +20,11 @@ pub use Rattle.gz_round.specs.Sending.{rows_known}
 use Rattle.gz_round.specs.Counting.{outs, known_count, IsGoing, IsNoticed}
 
 -- the call writes a value, which is shown at the version
-abbrev pub IsChosenOwn : Config → Caller → List Moment → ℕ → Type 0
+abbrev pub IsChosenOwn : Config → Caller → List Action → ℕ → Type 0
 IsChosenOwn c w ms v = (x : Value) × (own_value w.name w.call ≡ Some x) × IsShown c ms v w.name
 
 -- the call writes nothing; the value is shown at the version, no later one has begun, and the value itself was heard there
-pub record IsLearnt (c : Config) (w : Caller) (ms : List Moment) (v : ℕ) (x : Value) : Type 0 where
+pub record IsLearnt (c : Config) (w : Caller) (ms : List Action) (v : ℕ) (x : Value) : Type 0 where
   pub reads : own_value w.name w.call ≡ None
   pub shown : IsShown c ms v (name_of x)
   pub current : IsCurrent c ms v
@@ -35,27 +35,27 @@ abbrev pub is_blank : RowAt → Bool
 is_blank row = (row_top row == 0) && (row.floor == 0)
 
 -- the object was never written, as rows of a classic quorum show
-abbrev pub IsAbsent : Config → Caller → List Moment → Type 0
+abbrev pub IsAbsent : Config → Caller → List Action → Type 0
 IsAbsent c w ms = (own_value w.name w.call ≡ None) × (c.qc ≤ heard_at c is_blank ms)
 
 -- too few sites are left, and the call was overtaken less often than it tries
-pub record IsCutOff (c : Config) (ms : List Moment) (phase : Phase) (heard : ℕ) : Type 0 where
+pub record IsCutOff (c : Config) (ms : List Action) (phase : Phase) (heard : ℕ) : Type 0 where
   pub few : met ms < c.tries
   pub lost : c.n < outs c ms + c.qc
   pub phase_is : phase ≡ phase_of ms
   pub heard_is : heard ≡ known_count c ms
 
 -- the call was overtaken as often as it tries
-abbrev pub IsOvertaken : Config → List Moment → ℕ → Type 0
+abbrev pub IsOvertaken : Config → List Action → ℕ → Type 0
 IsOvertaken c ms m = (c.tries ≤ met ms) × (m ≡ met ms)
 
 -- why a put or delete ended without knowing
-abbrev pub UnsureCause : Config → List Moment → UnsureWhy → Type 0
+abbrev pub UnsureCause : Config → List Action → UnsureWhy → Type 0
 UnsureCause c ms (UnsureNoQuorum phase heard) = IsCutOff c ms phase heard
 UnsureCause c ms (UnsureContended m) = IsOvertaken c ms m
 
 -- when each answer comes. An answer other than the last three comes only while the call could go on.
-abbrev pub HasCause : Config → Caller → List Moment → Answer → Type 0
+abbrev pub HasCause : Config → Caller → List Action → Answer → Type 0
 HasCause c w ms (Ok v) = IsGoing c ms × IsChosenOwn c w ms v × IsNoticed c w ms v
 HasCause c w ms (Bytes v x bytes) = IsGoing c ms × IsLearnt c w ms v (Put (record { name = x; bytes = bytes }))
 HasCause c w ms (Gone v x) = IsGoing c ms × IsLearnt c w ms v (Tomb x)

@@ -9,7 +9,7 @@ use Rattle.gz_core.specs.declared.slots.Slot.TheVariants.{Gone, DecidedAs, OpenA
 use Rattle.gz_core.specs.declared.values.Value.{Value}
 use Rattle.gz_config.specs.declared.Config.{Config}
 use Rattle.gz_pick.specs.Evidences.{is_in}
-use Rattle.gz_pick.specs.Choices.{pick_of, AreSites}
+use Rattle.gz_pick.specs.Choices.{pick_of, AreHeardSites}
 use Rattle.gz_pick.specs.declared.heard.Heard.{Heard}
 use Rattle.gz_pick.specs.declared.heard.Pick.TheVariants.{Forced, Free}
 use Rattle.gz_round.specs.declared.run.Mark.{Mark}
@@ -35,17 +35,17 @@ IsHeardIn rows v b h = (row : RowAt) × (slice_get rows h.site ≡ Some (Some ro
 
 -- all rows below a place that promise the ballot
 pub record AreHeardIn (c : Config) (rows : List (Option RowAt)) (v : ℕ) (b : BallotAt) (heard : List Heard) (at : ℕ) : Type 0 where
-  pub sites : AreSites c.n heard
+  pub sites : AreHeardSites c.n heard
   pub below : All (λ (h : Heard). h.site < at) heard
   pub rows_are : All (IsHeardIn rows v b) heard
   pub counted : length heard ≡ count_by (promises_known v b) (take at rows)
 
 -- the value is the one that the votes force; where they force none, it is the call's own, or what it looked back at
-abbrev pub IsProposed : Config → Run → ℕ → Option Value → List Heard → Option Value → Type 0
-IsProposed c run v found heard o =
+abbrev pub IsProposal : Config → Run → ℕ → Option Value → List Heard → Option Value → Type 0
+IsProposal c run v found heard o =
     ((pick_of c.n c.qf heard ≡ Free) × (o ≡ or_next run.own found))
     ⊎ ((at : ℕ) × (h : Heard) × (row : RowAt) × (pick_of c.n c.qf heard ≡ Forced at) × (slice_get heard at ≡ Some h) × (slice_get run.rows h.site ≡ Some (Some row)) × (x : Value) × (row_value row v ≡ Some x) × (o ≡ Some x))
 
--- a function that tells of each site the value that its last row has a vote for: of the row that is known, or the one that was left when it went out
+-- a function that gives of each site the value that its last row has a vote for: of the row that is known, or the one that was left when it went out
 abbrev pub AreLastVotes : Run → ℕ → (ℕ → Option Value) → Type 0
 AreLastVotes run v f = (s : ℕ) (row : Option RowAt) (mark : Mark) → slice_get run.rows s ≡ Some row → slice_get run.marks s ≡ Some mark → f s ≡ row_cast v (or_next row mark.left)

@@ -18,7 +18,7 @@ use Rattle.gz_round.specs.declared.run.Stage.TheVariants.{Look, Fast, Prepare, A
 use Rattle.gz_round.specs.declared.following.Next.{Next}
 use Rattle.gz_round.specs.declared.following.Next.TheVariants.{Wait, Vote, Chosen, Learnt, Absent}
 use Rattle.gz_round.specs.declared.hearing.Seen.{Seen}
-use Rattle.gz_round.specs.History.{Asked, Moment, Sent, Caller, Tale, IsClosing, sent_from}
+use Rattle.gz_round.specs.History.{Asked, Action, Sent, Caller, Trace, IsClosing, sent_from}
 use Rattle.gz_round.specs.Sites.{site_now}
 use Rattle.gz_round.specs.Sent.{voted}
 use Rattle.gz_round.specs.Shown.{heard_at, IsShown, IsCurrent}
@@ -42,15 +42,15 @@ is_topless None = true
 is_topless (Some row) = row_top row == 0
 
 -- what was noted is kept, and the phase stands
-pub record Ready (c : Config) (w : Caller) (past : List Tale) (run : Run) (ms : List Moment) : Type 0 where
+pub record Ready (c : Config) (w : Caller) (past : List Trace) (run : Run) (ms : List Action) : Type 0 where
   pub stands : Stands c w past run ms
   pub stage : StageStands c w past run.stage ms
 
 abbrev pub IsReady : Config → Run → Type 0
-IsReady c run = (w : Caller) × (past : List Tale) × (ms : List Moment) × Ready c w past run ms
+IsReady c run = (w : Caller) × (past : List Trace) × (ms : List Action) × Ready c w past run ms
 
 -- the object was never written, as the known rows of a classic quorum show, and the call hasn't voted
-pub record IsFirst (c : Config) (w : Caller) (ms : List Moment) : Type 0 where
+pub record IsUnwritten (c : Config) (w : Caller) (ms : List Action) : Type 0 where
   pub blank : c.qc ≤ heard_at c is_blank ms
   pub unvoted : voted w.name ms ≡ false
   pub unpromised : IsUnpromised ms 0
@@ -64,14 +64,14 @@ IsStageAt (Prepare u b found) v = u ≡ v
 IsStageAt (Accept u b x) v = u ≡ v
 
 -- the phase's goal isn't reached
-abbrev pub IsUnmet : Config → Run → Stage → List Moment → Type 0
+abbrev pub IsUnmet : Config → Run → Stage → List Action → Type 0
 IsUnmet c run Look ms = (known_count c ms < c.qc) ⊎ ((1 ≤ highest_of run.rows) × NoEvidence c ms (highest_of run.rows))
 IsUnmet c run (Fast v) ms = NoEvidence c ms v
 IsUnmet c run (Prepare v b found) ms = NoEvidence c ms v
 IsUnmet c run (Accept v b x) ms = NoEvidence c ms v
 
 -- a call that writes nothing knows the value of a version, from the row of a site, and nothing above it has begun
-pub record IsFound (c : Config) (w : Caller) (run : Run) (ms : List Moment) (v : ℕ) (s : ℕ) : Type 0 where
+pub record IsFound (c : Config) (w : Caller) (run : Run) (ms : List Action) (v : ℕ) (s : ℕ) : Type 0 where
   pub reads : own_value w.name w.call ≡ None
   pub current : IsCurrent c ms v
   pub name : Name
@@ -82,7 +82,7 @@ pub record IsFound (c : Config) (w : Caller) (run : Run) (ms : List Moment) (v :
   pub named : row_name row v ≡ Some name
 
 -- what the rows that are known come to
-abbrev pub NextMeans : Config → Caller → Run → List Moment → Next → Type 0
+abbrev pub NextMeans : Config → Caller → Run → List Action → Next → Type 0
 NextMeans c w run ms Wait = IsUnmet c run run.stage ms
 NextMeans c w run ms (Vote v) = MayFastVote c w ms v × NoEvidence c ms v × ((x : Value) × (own_value w.name w.call ≡ Some x)) × IsUnpromised ms v
 NextMeans c w run ms (Chosen v) = (1 ≤ v) × IsShown c ms v w.name × ((x : Value) × (own_value w.name w.call ≡ Some x))
@@ -90,53 +90,53 @@ NextMeans c w run ms (Learnt v s) = IsFound c w run ms v s
 NextMeans c w run ms Absent = IsAbsent c w ms
 
 -- a step may be made, where there is one
-abbrev pub MayMakeOf : Config → Caller → List Tale → List Moment → Option RowStep → Type 0
+abbrev pub MayMakeOf : Config → Caller → List Trace → List Action → Option RowStep → Type 0
 MayMakeOf c w past ms None = Unit {0}
 MayMakeOf c w past ms (Some step) = MayMake c w past ms step
 
 -- what the phase of a step keeps while the step is made at one site after another
-abbrev pub HeldBy : Config → Caller → List Tale → List Moment → RowStep → Type 0
+abbrev pub HeldBy : Config → Caller → List Trace → List Action → RowStep → Type 0
 HeldBy c w past ms (FastVote v x) = IsUnpromised ms v
 HeldBy c w past ms (Promise v b) = IsPreparing c w past ms v b × NoneAbove c ms v b
 HeldBy c w past ms (ClassicVote v b x) = IsVoting c w past ms v b × NoneAbove c ms v b
 HeldBy c w past ms (Decide v x) = Unit {0}
 HeldBy c w past ms (Trim to x) = Unit {0}
 
-abbrev pub HeldOf : Config → Caller → List Tale → List Moment → Option RowStep → Type 0
+abbrev pub HeldOf : Config → Caller → List Trace → List Action → Option RowStep → Type 0
 HeldOf c w past ms None = Unit {0}
 HeldOf c w past ms (Some step) = HeldBy c w past ms step
 
--- where a step is done, the site was told by a notice
-abbrev pub IsSettledBy : Caller → List Moment → ℕ → Seen → Option RowStep → Type 0
+-- where a step is done, the site got a notice
+abbrev pub IsSettledBy : Caller → List Action → ℕ → Seen → Option RowStep → Type 0
 IsSettledBy w ms s seen None = Unit {0}
 IsSettledBy w ms s seen (Some step) = answer_of step seen.row ≡ Done → (is_notice step ≡ true) × HasNotice ms s (WriteRow (key_of w.call) seen.etag step (made_by step seen.row))
 
 -- all that may be asked of a site was asked: it is awaited, or out, or its last row stands and takes no step
-abbrev pub IsServed : Caller → List Moment → Option RowStep → ℕ → Type 0
+abbrev pub IsServed : Caller → List Action → Option RowStep → ℕ → Type 0
 IsServed w ms step s = (site_now ms s).awaits ≡ None → (site_now ms s).out ≡ false →
     (seen : Seen) × ((site_now ms s).row ≡ Some seen) × ((site_now ms s).changed ≡ false) × IsSettledBy w ms s seen step
 
-abbrev pub AreServed : Config → Caller → List Moment → Option RowStep → Type 0
+abbrev pub AreServed : Config → Caller → List Action → Option RowStep → Type 0
 AreServed c w ms step = (s : ℕ) → s < c.n → IsServed w ms step s
 
 -- a step may be made on the rows that are kept
-pub record Asks (c : Config) (w : Caller) (past : List Tale) (run : Run) (ms : List Moment) (step : Option RowStep) : Type 0 where
+pub record Asks (c : Config) (w : Caller) (past : List Trace) (run : Run) (ms : List Action) (step : Option RowStep) : Type 0 where
   pub stands : Stands c w past run ms
   pub may : MayMakeOf c w past ms step
   pub held : HeldOf c w past ms step
 
 abbrev pub CanAsk : Config → Run → ℕ → List Out → Option RowStep → Type 0
-CanAsk c run first outs step = (w : Caller) × (past : List Tale) × (ms : List Moment) × Asks c w past run (sent_from first outs ms) step
+CanAsk c run first outs step = (w : Caller) × (past : List Trace) × (ms : List Action) × Asks c w past run (sent_from first outs ms) step
 
 -- at most one more request was sent, to this site
-abbrev pub IsOneMore : ℕ → List Moment → List Moment → Type 0
+abbrev pub IsOneMore : ℕ → List Action → List Action → Type 0
 IsOneMore at old new = (new ≡ old) ⊎ ((a : Asked) × (new ≡ Sent a ∷ old) × (a.site ≡ at))
 
 -- after an event: the call runs on, or its answer has its cause
-abbrev pub Turned : Config → Caller → List Tale → Run → List Moment → Option Answer → Type 0
+abbrev pub Turned : Config → Caller → List Trace → Run → List Action → Option Answer → Type 0
 Turned c w past run ms None = Runs c w past run ms
 Turned c w past run ms (Some answer) = AreAllowed c w past ms × HasCause c w ms answer × (run.round ≡ rounds_used past ms)
 
 -- the same, where the event may close by every site going out
-abbrev pub HasTurned : Config → Caller → List Tale → Run → List Moment → Option Answer → Type 0
-HasTurned c w past run ms answer = (closing : List Moment) × IsClosing closing × Turned c w past run (closing ++ ms) answer
+abbrev pub HasTurned : Config → Caller → List Trace → Run → List Action → Option Answer → Type 0
+HasTurned c w past run ms answer = (closing : List Action) × IsClosing closing × Turned c w past run (closing ++ ms) answer

@@ -18,15 +18,15 @@ pub record Asked : Type 0 where
 
 -- what happens to a call: it sends a request, is handed a reply of one, or gives one up; it lets its row requests
 -- rest, so that none is awaited any more; or its phase can go no further, and every site goes out
-pub data Moment : Type 0 where
-  Sent : Asked → Moment
-  Handed : Asked → Reply → Moment
-  GaveUp : Asked → Moment
-  Rested : Moment
-  GaveIn : Moment
+pub data Action : Type 0 where
+  Sent : Asked → Action
+  Handed : Asked → Reply → Action
+  GaveUp : Asked → Action
+  Rested : Action
+  GaveIn : Action
 
 -- what had happened to a call before, or up to now
-abbrev pub IsEarlier : List Moment → List Moment → Type 0
+abbrev pub IsEarlier : List Action → List Action → Type 0
 IsEarlier start [] = start ≡ []
 IsEarlier start (m ∷ ms) = (start ≡ m ∷ ms) ⊎ IsEarlier start ms
 
@@ -36,9 +36,9 @@ pub record Caller : Type 0 where
   pub call : Call
 
 -- one call: what happened to it, newest first, and its answer once it has one
-pub record Tale : Type 0 where
+pub record Trace : Type 0 where
   pub caller : Caller
-  pub moments : List Moment
+  pub actions : List Action
   pub answer : Option Answer
 
 -- whether a request is about a row
@@ -51,26 +51,26 @@ abbrev pub asked_of : ℕ → Out → Asked
 asked_of number out = record { number = number; site = out.site; op = out.op; awaited = out.awaited }
 
 -- the requests of one event are sent in their order, under rising numbers from `first` on
-abbrev pub sent_from : ℕ → List Out → List Moment → List Moment
+abbrev pub sent_from : ℕ → List Out → List Action → List Action
 sent_from first [] ms = ms
 sent_from first (out ∷ outs) ms = sent_from (first + 1) outs (Sent (asked_of first out) ∷ ms)
 
 -- how an event may close: by nothing more, or by every site going out
-abbrev pub IsClosing : List Moment → Type 0
+abbrev pub IsClosing : List Action → Type 0
 IsClosing ms = (ms ≡ []) ⊎ (ms ≡ GaveIn ∷ [])
 
--- the tale of a call that begins, after the earlier ones of its session
-abbrev pub begun : ℕ → Call → ℕ → Turn → List Tale → Tale
+-- the trace of a call that begins, after the earlier ones of its session
+abbrev pub begun : ℕ → Call → ℕ → Turn → List Trace → Trace
 begun session call first turn earlier = record {
   caller = record { name = record { session = session; seq = length earlier + 1 }; call = call };
-  moments = sent_from first turn.send [];
+  actions = sent_from first turn.send [];
   answer = turn.answer;
 }
 
--- the tale of a running call after one more event: a moment, what is sent at it, and how the event closes
-abbrev pub turned : ℕ → Turn → Moment → List Moment → Tale → Tale
-turned first turn moment closing tale = record {
-  caller = tale.caller;
-  moments = closing ++ sent_from first turn.send (moment ∷ tale.moments);
+-- the trace of a running call after one more event: an action, what is sent at it, and how the event closes
+abbrev pub turned : ℕ → Turn → Action → List Action → Trace → Trace
+turned first turn action closing trace = record {
+  caller = trace.caller;
+  actions = closing ++ sent_from first turn.send (action ∷ trace.actions);
   answer = turn.answer;
 }

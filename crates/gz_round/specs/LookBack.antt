@@ -6,7 +6,7 @@ use Rattle.gz_core.specs.declared.rows.Column.{Column}
 use Rattle.gz_core.specs.declared.rows.Column.TheVariants.{Open, Decided}
 use Rattle.gz_core.specs.declared.values.Value.{Value}
 use Rattle.gz_config.specs.declared.Config.{Config}
-use Rattle.gz_round.specs.History.{Moment}
+use Rattle.gz_round.specs.History.{Action}
 use Rattle.gz_round.specs.Sites.{site_now, row_seen}
 use Rattle.gz_round.specs.Sent.{has_promised_at}
 use Rattle.gz_round.specs.Shown.{vote_value}
@@ -33,14 +33,14 @@ lowest zero f = None
 lowest (suc n) f = or_next (lowest n f) (f n)
 
 -- the value that the lowest site with a vote at a version votes for there, by the last row of each site, also of those that are out
-abbrev pub lowest_vote : ℕ → ℕ → List Moment → Option Value
+abbrev pub lowest_vote : ℕ → ℕ → List Action → Option Value
 lowest_vote n v ms = lowest n (λ s. row_cast v (row_seen (site_now ms s).row))
 
 -- what had happened to a call just before it first promised a ballot at a version: all that has, where it never did
-abbrev pub before_promise : ℕ → BallotAt → List Moment → List Moment
+abbrev pub before_promise : ℕ → BallotAt → List Action → List Action
 before_promise v b [] = []
 before_promise v b (m ∷ ms) = if has_promised_at (m ∷ ms) v b then before_promise v b ms else m ∷ ms
 
 -- a call looks back at that vote among the rows as they were then
-abbrev pub IsLookedBack : Config → List Moment → ℕ → BallotAt → Option Value → Type 0
+abbrev pub IsLookedBack : Config → List Action → ℕ → BallotAt → Option Value → Type 0
 IsLookedBack c ms v b found = found ≡ lowest_vote c.n v (before_promise v b ms)

@@ -1,4 +1,4 @@
--- What a running call keeps once a site has told something.
+-- What a running call keeps once a site has answered.
 use Rattle.std.specs.Prelude.{ℕ, ◌≡◌, ◌+◌, Bool, true, false, slice_get, slice_set, Option, Some, None}
 use Rattle.gz_core.specs.Rows.{RowAt}
 use Rattle.gz_core.specs.declared.requests.Reply.{Reply}

@@ -14,27 +14,27 @@ use Rattle.gz_core.specs.declared.requests.RowStep.{RowStep}
 use Rattle.gz_core.specs.declared.requests.RowStep.TheVariants.{FastVote, Promise, ClassicVote, Decide, Trim}
 use Rattle.gz_pick.specs.Looks.{row_vote}
 use Rattle.gz_pick.specs.Evidences.{is_in}
-use Rattle.gz_pick.specs.Choices.{pick_of, AreSites}
+use Rattle.gz_pick.specs.Choices.{pick_of, AreHeardSites}
 use Rattle.gz_pick.specs.declared.heard.Heard.{Heard}
 use Rattle.gz_pick.specs.declared.heard.Pick.TheVariants.{Forced, Free}
-use Rattle.gz_round.specs.History.{Moment, Caller, Tale}
+use Rattle.gz_round.specs.History.{Action, Caller, Trace}
 use Rattle.gz_round.specs.Sites.{passes, heard_in, WasHeard, rows_known}
 use Rattle.gz_round.specs.Sent.{of_sent, some_sent, promise_by, has_promised, has_promised_at, last_promise, top_round}
 use Rattle.gz_round.specs.Shown.{IsCurrent, IsGrounded, IsClear, IsValueHeard}
 use Rattle.gz_round.specs.LookBack.{IsLookedBack}
 
 -- no call of a list promised this ballot
-abbrev pub IsUnused : List Tale → BallotAt → Type 0
+abbrev pub IsUnused : List Trace → BallotAt → Type 0
 IsUnused [] b = Unit {0}
-IsUnused (tale ∷ tales) b = (has_promised tale.moments b ≡ false) × IsUnused tales b
+IsUnused (trace ∷ traces) b = (has_promised trace.actions b ≡ false) × IsUnused traces b
 
 -- the greatest round of the ballots that the calls of a list promised
-abbrev pub top_rounds : List Tale → ℕ
+abbrev pub top_rounds : List Trace → ℕ
 top_rounds [] = 0
-top_rounds (tale ∷ tales) = max (top_round tale.moments) (top_rounds tales)
+top_rounds (trace ∷ traces) = max (top_round trace.actions) (top_rounds traces)
 
--- the greatest round that a session used, with the moments of its newest call
-abbrev pub rounds_used : List Tale → List Moment → ℕ
+-- the greatest round that a session used, with the actions of its newest call
+abbrev pub rounds_used : List Trace → List Action → ℕ
 rounds_used past ms = max (top_rounds past) (top_round ms)
 
 -- the round of the ballot that a row promises at a version, 0 where none is promised
@@ -64,7 +64,7 @@ greatest zero f = 0
 greatest (suc n) f = max (greatest n f) (f n)
 
 -- the round of the next ballot at a version: one above all that the session used, and all that known rows promise there
-abbrev pub next_round : Config → List Tale → List Moment → ℕ → ℕ
+abbrev pub next_round : Config → List Trace → List Action → ℕ → ℕ
 next_round c past ms v = max (rounds_used past ms) (greatest c.n (λ s. round_known v (rows_known ms s))) + 1
 
 -- whether a row promises a ballot above this one at the version
@@ -86,13 +86,13 @@ is_promise v b None = false
 is_promise v b (Some p) = (p.0 == v) && same_ballot p.1 b
 
 -- whether a row that promises a ballot above this one was heard since the last promise of it was sent
-abbrev pub passed_since : ℕ → BallotAt → List Moment → Bool
+abbrev pub passed_since : ℕ → BallotAt → List Action → Bool
 passed_since v b [] = false
 passed_since v b (m ∷ ms) = if is_promise v b (of_sent promise_by m) then false else (passes (λ row. promises_above row v b) (heard_in m) || passed_since v b ms)
 
 -- a promise of the next ballot of its session, or of the one that the call promised last, at a version that has a
 -- ground; any other ballot that the call promised there was passed since
-pub record MayPromise (c : Config) (w : Caller) (past : List Tale) (ms : List Moment) (v : ℕ) (b : BallotAt) : Type 0 where
+pub record MayPromise (c : Config) (w : Caller) (past : List Trace) (ms : List Action) (v : ℕ) (b : BallotAt) : Type 0 where
   pub above : 1 ≤ v
   pub classic : IsClassic b
   pub session : b.session ≡ w.name.session
@@ -102,12 +102,12 @@ pub record MayPromise (c : Config) (w : Caller) (past : List Tale) (ms : List Mo
   pub passed : (d : BallotAt) → d ≢ b → has_promised_at ms v d ≡ true → passed_since v d ms ≡ true
 
 -- the version, ballot and name that a step votes for in a classic ballot
-pub record Cast : Type 0 where
+pub record ClassicCast : Type 0 where
   pub version : ℕ
   pub ballot : BallotAt
   pub name : Name
 
-abbrev pub cast_by : RowStep → Option Cast
+abbrev pub cast_by : RowStep → Option ClassicCast
 cast_by (FastVote v value) = None
 cast_by (Promise v b) = None
 cast_by (ClassicVote v b value) = Some (record { version = v; ballot = b; name = name_of value })
@@ -115,11 +115,11 @@ cast_by (Decide v value) = None
 cast_by (Trim to value) = None
 
 -- whether the call sent a vote in this ballot for the value of this name
-abbrev pub has_cast : List Moment → ℕ → BallotAt → Name → Bool
-has_cast ms v b y = some_sent cast_by (λ k. (k.version == v) && same_ballot k.ballot b && same_name k.name y) ms
+abbrev pub has_classic_cast : List Action → ℕ → BallotAt → Name → Bool
+has_classic_cast ms v b y = some_sent cast_by (λ k. (k.version == v) && same_ballot k.ballot b && same_name k.name y) ms
 
 -- a row of the site was heard that promises the ballot, with this vote of a ballot below
-abbrev pub IsPromiseHeard : List Moment → ℕ → BallotAt → Heard → Type 0
+abbrev pub IsPromiseHeard : List Action → ℕ → BallotAt → Heard → Type 0
 IsPromiseHeard ms v b h = (row : RowAt) × WasHeard ms h.site row × (slots row v ≡ OpenAt b h.vote) × (IsVoteOf b h.vote → ⊥)
 
 -- the vote that was heard at this place has this name
@@ -127,32 +127,32 @@ abbrev pub IsNamedAt : List Heard → ℕ → Name → Type 0
 IsNamedAt heard at x = (h : Heard) × (vote : BallotAt × Name) × (slice_get heard at ≡ Some h) × (h.vote ≡ Some vote) × (vote.1 ≡ x)
 
 -- where the choice is free, a call that writes proposes its own value, and another one that it heard a vote for
-abbrev pub MayPropose : Config → Caller → List Moment → ℕ → Value → Type 0
+abbrev pub MayPropose : Config → Caller → List Action → ℕ → Value → Type 0
 MayPropose c w ms v x =
     ((own_value w.name w.call ≡ Some x) × IsCurrent c ms v × IsClear c w.name ms v)
     ⊎ ((s : ℕ) × (row : RowAt) × (b : BallotAt) × (own_value w.name w.call ≡ None) × WasHeard ms s row × (row_vote row v ≡ Some (b, name_of x)))
 
 -- the promises that were heard leave the value to the call
-abbrev pub IsLeft : Config → Caller → List Moment → ℕ → List Heard → Value → Type 0
+abbrev pub IsLeft : Config → Caller → List Action → ℕ → List Heard → Value → Type 0
 IsLeft c w ms v heard x =
     ((at : ℕ) × (pick_of c.n c.qf heard ≡ Forced at) × IsNamedAt heard at (name_of x))
     ⊎ ((pick_of c.n c.qf heard ≡ Free) × MayPropose c w ms v x)
 
 -- the value itself is the call's own, or was heard at the version
-abbrev pub IsValueKnown : Caller → List Moment → ℕ → Value → Type 0
+abbrev pub IsValueKnown : Caller → List Action → ℕ → Value → Type 0
 IsValueKnown w ms v x = (own_value w.name w.call ≡ Some x) ⊎ IsValueHeard ms v x
 
 -- a vote in a classic ballot that the call promised: rows of a classic quorum promise it, their votes leave the
 -- value to the call, which knows it, and all its votes of the ballot are for one value; where they leave it to a call
 -- that writes nothing, it is the one that the call looked back at just before it first promised the ballot
-pub record MayClassicVote (c : Config) (w : Caller) (ms : List Moment) (v : ℕ) (b : BallotAt) (x : Value) : Type 0 where
+pub record MayClassicVote (c : Config) (w : Caller) (ms : List Action) (v : ℕ) (b : BallotAt) (x : Value) : Type 0 where
   pub above : 1 ≤ v
   pub promised : has_promised_at ms v b ≡ true
   pub heard : List Heard
-  pub sites : AreSites c.n heard
+  pub sites : AreHeardSites c.n heard
   pub enough : c.qc ≤ length heard
   pub rows : All (IsPromiseHeard ms v b) heard
   pub choice : IsLeft c w ms v heard x
   pub known : IsValueKnown w ms v x
-  pub one : (y : Name) → has_cast ms v b y ≡ true → y ≡ name_of x
+  pub one : (y : Name) → has_classic_cast ms v b y ≡ true → y ≡ name_of x
   pub back : own_value w.name w.call ≡ None → pick_of c.n c.qf heard ≡ Free → IsLookedBack c ms v b (Some x)

@@ -17,13 +17,13 @@ use Rattle.gz_accept.specs.Steps.{fast_answer, fast_voted, promise_answer, promi
 use Rattle.gz_core.specs.Counts.{count_sites}
 use Rattle.gz_pick.specs.Looks.{row_top}
 use Rattle.gz_pick.specs.Evidences.{IsEvident}
-use Rattle.gz_pick.specs.Choices.{pick_of, AreSites}
+use Rattle.gz_pick.specs.Choices.{pick_of, AreHeardSites}
 use Rattle.gz_pick.specs.declared.heard.Heard.{Heard}
 use Rattle.gz_pick.specs.declared.heard.Pick.TheVariants.{Free}
 use Rattle.gz_round.specs.Counting.{IsGoing}
 use Rattle.gz_round.specs.LookBack.{before_promise, IsLookedBack}
-use Rattle.gz_round.specs.Rounds.{MayPromise, MayClassicVote, IsPromiseHeard, has_cast, promises_known, promises_above, IsValueKnown}
-use Rattle.gz_round.specs.History.{Asked, Moment, Sent, Handed, GaveUp, Rested, GaveIn, Caller, Tale}
+use Rattle.gz_round.specs.Rounds.{MayPromise, MayClassicVote, IsPromiseHeard, has_classic_cast, promises_known, promises_above, IsValueKnown}
+use Rattle.gz_round.specs.History.{Asked, Action, Sent, Handed, GaveUp, Rested, GaveIn, Caller, Trace}
 pub use Rattle.gz_round.specs.Sites.{rows_known}
 use Rattle.gz_round.specs.Sites.{SiteNow, site_now}
 use Rattle.gz_round.specs.Sent.{is_notice, last_promise}
@@ -51,14 +51,14 @@ IsMade step old new = (answer_of step old ≡ Done) × (new ≡ made_by step old
 
 -- a vote in the fast ballot: nothing above the version has begun, the one before is settled, and where the call
 -- voted for its value at another version, that version went to another value
-pub record MayFastVote (c : Config) (w : Caller) (ms : List Moment) (v : ℕ) : Type 0 where
+pub record MayFastVote (c : Config) (w : Caller) (ms : List Action) (v : ℕ) : Type 0 where
   pub above : 1 ≤ v
   pub current : IsCurrent c ms v
   pub next : IsNext c ms v
   pub clear : IsClear c w.name ms v
 
 -- the guard of each step; the store doesn't collect versions yet
-abbrev pub MayMake : Config → Caller → List Tale → List Moment → RowStep → Type 0
+abbrev pub MayMake : Config → Caller → List Trace → List Action → RowStep → Type 0
 MayMake c w past ms (FastVote v x) = (own_value w.name w.call ≡ Some x) × MayFastVote c w ms v
 MayMake c w past ms (Promise v b) = MayPromise c w past ms v b
 MayMake c w past ms (ClassicVote v b x) = MayClassicVote c w ms v b x
@@ -66,7 +66,7 @@ MayMake c w past ms (Decide v x) = IsShown c ms v (name_of x) × IsValueKnown w 
 MayMake c w past ms (Trim to x) = ⊥
 
 -- a write goes out on the last row that was heard, under its tag, where it wasn't overtaken since
-pub record MayWrite (c : Config) (w : Caller) (past : List Tale) (ms : List Moment) (now : SiteNow) (expect : Option ℕ) (step : RowStep) (row : RowAt) : Type 0 where
+pub record MayWrite (c : Config) (w : Caller) (past : List Trace) (ms : List Action) (now : SiteNow) (expect : Option ℕ) (step : RowStep) (row : RowAt) : Type 0 where
   pub before : RowAt
   pub last : now.row ≡ Some (record { etag = expect; row = before })
   pub same : now.changed ≡ false
@@ -77,7 +77,7 @@ pub record MayWrite (c : Config) (w : Caller) (past : List Tale) (ms : List Mome
 abbrev pub MayRead : SiteNow → Type 0
 MayRead now = (now.row ≡ None) ⊎ (now.changed ≡ true)
 
-abbrev pub MayAsk : Config → Caller → List Tale → List Moment → SiteNow → Op → Type 0
+abbrev pub MayAsk : Config → Caller → List Trace → List Action → SiteNow → Op → Type 0
 MayAsk c w past ms now (ReadRow key) = (key ≡ key_of w.call) × MayRead now
 MayAsk c w past ms now (WriteRow key expect step row) = (key ≡ key_of w.call) × MayWrite c w past ms now expect step row
 
@@ -87,7 +87,7 @@ is_awaited (ReadRow key) = true
 is_awaited (WriteRow key expect step row) = not (is_notice step)
 
 -- a request goes out only to a site that isn't out, and of which no row request is awaited
-pub record MaySend (c : Config) (w : Caller) (past : List Tale) (ms : List Moment) (a : Asked) : Type 0 where
+pub record MaySend (c : Config) (w : Caller) (past : List Trace) (ms : List Action) (a : Asked) : Type 0 where
   pub site : a.site < c.n
   pub kept : (site_now ms a.site).out ≡ false
   pub idle : (site_now ms a.site).awaits ≡ None
@@ -95,51 +95,51 @@ pub record MaySend (c : Config) (w : Caller) (past : List Tale) (ms : List Momen
   pub awaited : a.awaited ≡ is_awaited a.op
 
 -- row requests rest once a value is shown
-abbrev pub MayRest : Config → List Moment → Type 0
+abbrev pub MayRest : Config → List Action → Type 0
 MayRest c ms = (v : ℕ) × (x : Name) × IsShown c ms v x
 
 -- no value is known to be chosen at the version
-abbrev pub NoEvidence : Config → List Moment → ℕ → Type 0
+abbrev pub NoEvidence : Config → List Action → ℕ → Type 0
 NoEvidence c ms v = (x : Name) → IsEvident c.n c.qc c.qf (rows_known ms) v x → ⊥
 
 -- no row that is known promises a ballot above this one
-abbrev pub NoneAbove : Config → List Moment → ℕ → BallotAt → Type 0
+abbrev pub NoneAbove : Config → List Action → ℕ → BallotAt → Type 0
 NoneAbove c ms v b = (s : ℕ) (row : RowAt) → s < c.n → rows_known ms s ≡ Some row → promises_above row v b ≡ false
 
 -- nothing is awaited, every site was heard or is out, and no value is known to be chosen at the version
-pub record IsIdle (c : Config) (ms : List Moment) (v : ℕ) : Type 0 where
+pub record IsIdle (c : Config) (ms : List Action) (v : ℕ) : Type 0 where
   pub awaits : (s : ℕ) → s < c.n → (site_now ms s).awaits ≡ None
   pub heard : (s : ℕ) → s < c.n → (site_now ms s).out ≡ false → (row : RowAt) × (rows_known ms s ≡ Some row)
   pub undecided : NoEvidence c ms v
 
 -- a step in the ballot that the call promised last leads no further, though it could go on: each known row has taken it
-pub record IsStuck (c : Config) (ms : List Moment) (v : ℕ) (b : BallotAt) (step : RowStep) : Type 0 where
+pub record IsStuck (c : Config) (ms : List Action) (v : ℕ) (b : BallotAt) (step : RowStep) : Type 0 where
   pub going : IsGoing c ms
   pub idle : IsIdle c ms v
   pub last : last_promise ms ≡ Some (v, b)
   pub taken : (s : ℕ) (row : RowAt) → s < c.n → rows_known ms s ≡ Some row → answer_of step row ≡ Already
 
 -- fewer rows than a classic quorum that are known promise the ballot, without a vote of it
-abbrev pub IsShort : Config → List Moment → ℕ → BallotAt → Type 0
+abbrev pub IsShort : Config → List Action → ℕ → BallotAt → Type 0
 IsShort c ms v b = count_sites c.n (λ s. promises_known v b (rows_known ms s)) < c.qc
 
 -- the call voted for no value in the ballot
-abbrev pub IsUncast : List Moment → ℕ → BallotAt → Type 0
-IsUncast ms v b = (y : Name) → has_cast ms v b y ≡ false
+abbrev pub IsUncast : List Action → ℕ → BallotAt → Type 0
+IsUncast ms v b = (y : Name) → has_classic_cast ms v b y ≡ false
 
 -- work at a version began at a vote or a decision there, or above: such a row was heard before the ballot was promised
-abbrev pub IsBegun : Config → List Moment → ℕ → BallotAt → Type 0
+abbrev pub IsBegun : Config → List Action → ℕ → BallotAt → Type 0
 IsBegun c ms v b = 1 ≤ heard_at c (λ r. nat_le v (row_top r)) (before_promise v b ms)
 
 -- a call that writes nothing has no value to vote for: the promises of a classic quorum leave it to the call, which
 -- looked back at no vote, though the version had begun
-pub record IsWithoutValue (c : Config) (w : Caller) (ms : List Moment) (v : ℕ) (b : BallotAt) : Type 0 where
+pub record IsWithoutValue (c : Config) (w : Caller) (ms : List Action) (v : ℕ) (b : BallotAt) : Type 0 where
   pub going : IsGoing c ms
   pub reads : own_value w.name w.call ≡ None
   pub last : last_promise ms ≡ Some (v, b)
   pub uncast : IsUncast ms v b
   pub heard : List Heard
-  pub sites : AreSites c.n heard
+  pub sites : AreHeardSites c.n heard
   pub enough : c.qc ≤ length heard
   pub rows : All (IsPromiseHeard ms v b) heard
   pub free : pick_of c.n c.qf heard ≡ Free
@@ -149,7 +149,7 @@ pub record IsWithoutValue (c : Config) (w : Caller) (ms : List Moment) (v : ℕ)
 
 -- a known row has the version collected, at which the call may promise the ballot, or promised it last. No row of this
 -- store has: it collects no version yet.
-pub record IsCollected (c : Config) (w : Caller) (past : List Tale) (ms : List Moment) (v : ℕ) (b : BallotAt) : Type 0 where
+pub record IsCollected (c : Config) (w : Caller) (past : List Trace) (ms : List Action) (v : ℕ) (b : BallotAt) : Type 0 where
   pub going : IsGoing c ms
   pub idle : IsIdle c ms v
   pub promise : MayPromise c w past ms v b
@@ -158,24 +158,24 @@ pub record IsCollected (c : Config) (w : Caller) (past : List Tale) (ms : List M
 -- a call gives in where its promise leads no further, short of a quorum of promises, and nothing was cast in the
 -- ballot; where its vote in the ballot leads no further, short of a value that is chosen; where it has no value to
 -- vote for; or where its version was collected. Rows that stay as written exclude all four.
-pub data MayGiveIn (c : Config) (w : Caller) (past : List Tale) (ms : List Moment) : Type 0 where
+pub data MayGiveIn (c : Config) (w : Caller) (past : List Trace) (ms : List Action) : Type 0 where
   NoPromise : (v : ℕ) (b : BallotAt) → IsStuck c ms v b (Promise v b) → IsUncast ms v b → IsShort c ms v b → MayGiveIn c w past ms
   NoVote : (v : ℕ) (b : BallotAt) (x : Value) → IsStuck c ms v b (ClassicVote v b x) → MayClassicVote c w ms v b x → MayGiveIn c w past ms
   NoValue : (v : ℕ) (b : BallotAt) → IsWithoutValue c w ms v b → MayGiveIn c w past ms
   Collected : (v : ℕ) (b : BallotAt) → IsCollected c w past ms v b → MayGiveIn c w past ms
 
 -- a reply or a give-up is of a request that is awaited
-abbrev pub IsAwaitedOf : List Moment → Asked → Type 0
+abbrev pub IsAwaitedOf : List Action → Asked → Type 0
 IsAwaitedOf ms a = (site_now ms a.site).awaits ≡ Some a
 
-abbrev pub IsAllowed : Config → Caller → List Tale → List Moment → Moment → Type 0
+abbrev pub IsAllowed : Config → Caller → List Trace → List Action → Action → Type 0
 IsAllowed c w past ms (Sent a) = MaySend c w past ms a
 IsAllowed c w past ms (Handed a reply) = IsAwaitedOf ms a
 IsAllowed c w past ms (GaveUp a) = IsAwaitedOf ms a
 IsAllowed c w past ms Rested = MayRest c ms
 IsAllowed c w past ms GaveIn = MayGiveIn c w past ms
 
--- each moment of a call was allowed when it came
-abbrev pub AreAllowed : Config → Caller → List Tale → List Moment → Type 0
+-- each action of a call was allowed when it came
+abbrev pub AreAllowed : Config → Caller → List Trace → List Action → Type 0
 AreAllowed c w past [] = Unit {0}
 AreAllowed c w past (m ∷ ms) = IsAllowed c w past ms m × AreAllowed c w past ms

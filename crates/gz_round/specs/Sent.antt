@@ -8,10 +8,10 @@ use Rattle.gz_core.specs.declared.requests.RowStep.{RowStep}
 use Rattle.gz_core.specs.declared.requests.RowStep.TheVariants.{FastVote, Promise, ClassicVote, Decide, Trim}
 use Rattle.gz_core.specs.declared.requests.Op.{Op}
 use Rattle.gz_core.specs.declared.requests.Op.TheVariants.{ReadRow, WriteRow}
-use Rattle.gz_round.specs.History.{Moment, Sent, Handed, GaveUp, Rested, GaveIn}
+use Rattle.gz_round.specs.History.{Action, Sent, Handed, GaveUp, Rested, GaveIn}
 use Rattle.gz_round.specs.Sites.{is_changed}
 
--- a step that nobody awaits: the others are told what is chosen
+-- a step that nobody awaits: the others get notice of what is chosen
 abbrev pub is_notice : RowStep → Bool
 is_notice (FastVote v x) = false
 is_notice (Promise v b) = false
@@ -48,8 +48,8 @@ abbrev pub of_step : {T : Type 0} → (RowStep → Option T) → Op → Option T
 of_step f (ReadRow key) = None
 of_step f (WriteRow key expect step row) = f step
 
--- what is read off the step of a write that is sent at a moment
-abbrev pub of_sent : {T : Type 0} → (RowStep → Option T) → Moment → Option T
+-- what is read off the step of a write that is sent at an action
+abbrev pub of_sent : {T : Type 0} → (RowStep → Option T) → Action → Option T
 of_sent f (Sent a) = of_step f a.op
 of_sent f (Handed a reply) = None
 of_sent f (GaveUp a) = None
@@ -61,7 +61,7 @@ or_earlier None earlier = earlier
 or_earlier (Some x) earlier = Some x
 
 -- the same of the last write that has it
-abbrev pub last_sent : {T : Type 0} → (RowStep → Option T) → List Moment → Option T
+abbrev pub last_sent : {T : Type 0} → (RowStep → Option T) → List Action → Option T
 last_sent f [] = None
 last_sent f (m ∷ ms) = or_earlier (of_sent f m) (last_sent f ms)
 
@@ -70,32 +70,32 @@ passes_sent p None = false
 passes_sent p (Some x) = p x
 
 -- whether some write was sent of which what is read passes a test
-abbrev pub some_sent : {T : Type 0} → (RowStep → Option T) → (T → Bool) → List Moment → Bool
+abbrev pub some_sent : {T : Type 0} → (RowStep → Option T) → (T → Bool) → List Action → Bool
 some_sent f p [] = false
 some_sent f p (m ∷ ms) = passes_sent p (of_sent f m) || some_sent f p ms
 
 -- whether the call sent a vote for the value of this name at all
-abbrev pub voted : Name → List Moment → Bool
+abbrev pub voted : Name → List Action → Bool
 voted x ms = some_sent (vote_by x) (λ u. true) ms
 
 -- whether it did at this version
-abbrev pub voted_at : Name → List Moment → ℕ → Bool
+abbrev pub voted_at : Name → List Action → ℕ → Bool
 voted_at x ms v = some_sent (vote_by x) (λ u. u == v) ms
 
 -- the version at which it voted last for the value of this name
-abbrev pub last_vote : Name → List Moment → Option ℕ
+abbrev pub last_vote : Name → List Action → Option ℕ
 last_vote x ms = last_sent (vote_by x) ms
 
 -- whether it sent a promise of this ballot, at any version
-abbrev pub has_promised : List Moment → BallotAt → Bool
+abbrev pub has_promised : List Action → BallotAt → Bool
 has_promised ms b = some_sent promise_by (λ p. same_ballot p.1 b) ms
 
 -- whether it sent a promise of this ballot at this version
-abbrev pub has_promised_at : List Moment → ℕ → BallotAt → Bool
+abbrev pub has_promised_at : List Action → ℕ → BallotAt → Bool
 has_promised_at ms v b = some_sent promise_by (λ p. (p.0 == v) && same_ballot p.1 b) ms
 
 -- the version and ballot that it promised last
-abbrev pub last_promise : List Moment → Option (ℕ × BallotAt)
+abbrev pub last_promise : List Action → Option (ℕ × BallotAt)
 last_promise ms = last_sent promise_by ms
 
 -- the greater of a round and a promise's, where there is one
@@ -104,7 +104,7 @@ round_after None round = round
 round_after (Some p) round = max p.1.round round
 
 -- the greatest round of the ballots that a call promised
-abbrev pub top_round : List Moment → ℕ
+abbrev pub top_round : List Action → ℕ
 top_round [] = 0
 top_round (m ∷ ms) = round_after (of_sent promise_by m) (top_round ms)
 
@@ -113,11 +113,11 @@ phase_or_look None = Look
 phase_or_look (Some phase) = phase
 
 -- the part of the call that sent its last row write, but for notices; `Look` where it sent none
-abbrev pub phase_of : List Moment → Phase
+abbrev pub phase_of : List Action → Phase
 phase_of ms = phase_or_look (last_sent phase_by ms)
 
--- a reply tells that a write was overtaken
-abbrev pub overtakes : Moment → Bool
+-- a reply shows that a write was overtaken
+abbrev pub overtakes : Action → Bool
 overtakes (Sent a) = false
 overtakes (Handed a reply) = is_changed reply
 overtakes (GaveUp a) = false
@@ -125,6 +125,6 @@ overtakes Rested = false
 overtakes GaveIn = false
 
 -- how many writes of the call were overtaken
-abbrev pub met : List Moment → ℕ
+abbrev pub met : List Action → ℕ
 met [] = 0
 met (m ∷ ms) = if overtakes m then met ms + 1 else met ms

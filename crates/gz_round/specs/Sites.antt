@@ -10,7 +10,7 @@ use Rattle.gz_core.specs.declared.requests.Op.TheVariants.{ReadRow, WriteRow}
 use Rattle.gz_core.specs.declared.requests.Reply.{Reply}
 use Rattle.gz_core.specs.declared.requests.Reply.TheVariants.{Row, NoRow, Written, Changed, Failed}
 use Rattle.gz_round.specs.declared.hearing.Seen.{Seen}
-use Rattle.gz_round.specs.History.{Asked, Moment, Sent, Handed, GaveUp, Rested, GaveIn, is_row_request}
+use Rattle.gz_round.specs.History.{Asked, Action, Sent, Handed, GaveUp, Rested, GaveIn, is_row_request}
 
 -- a promise below the rounds that no run reaches
 abbrev pub column_stands : Column → Bool
@@ -74,8 +74,8 @@ after_reply None false now = record { row = now.row; changed = now.changed; out 
 abbrev pub after_sent : Asked → SiteNow → SiteNow
 after_sent a now = if a.awaited then record { row = now.row; changed = now.changed; out = now.out; awaits = Some a; unanswered = true } else now
 
--- what a moment that concerns a site makes of it
-abbrev pub after : Moment → SiteNow → SiteNow
+-- what an action that concerns a site makes of it
+abbrev pub after : Action → SiteNow → SiteNow
 after (Sent a) now = after_sent a now
 after (Handed a reply) now = after_reply (seen_in (written_by a.op) reply) (is_changed reply) now
 after (GaveUp a) now = record { row = now.row; changed = now.changed; out = true; awaits = None; unanswered = false }
@@ -86,8 +86,8 @@ after GaveIn now = record { row = now.row; changed = now.changed; out = true; aw
 abbrev pub is_to : Asked → ℕ → Bool
 is_to a s = is_row_request a.op && (a.site == s)
 
--- whether a moment concerns a site: resting and giving in concern all
-abbrev pub concerns : Moment → ℕ → Bool
+-- whether an action concerns a site: resting and giving in concern all
+abbrev pub concerns : Action → ℕ → Bool
 concerns (Sent a) s = is_to a s
 concerns (Handed a reply) s = is_to a s
 concerns (GaveUp a) s = is_to a s
@@ -95,7 +95,7 @@ concerns Rested s = true
 concerns GaveIn s = true
 
 -- the site as of now
-abbrev pub site_now : List Moment → ℕ → SiteNow
+abbrev pub site_now : List Action → ℕ → SiteNow
 site_now [] s = unheard
 site_now (m ∷ ms) s = if concerns m s then after m (site_now ms s) else site_now ms s
 
@@ -108,11 +108,11 @@ abbrev pub known : SiteNow → Option RowAt
 known now = if now.out then None else row_seen now.row
 
 -- the row that the call goes by of each site
-abbrev pub rows_known : List Moment → ℕ → Option RowAt
+abbrev pub rows_known : List Action → ℕ → Option RowAt
 rows_known ms s = known (site_now ms s)
 
--- the row that is heard at a moment
-abbrev pub heard_in : Moment → Option Seen
+-- the row that is heard at an action
+abbrev pub heard_in : Action → Option Seen
 heard_in (Sent a) = None
 heard_in (Handed a reply) = seen_in (written_by a.op) reply
 heard_in (GaveUp a) = None
@@ -124,11 +124,11 @@ passes p None = false
 passes p (Some seen) = p seen.row
 
 -- whether some row that was heard from a site passes a test
-abbrev pub some_heard : (RowAt → Bool) → List Moment → ℕ → Bool
+abbrev pub some_heard : (RowAt → Bool) → List Action → ℕ → Bool
 some_heard p [] s = false
 some_heard p (m ∷ ms) s = (passes p (heard_in m) && concerns m s) || some_heard p ms s
 
 -- a row was heard from a site
-abbrev pub WasHeard : List Moment → ℕ → RowAt → Type 0
+abbrev pub WasHeard : List Action → ℕ → RowAt → Type 0
 WasHeard [] s row = ⊥
 WasHeard (m ∷ ms) s row = ((seen : Seen) × (concerns m s ≡ true) × (heard_in m ≡ Some seen) × (seen.row ≡ row)) ⊎ WasHeard ms s row

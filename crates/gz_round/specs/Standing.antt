@@ -11,7 +11,7 @@ use Rattle.gz_round.specs.declared.run.Mark.{Mark}
 use Rattle.gz_round.specs.declared.run.Run.{Run}
 use Rattle.gz_round.specs.declared.run.Stage.{Stage}
 use Rattle.gz_round.specs.declared.run.Stage.TheVariants.{Look, Fast, Prepare, Accept}
-use Rattle.gz_round.specs.History.{Asked, Moment, Caller, Tale}
+use Rattle.gz_round.specs.History.{Asked, Action, Caller, Trace}
 use Rattle.gz_round.specs.declared.hearing.Seen.{Seen}
 use Rattle.gz_round.specs.Sites.{SiteNow, site_now, known, row_seen, written_by}
 use Rattle.gz_round.specs.Sent.{met, voted, phase_of, has_promised_at, last_promise}
@@ -36,8 +36,8 @@ left_of now = if now.out then row_seen now.row else None
 abbrev pub mark_of : SiteNow → Mark
 mark_of now = record { etag = etag_seen now.row; changed = now.changed; out = now.out; left = left_of now; awaited = option_map awaited_of now.awaits }
 
--- the lists say of each site what the moments say
-pub record Knows (c : Config) (run : Run) (ms : List Moment) : Type 0 where
+-- the lists say of each site what the actions say
+pub record Knows (c : Config) (run : Run) (ms : List Action) : Type 0 where
   pub rows_len : length run.rows ≡ c.n
   pub marks_len : length run.marks ≡ c.n
   pub rows : (s : ℕ) → s < c.n → slice_get run.rows s ≡ Some (known (site_now ms s))
@@ -49,11 +49,11 @@ pub record IsSound (now : SiteNow) (s : ℕ) : Type 0 where
   pub inside : (a : Asked) → now.awaits ≡ Some a → (now.out ≡ false) × (a.site ≡ s) × (a.awaited ≡ true)
   pub answered : now.unanswered ≡ is_some now.awaits
 
-abbrev pub AreSound : List Moment → Type 0
+abbrev pub AreSound : List Action → Type 0
 AreSound ms = (s : ℕ) → IsSound (site_now ms s) s
 
--- the call keeps what has happened to it, and each moment of it was allowed
-pub record Stands (c : Config) (w : Caller) (past : List Tale) (run : Run) (ms : List Moment) : Type 0 where
+-- the call keeps what has happened to it, and each action of it was allowed
+pub record Stands (c : Config) (w : Caller) (past : List Trace) (run : Run) (ms : List Action) : Type 0 where
   pub name_is : run.name ≡ w.name
   pub key_is : run.key ≡ key_of w.call
   pub own_is : run.own ≡ own_value w.name w.call
@@ -66,15 +66,15 @@ pub record Stands (c : Config) (w : Caller) (past : List Tale) (run : Run) (ms :
   pub allowed : AreAllowed c w past ms
 
 -- no promise was sent at this version, or above
-abbrev pub IsUnpromised : List Moment → ℕ → Type 0
+abbrev pub IsUnpromised : List Action → ℕ → Type 0
 IsUnpromised ms v = (u : ℕ) (d : BallotAt) → v ≤ u → has_promised_at ms u d ≡ false
 
 -- where a row that is known promises a ballot above this one, such a row was heard since the last promise of it
-abbrev pub ArePassed : Config → List Moment → ℕ → BallotAt → Type 0
+abbrev pub ArePassed : Config → List Action → ℕ → BallotAt → Type 0
 ArePassed c ms v b = (s : ℕ) (row : RowAt) → s < c.n → rows_known ms s ≡ Some row → promises_above row v b ≡ true → passed_since v b ms ≡ true
 
 -- the call may work at a version; once a value is shown there that isn't its own, one that writes may pass on to the next
-pub record MayPass (c : Config) (w : Caller) (ms : List Moment) (v : ℕ) : Type 0 where
+pub record MayPass (c : Config) (w : Caller) (ms : List Action) (v : ℕ) : Type 0 where
   pub above : 1 ≤ v
   pub current : IsCurrent c ms v
   pub clear : IsClear c w.name ms v
@@ -82,7 +82,7 @@ pub record MayPass (c : Config) (w : Caller) (ms : List Moment) (v : ℕ) : Type
 
 -- it works there by a classic ballot of its session, which was used for nothing else; any other ballot that it
 -- promised there was passed since
-pub record IsWorking (c : Config) (w : Caller) (past : List Tale) (ms : List Moment) (v : ℕ) (b : BallotAt) : Type 0 where
+pub record IsWorking (c : Config) (w : Caller) (past : List Trace) (ms : List Action) (v : ℕ) (b : BallotAt) : Type 0 where
   pub pass : MayPass c w ms v
   pub classic : IsClassic b
   pub session : b.session ≡ w.name.session
@@ -92,34 +92,34 @@ pub record IsWorking (c : Config) (w : Caller) (past : List Tale) (ms : List Mom
   pub begun : own_value w.name w.call ≡ None → IsBegun c ms v b
 
 -- it has not voted in the ballot, which it promised last, or else no session has used its round
-pub record IsPreparing (c : Config) (w : Caller) (past : List Tale) (ms : List Moment) (v : ℕ) (b : BallotAt) : Type 0 where
+pub record IsPreparing (c : Config) (w : Caller) (past : List Trace) (ms : List Action) (v : ℕ) (b : BallotAt) : Type 0 where
   pub works : IsWorking c w past ms v b
   pub uncast : IsUncast ms v b
   pub used : (last_promise ms ≡ Some (v, b)) ⊎ (rounds_used past ms < b.round)
 
 -- it may vote in the ballot, which it promised last
-pub record IsVoting (c : Config) (w : Caller) (past : List Tale) (ms : List Moment) (v : ℕ) (b : BallotAt) : Type 0 where
+pub record IsVoting (c : Config) (w : Caller) (past : List Trace) (ms : List Action) (v : ℕ) (b : BallotAt) : Type 0 where
   pub works : IsWorking c w past ms v b
   pub last : last_promise ms ≡ Some (v, b)
 
 -- the phase has what its step wants, and what a call that writes nothing looked back at
-abbrev pub StageStands : Config → Caller → List Tale → Stage → List Moment → Type 0
+abbrev pub StageStands : Config → Caller → List Trace → Stage → List Action → Type 0
 StageStands c w past Look ms = (voted w.name ms ≡ false) × (phase_of ms ≡ NotBegun)
 StageStands c w past (Fast v) ms = MayFastVote c w ms v × ((x : Value) × (own_value w.name w.call ≡ Some x)) × IsUnpromised ms v
 StageStands c w past (Prepare v b found) ms = IsPreparing c w past ms v b × ArePassed c ms v b × (own_value w.name w.call ≡ None → last_promise ms ≡ Some (v, b) → IsLookedBack c ms v b found)
 StageStands c w past (Accept v b x) ms = MayClassicVote c w ms v b x × IsVoting c w past ms v b × ArePassed c ms v b
 
 -- each site that may be read is being read, or is out
-abbrev pub AreAskedAgain : Config → List Moment → Type 0
+abbrev pub AreAskedAgain : Config → List Action → Type 0
 AreAskedAgain c ms = (s : ℕ) → s < c.n → MayRead (site_now ms s) → (site_now ms s).awaits ≡ None → (site_now ms s).out ≡ true
 
 -- a request is awaited from a site
-abbrev pub IsWaiting : Config → List Moment → Type 0
+abbrev pub IsWaiting : Config → List Action → Type 0
 IsWaiting c ms = (s : ℕ) × (a : Asked) × (s < c.n) × ((site_now ms s).awaits ≡ Some a)
 
 -- between two events: the phase stands, each site is asked for what it may be asked, the call can go on, and it
 -- awaits a request
-pub record Runs (c : Config) (w : Caller) (past : List Tale) (run : Run) (ms : List Moment) : Type 0 where
+pub record Runs (c : Config) (w : Caller) (past : List Trace) (run : Run) (ms : List Action) : Type 0 where
   pub stands : Stands c w past run ms
   pub stage : StageStands c w past run.stage ms
   pub again : AreAskedAgain c ms
@@ -127,4 +127,4 @@ pub record Runs (c : Config) (w : Caller) (past : List Tale) (run : Run) (ms : L
   pub waits : IsWaiting c ms
 
 abbrev pub IsKept : Config → Run → Type 0
-IsKept c run = (w : Caller) × (past : List Tale) × (ms : List Moment) × Stands c w past run ms
+IsKept c run = (w : Caller) × (past : List Trace) × (ms : List Action) × Stands c w past run ms

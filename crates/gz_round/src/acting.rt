@@ -2,12 +2,12 @@
 ghost use Rattle.std.specs.Prelude.{IsSome, ◌≡◌, ◌≤◌, ◌<◌, ◌+◌, ◌^◌, ℕ, List, [], length, Some, slice_get, IfOk, MatchOption};
 ghost use Rattle.gz_core.specs.Rows.{RowAt};
 ghost use Rattle.gz_core.specs.Configurations.{IsConfig};
-ghost use Rattle.gz_round.specs.History.{Moment, Caller, Tale, sent_from};
+ghost use Rattle.gz_round.specs.History.{Action, Caller, Trace, sent_from};
 ghost use Rattle.gz_round.specs.Standing.{Stands, Runs, IsKept};
 ghost use Rattle.gz_round.specs.Counting.{IsGoing};
 ghost use Rattle.std.specs.Option.{option_copied};
 ghost use Rattle.gz_round.specs.Causes.{HasCause, row_value, column_value, vote_value};
-ghost use Rattle.gz_round.specs.Acting.{IsPlain, Acts, CanAct, CanFollow, Carries, CanCarry, is_overtaken, contended_of, cut_off_of, given_in_of, CanFinish, Finishes, HasValue, IsAnswerFor, IsAnswerOf, stage_step, vote_for, notice_for, working_version};
+ghost use Rattle.gz_round.specs.Acting.{IsPlain, IsGoalUnmet, CanAct, CanFollow, Carries, CanCarry, is_overtaken, contended_of, cut_off_of, given_in_of, CanFinish, Finishes, HasKnownValue, IsAnswerFor, IsAnswerOf, stage_step, vote_for, notice_for, working_version};
 ghost use Rattle.gz_round.specs.Following.{Ready, IsReady, Turned, HasTurned};
 
 use crate::choosing::Choice;
@@ -30,9 +30,9 @@ impl Run {
     ) -> Result<Items<Out>, AllocError>
         requires config { IsConfig config.now }
         requires first { first < 2 ^ 31 }
-        requires opens { (w : Caller) × (past : List Tale) × Ready config.now w past self.old [] }
+        requires opens { (w : Caller) × (past : List Trace) × Ready config.now w past self.old [] }
         requires stage { self.old.stage ≡ Stage.Look }
-        ensures { IfOk result (λ send. (w : Caller) (past : List Tale) → Ready config.now w past self.old []
+        ensures { IfOk result (λ send. (w : Caller) (past : List Trace) → Ready config.now w past self.old []
             → Runs config.now w past self.new (sent_from first send [])) }
     {
         let send = self.first_pass(alloc, config, &None, first)?;
@@ -40,17 +40,22 @@ impl Run {
     }
 
     /// All that the call does at an event, once what came was noted.
-    pub fn act(&mut self, alloc: Global, config: &Config, first: u32) -> Result<Turn, AllocError>
+    pub fn take_turn(
+        &mut self,
+        alloc: Global,
+        config: &Config,
+        first: u32,
+    ) -> Result<Turn, AllocError>
         requires config { IsConfig config.now }
         requires first { first < 2 ^ 31 }
         requires round { self.old.round < 2 ^ 31 + first }
         requires ready { IsReady config.now self.old }
-        ensures { IfOk result (λ turn. (w : Caller) (past : List Tale) (ms : List Moment) → Ready config.now w past self.old ms
+        ensures { IfOk result (λ turn. (w : Caller) (past : List Trace) (ms : List Action) → Ready config.now w past self.old ms
             → HasTurned config.now w past self.new (sent_from first turn.send ms) turn.answer) }
     {
         match self.stop(config) {
             Some(answer) => self.close(alloc, config, first, answer),
-            None => self.follow(alloc, config, first),
+            None => self.turn_by_rows(alloc, config, first),
         }
     }
 
@@ -58,7 +63,7 @@ impl Run {
     fn stop(&self, config: &Config) -> Option<Answer>
         requires config { IsConfig config.now }
         requires kept { IsKept config.now self.now }
-        ensures { (w : Caller) (past : List Tale) (ms : List Moment) → Stands config.now w past self.now ms
+        ensures { (w : Caller) (past : List Trace) (ms : List Action) → Stands config.now w past self.now ms
             → MatchOption result (IsGoing config.now ms) (λ answer. HasCause config.now w ms answer × IsPlain answer) }
     {
         if self.met >= config.tries {
@@ -101,19 +106,24 @@ impl Run {
     }
 
     /// What follows from the rows that are known.
-    fn follow(&mut self, alloc: Global, config: &Config, first: u32) -> Result<Turn, AllocError>
+    fn turn_by_rows(
+        &mut self,
+        alloc: Global,
+        config: &Config,
+        first: u32,
+    ) -> Result<Turn, AllocError>
         requires config { IsConfig config.now }
         requires first { first < 2 ^ 31 }
         requires round { self.old.round < 2 ^ 31 + first }
         requires follows { CanFollow config.now self.old }
-        ensures { IfOk result (λ turn. (w : Caller) (past : List Tale) (ms : List Moment) → Ready config.now w past self.old ms → IsGoing config.now ms
+        ensures { IfOk result (λ turn. (w : Caller) (past : List Trace) (ms : List Action) → Ready config.now w past self.old ms → IsGoing config.now ms
             → HasTurned config.now w past self.new (sent_from first turn.send ms) turn.answer) }
     {
         match self.next(config) {
-            Next::Wait => self.go_on(alloc, config, first),
+            Next::Wait => self.propose_or_step(alloc, config, first),
             Next::Vote { version } => {
                 self.stage = Stage::Fast { version };
-                self.go_on(alloc, config, first)
+                self.propose_or_step(alloc, config, first)
             },
             Next::Chosen { version } => self.finish(alloc, config, first, version),
             Next::Learnt { version, site } => {
@@ -125,19 +135,24 @@ impl Run {
     }
 
     /// The phase goes on; once a quorum promises the call's ballot, the next one votes in it, or every site goes out.
-    fn go_on(&mut self, alloc: Global, config: &Config, first: u32) -> Result<Turn, AllocError>
+    fn propose_or_step(
+        &mut self,
+        alloc: Global,
+        config: &Config,
+        first: u32,
+    ) -> Result<Turn, AllocError>
         requires config { IsConfig config.now }
         requires first { first < 2 ^ 31 }
         requires round { self.old.round < 2 ^ 31 + first }
         requires acts { CanAct config.now self.old }
-        ensures { IfOk result (λ turn. (w : Caller) (past : List Tale) (ms : List Moment) → Acts config.now w past self.old ms
+        ensures { IfOk result (λ turn. (w : Caller) (past : List Trace) (ms : List Action) → IsGoalUnmet config.now w past self.old ms
             → HasTurned config.now w past self.new (sent_from first turn.send ms) turn.answer) }
     {
         match self.choose(alloc, config)? {
-            Choice::Wait => self.carry_on(alloc, config, first),
+            Choice::Wait => self.step_or_prepare(alloc, config, first),
             Choice::Accept { stage } => {
                 self.stage = stage;
-                self.carry_on(alloc, config, first)
+                self.step_or_prepare(alloc, config, first)
             },
             Choice::GiveIn => Ok(self.give_in(alloc)),
         }
@@ -155,12 +170,17 @@ impl Run {
     }
 
     /// The step of the phase is made at each site that takes it. A ballot that leads no further gives way to another.
-    fn carry_on(&mut self, alloc: Global, config: &Config, first: u32) -> Result<Turn, AllocError>
+    fn step_or_prepare(
+        &mut self,
+        alloc: Global,
+        config: &Config,
+        first: u32,
+    ) -> Result<Turn, AllocError>
         requires config { IsConfig config.now }
         requires first { first < 2 ^ 31 }
         requires round { self.old.round < 2 ^ 31 + first }
         requires carries { CanCarry config.now self.old }
-        ensures { IfOk result (λ turn. (w : Caller) (past : List Tale) (ms : List Moment) → Carries config.now w past self.old ms
+        ensures { IfOk result (λ turn. (w : Caller) (past : List Trace) (ms : List Action) → Carries config.now w past self.old ms
             → HasTurned config.now w past self.new (sent_from first turn.send ms) turn.answer) }
     {
         if self.is_overtaken() {
@@ -242,7 +262,7 @@ impl Run {
         requires config { IsConfig config.now }
         requires first { first < 2 ^ 31 }
         requires kept { IsKept config.now self.old }
-        ensures { IfOk result (λ turn. (w : Caller) (past : List Tale) (ms : List Moment) → Stands config.now w past self.old ms
+        ensures { IfOk result (λ turn. (w : Caller) (past : List Trace) (ms : List Action) → Stands config.now w past self.old ms
             → HasCause config.now w ms answer × IsPlain answer → Turned config.now w past self.new (sent_from first turn.send ms) turn.answer) }
     {
         let send = self.first_pass(alloc, config, &None, first)?;
@@ -252,7 +272,7 @@ impl Run {
         })
     }
 
-    /// Ends a call whose value is chosen: every site that can take it is told by a notice.
+    /// Ends a call whose value is chosen: every site that can take it gets a notice.
     fn finish(
         &mut self,
         alloc: Global,
@@ -263,7 +283,7 @@ impl Run {
         requires config { IsConfig config.now }
         requires first { first < 2 ^ 31 }
         requires finishes { CanFinish config.now self.old version }
-        ensures { IfOk result (λ turn. (w : Caller) (past : List Tale) (ms : List Moment) → Finishes config.now w past self.old ms version
+        ensures { IfOk result (λ turn. (w : Caller) (past : List Trace) (ms : List Action) → Finishes config.now w past self.old ms version
             → Turned config.now w past self.new (sent_from first turn.send ms) turn.answer) }
     {
         let step = self.notice(version)?;
@@ -277,7 +297,7 @@ impl Run {
     /// The answer of a call that has learnt the value of a version, which the row of this site has.
     fn told(&self, version: Version, site: SiteId) -> Result<Answer, AllocError>
         requires site { site < length self.now.rows }
-        requires known { HasValue self.now site version }
+        requires known { HasKnownValue self.now site version }
         ensures { IfOk result (λ answer. (row : RowAt) → slice_get self.now.rows site ≡ Some (Some row) → IsAnswerOf row version answer) }
     {
         match self.rows.at(site.index()) {

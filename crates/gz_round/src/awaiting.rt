@@ -1,10 +1,10 @@
 //! Which requests a call awaits.
 ghost use Rattle.std.specs.Prelude.{◌≡◌, ℕ, List, Some, count_by, MatchOption};
 ghost use Rattle.gz_config.specs.declared.Config.{Config};
-ghost use Rattle.gz_round.specs.History.{Moment};
+ghost use Rattle.gz_round.specs.History.{Action};
 ghost use Rattle.gz_round.specs.Standing.{Knows, AreSound};
 ghost use Rattle.gz_round.specs.Numbering.{AreNumbered, IsLiveAt};
-ghost use Rattle.gz_round.specs.Awaiting.{has_number, IsSiteOf, is_live, number_of, lower_of, IsLeastFrom};
+ghost use Rattle.gz_round.specs.Awaiting.{has_number, IsSiteOf, is_mark_live, number_of, lower_of, IsLeastFrom};
 
 use crate::run::{Mark, Run};
 
@@ -24,14 +24,14 @@ impl Run {
 impl Run {
     /// How many requests are awaited.
     pub fn live_count(&self) -> usize
-        ensures { result ≡ count_by is_live self.now.marks }
+        ensures { result ≡ count_by is_mark_live self.now.marks }
     {
         count_live(self.marks.as_slice())
     }
 
     /// The `i`-th lowest number of the requests that are awaited, counted from 0. Takes no memory.
     pub fn live_at(&self, i: u32) -> Option<u32>
-        ensures { (c : Config) (ms : List Moment) (next : ℕ) → Knows c self.now ms → AreSound ms → AreNumbered c ms next → IsLiveAt c ms i result }
+        ensures { (c : Config) (ms : List Action) (next : ℕ) → Knows c self.now ms → AreSound ms → AreNumbered c ms next → IsLiveAt c ms i result }
     {
         let mut low: u64 = 0;
         for place in 0..i {
@@ -46,7 +46,7 @@ impl Run {
 }
 
 fn count_live(marks: &[Mark]) -> usize
-    ensures { result ≡ count_by is_live marks.now }
+    ensures { result ≡ count_by is_mark_live marks.now }
 {
     let mut count = 0;
     for mark in marks {

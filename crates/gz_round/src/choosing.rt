@@ -7,13 +7,13 @@ ghost use Rattle.gz_core.specs.Names.{BallotAt};
 ghost use Rattle.gz_core.specs.declared.slots.Slot.TheVariants.{OpenAt};
 ghost use Rattle.gz_core.specs.Configurations.{IsConfig};
 ghost use Rattle.gz_config.specs.declared.Config.{Config};
-ghost use Rattle.gz_pick.specs.Choices.{AreSites};
+ghost use Rattle.gz_pick.specs.Choices.{AreHeardSites};
 ghost use Rattle.gz_pick.specs.Evidences.{is_in};
-ghost use Rattle.gz_round.specs.History.{Moment, Caller, Tale};
+ghost use Rattle.gz_round.specs.History.{Action, Caller, Trace};
 ghost use Rattle.gz_round.specs.Causes.{row_value};
-ghost use Rattle.gz_round.specs.Acting.{Acts, CanAct, ChoiceMeans, choice_of};
+ghost use Rattle.gz_round.specs.Acting.{IsGoalUnmet, CanAct, ChoiceMeans, choice_of};
 ghost use Rattle.gz_round.specs.LookBack.{or_next};
-ghost use Rattle.gz_round.specs.Choosing.{promised_vote, heard_vote, IsHeardIn, AreHeardIn, IsProposed};
+ghost use Rattle.gz_round.specs.Choosing.{promised_vote, heard_vote, IsHeardIn, AreHeardIn, IsProposal};
 
 use crate::acting::value_at;
 use crate::run::{Run, Stage, copy_if_some, copy_of};
@@ -55,7 +55,7 @@ impl Run {
     pub fn choose(&self, alloc: Global, config: &Config) -> Result<Choice, AllocError>
         requires config { IsConfig config.now }
         requires acts { CanAct config.now self.now }
-        ensures { IfOk result (λ choice. (w : Caller) (past : List Tale) (ms : List Moment) → Acts config.now w past self.now ms
+        ensures { IfOk result (λ choice. (w : Caller) (past : List Trace) (ms : List Action) → IsGoalUnmet config.now w past self.now ms
             → ChoiceMeans config.now w past self.now ms choice) }
     {
         match &self.stage {
@@ -80,7 +80,7 @@ impl Run {
         requires config { IsConfig config.now }
         requires acts { CanAct config.now self.now }
         requires stage { self.now.stage ≡ Stage.Prepare version ballot found.now }
-        ensures { IfOk result (λ choice. (w : Caller) (past : List Tale) (ms : List Moment) → Acts config.now w past self.now ms
+        ensures { IfOk result (λ choice. (w : Caller) (past : List Trace) (ms : List Action) → IsGoalUnmet config.now w past self.now ms
             → ChoiceMeans config.now w past self.now ms choice) }
     {
         if self.round < ballot.round {
@@ -104,10 +104,10 @@ impl Run {
         heard: &Items<Heard>,
     ) -> Result<Option<Value>, AllocError>
         requires config { IsConfig config.now }
-        requires sites { AreSites config.now.n heard.now }
+        requires sites { AreHeardSites config.now.n heard.now }
         requires quorum { config.now.qc ≤ length heard.now }
         requires heard { (ballot : BallotAt) × All (IsHeardIn self.now.rows version ballot) heard.now }
-        ensures { IfOk result (λ value. IsProposed config.now self.now version found.now heard.now value) }
+        ensures { IfOk result (λ value. IsProposal config.now self.now version found.now heard.now value) }
     {
         match pick(config, heard.as_slice()) {
             Pick::Free => self.free_value(found),

@@ -3,8 +3,8 @@ ghost use Rattle.std.specs.Prelude.{◌≡◌, ◌≤◌, ◌<◌, ◌+◌, ◌^
 ghost use Rattle.gz_core.specs.Rows.{RowAt};
 ghost use Rattle.gz_pick.specs.Looks.{row_name};
 ghost use Rattle.gz_core.specs.Configurations.{IsConfig};
-ghost use Rattle.gz_round.specs.History.{Moment, Caller, Tale};
-ghost use Rattle.gz_round.specs.Following.{IsReady, Ready, NextMeans, MayPass, IsFirst, IsStageAt};
+ghost use Rattle.gz_round.specs.History.{Action, Caller, Trace};
+ghost use Rattle.gz_round.specs.Following.{IsReady, Ready, NextMeans, MayPass, IsUnwritten, IsStageAt};
 ghost use Rattle.gz_config.specs.declared.Config.{Config};
 ghost use Rattle.gz_round.specs.Evidence.{NoneEvident, EvidentAt};
 ghost use Rattle.gz_round.specs.Standing.{Stands, IsKept};
@@ -33,7 +33,7 @@ impl Run {
     pub fn next(&self, config: &Config) -> Next
         requires config { IsConfig config.now }
         requires ready { IsReady config.now self.now }
-        ensures { (w : Caller) (past : List Tale) (ms : List Moment) → Ready config.now w past self.now ms → NextMeans config.now w self.now ms result }
+        ensures { (w : Caller) (past : List Trace) (ms : List Action) → Ready config.now w past self.now ms → NextMeans config.now w self.now ms result }
     {
         match &self.stage {
             Stage::Look => self.after_look(config),
@@ -48,7 +48,7 @@ impl Run {
         requires config { IsConfig config.now }
         requires ready { IsReady config.now self.now }
         requires stage { self.now.stage ≡ Stage.Look }
-        ensures { (w : Caller) (past : List Tale) (ms : List Moment) → Ready config.now w past self.now ms → NextMeans config.now w self.now ms result }
+        ensures { (w : Caller) (past : List Trace) (ms : List Action) → Ready config.now w past self.now ms → NextMeans config.now w self.now ms result }
     {
         if self.known() < config.qc as usize {
             return Next::Wait;
@@ -65,7 +65,7 @@ impl Run {
 
     /// An object that was never written is voted for at its first version, or is absent.
     fn begin_first(&self) -> Next
-        ensures { (c : Config) (w : Caller) (past : List Tale) (ms : List Moment) → Stands c w past self.now ms → IsFirst c w ms → NextMeans c w self.now ms result }
+        ensures { (c : Config) (w : Caller) (past : List Trace) (ms : List Action) → Stands c w past self.now ms → IsUnwritten c w ms → NextMeans c w self.now ms result }
     {
         if self.own.is_some() {
             Next::Vote {
@@ -81,11 +81,11 @@ impl Run {
         requires config { IsConfig config.now }
         requires kept { IsKept config.now self.now }
         requires evident { EvidentAt config.now self.now.rows version site }
-        ensures { (w : Caller) (past : List Tale) (ms : List Moment) → Stands config.now w past self.now ms → MayPass config.now w ms version
+        ensures { (w : Caller) (past : List Trace) (ms : List Action) → Stands config.now w past self.now ms → MayPass config.now w ms version
             → NextMeans config.now w self.now ms result }
     {
         if self.own.is_some() {
-            self.pass(config, version, site)
+            self.after_chosen(config, version, site)
         } else {
             Next::Learnt { version, site }
         }
@@ -96,7 +96,7 @@ impl Run {
         requires config { IsConfig config.now }
         requires ready { IsReady config.now self.now }
         requires stage { IsStageAt self.now.stage version }
-        ensures { (w : Caller) (past : List Tale) (ms : List Moment) → Ready config.now w past self.now ms → NextMeans config.now w self.now ms result }
+        ensures { (w : Caller) (past : List Trace) (ms : List Action) → Ready config.now w past self.now ms → NextMeans config.now w self.now ms result }
     {
         match evident(config, self.rows.as_slice(), version) {
             None => Next::Wait,
@@ -105,12 +105,12 @@ impl Run {
     }
 
     /// A value is chosen at the version: the call's own one, or another, and then the next version is tried.
-    fn pass(&self, config: &Config, version: Version, site: SiteId) -> Next
+    fn after_chosen(&self, config: &Config, version: Version, site: SiteId) -> Next
         requires config { IsConfig config.now }
         requires kept { IsKept config.now self.now }
         requires evident { EvidentAt config.now self.now.rows version site }
         requires own { IsSome self.now.own }
-        ensures { (w : Caller) (past : List Tale) (ms : List Moment) → Stands config.now w past self.now ms → MayPass config.now w ms version
+        ensures { (w : Caller) (past : List Trace) (ms : List Action) → Stands config.now w past self.now ms → MayPass config.now w ms version
             → NextMeans config.now w self.now ms result }
     {
         if self.is_own(site, version) {
@@ -119,7 +119,7 @@ impl Run {
         let next = version.next();
         match evident(config, self.rows.as_slice(), next) {
             None => Next::Vote { version: next },
-            Some(site) => self.pass(config, next, site),
+            Some(site) => self.after_chosen(config, next, site),
         }
     }
 

@@ -1,4 +1,4 @@
-//! What a reply tells of a site.
+//! What a reply shows of a site.
 ghost use Rattle.std.specs.Prelude.{◌≡◌, ◌<◌, ◌+◌, ◌^◌, length, slice_get, Option, Some, IfOk};
 ghost use Rattle.gz_core.specs.Rows.{RowAt};
 ghost use Rattle.std.specs.List.{list_all};

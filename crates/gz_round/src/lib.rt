@@ -1,4 +1,4 @@
-//! One phase of a call: what it asks of the sites, what it is told, and when it reaches its goal.
+//! One phase of a call: what it asks of the sites, what it learns, and when it reaches its goal.
 #![tactic(auto)]
 
 mod acting;

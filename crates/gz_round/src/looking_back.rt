@@ -6,7 +6,7 @@ ghost use Rattle.gz_core.specs.Calls.{own_value};
 ghost use Rattle.gz_core.specs.Configurations.{IsConfig};
 ghost use Rattle.gz_core.specs.declared.values.Value.{Value};
 ghost use Rattle.gz_round.specs.declared.run.Mark.{Mark};
-ghost use Rattle.gz_round.specs.History.{Moment, Caller, Tale};
+ghost use Rattle.gz_round.specs.History.{Action, Caller, Trace};
 ghost use Rattle.gz_round.specs.LookBack.{column_cast, row_cast, or_next, lowest, lowest_vote};
 ghost use Rattle.gz_round.specs.Choosing.{AreLastVotes};
 ghost use Rattle.gz_round.specs.Standing.{Stands};
@@ -23,7 +23,7 @@ impl Run {
         requires config { IsConfig config.now }
         requires rows { length self.now.rows ≡ config.now.n }
         requires marks { length self.now.marks ≡ config.now.n }
-        ensures { IfOk result (λ found. (w : Caller) (past : List Tale) (ms : List Moment) → Stands config.now w past self.now ms
+        ensures { IfOk result (λ found. (w : Caller) (past : List Trace) (ms : List Action) → Stands config.now w past self.now ms
             → own_value w.name w.call ≡ None → found ≡ lowest_vote config.now.n version ms) }
     {
         if self.own.is_some() {

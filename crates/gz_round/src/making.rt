@@ -60,7 +60,7 @@ fn answer_of(row: &Row, step: &RowStep) -> Step
     }
 }
 
-/// Makes a step on a row, and tells what it answers.
+/// Makes a step on a row, and returns what it answers.
 fn make(row: &mut Row, step: &RowStep) -> Result<Step, AllocError>
     requires { IsStep step.now }
     ensures answer { IfOk result (λ answer. answer ≡ answer_of step.now row.old) }

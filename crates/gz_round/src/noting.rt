@@ -2,7 +2,7 @@
 ghost use Rattle.std.specs.Prelude.{◌≡◌, ◌≤◌, ◌<◌, ◌+◌, ◌^◌, List, length, slice_get, ◌∷◌, Option, Some, None, IfOk, OnOk};
 ghost use Rattle.gz_core.specs.Rows.{RowAt};
 ghost use Rattle.gz_config.specs.declared.Config.{Config};
-ghost use Rattle.gz_round.specs.History.{Asked, Moment, Handed, GaveUp, Caller, Tale};
+ghost use Rattle.gz_round.specs.History.{Asked, Action, Handed, GaveUp, Caller, Trace};
 ghost use Rattle.gz_round.specs.Sites.{is_changed, site_now, seen_in};
 ghost use Rattle.gz_round.specs.Noting.{noted_by, written_at, IsReplyNoted};
 ghost use Rattle.gz_round.specs.Following.{Ready};
@@ -20,7 +20,7 @@ impl Run {
         requires marks { at < length self.old.marks }
         requires met { self.old.met + 1 < 2 ^ 32 }
         ensures noted { OnOk result (IsReplyNoted self.old at answer.now self.new) }
-        ensures ready { OnOk result ((c : Config) (w : Caller) (past : List Tale) (ms : List Moment) (a : Asked) → at < c.n
+        ensures ready { OnOk result ((c : Config) (w : Caller) (past : List Trace) (ms : List Action) (a : Asked) → at < c.n
             → (site_now ms at).awaits ≡ Some a → Ready c w past self.old ms → Ready c w past self.new (Handed a answer.now ∷ ms)) }
     {
         let seen = self.shown_at(alloc, at, answer)?;
@@ -32,7 +32,7 @@ impl Run {
     pub fn note_give_up(&mut self, at: usize)
         requires rows { at < length self.old.rows }
         requires marks { at < length self.old.marks }
-        ensures { (c : Config) (w : Caller) (past : List Tale) (ms : List Moment) (a : Asked) → at < c.n
+        ensures { (c : Config) (w : Caller) (past : List Trace) (ms : List Action) (a : Asked) → at < c.n
             → (site_now ms at).awaits ≡ Some a → Ready c w past self.old ms → Ready c w past self.new (GaveUp a ∷ ms) }
     {
         self.leave(at);
@@ -78,7 +78,7 @@ impl Run {
     }
 }
 
-/// Whether a reply tells that a write was overtaken.
+/// Whether a reply shows that a write was overtaken.
 fn is_changed(answer: &Reply) -> bool
     ensures { result ≡ is_changed answer.now }
 {

@@ -1,7 +1,7 @@
 //! One pass over the sites: each is asked for all that it may be asked for.
 ghost use Rattle.std.specs.Prelude.{◌≡◌, ◌≤◌, ◌<◌, ◌+◌, ◌^◌, ℕ, List, [], length, IfOk, OnOk};
 ghost use Rattle.gz_core.specs.Configurations.{IsConfig};
-ghost use Rattle.gz_round.specs.History.{Moment, Caller, Tale, sent_from};
+ghost use Rattle.gz_round.specs.History.{Action, Caller, Trace, sent_from};
 ghost use Rattle.gz_round.specs.Steps.{IsStepOf};
 ghost use Rattle.gz_round.specs.Asking.{IsAskedAt, IsLeftBy};
 ghost use Rattle.gz_round.specs.Following.{Asks, AreServed, CanAsk};
@@ -51,7 +51,7 @@ impl Run {
         requires few { length send.old < 2 ^ 19 }
         requires asks { CanAsk config.now self.old first send.old step.now }
 
-        ensures asked { OnOk result ((w : Caller) (past : List Tale) (ms : List Moment)
+        ensures asked { OnOk result ((w : Caller) (past : List Trace) (ms : List Action)
             → Asks config.now w past self.old (sent_from first send.old ms) step.now
             → Asks config.now w past self.new (sent_from first send.new ms) step.now × AreServed config.now w (sent_from first send.new ms) step.now) }
         ensures left { OnOk result (IsLeftBy self.old self.new step.now) }
@@ -76,7 +76,7 @@ impl Run {
         requires first { first < 2 ^ 31 }
         requires asks { CanAsk config.now self.old first [] step.now }
 
-        ensures asked { IfOk result (λ send. (w : Caller) (past : List Tale) (ms : List Moment) → Asks config.now w past self.old ms step.now
+        ensures asked { IfOk result (λ send. (w : Caller) (past : List Trace) (ms : List Action) → Asks config.now w past self.old ms step.now
             → Asks config.now w past self.new (sent_from first send ms) step.now × AreServed config.now w (sent_from first send ms) step.now) }
         ensures left { OnOk result (IsLeftBy self.old self.new step.now) }
         ensures few { IfOk result (λ send. length send ≤ config.now.n) }

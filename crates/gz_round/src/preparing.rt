@@ -1,9 +1,9 @@
 //! How a call goes on by a classic ballot, where a phase ended without its goal. (Lamport 2006, "Fast Paxos", section 2.2.)
 ghost use Rattle.std.specs.Prelude.{◌≡◌, ◌≤◌, ◌<◌, ◌+◌, ◌^◌, List, [], length, None, IfOk};
 ghost use Rattle.gz_core.specs.Configurations.{IsConfig};
-ghost use Rattle.gz_round.specs.History.{Moment, Caller, Tale, sent_from};
+ghost use Rattle.gz_round.specs.History.{Action, Caller, Trace, sent_from};
 ghost use Rattle.gz_round.specs.Following.{HasTurned};
-ghost use Rattle.gz_round.specs.Acting.{Steps, CanStep, RunsOut, CanRunOut, Prepares, CanPrepare, IsBallotAbove, given_in_of, ended_of, prepared_of, is_overtaken};
+ghost use Rattle.gz_round.specs.Acting.{TakesStep, CanStep, RunsOut, CanRunOut, Prepares, CanPrepare, IsBallotAbove, given_in_of, ended_of, prepared_of, is_overtaken};
 
 use crate::run::{Run, Stage};
 use gz_core::{Answer, Ballot, Config, Items, Out, RowStep, Turn, UnsureWhy, Version};
@@ -22,7 +22,7 @@ impl Run {
         requires first { first < 2 ^ 31 }
         requires round { self.old.round < 2 ^ 31 + first }
         requires steps { CanStep config.now self.old }
-        ensures { IfOk result (λ turn. (w : Caller) (past : List Tale) (ms : List Moment) → Steps config.now w past self.old ms
+        ensures { IfOk result (λ turn. (w : Caller) (past : List Trace) (ms : List Action) → TakesStep config.now w past self.old ms
             → HasTurned config.now w past self.new (sent_from first turn.send ms) turn.answer) }
     {
         let step = self.step()?;
@@ -41,7 +41,7 @@ impl Run {
         requires round { self.old.round < 2 ^ 31 + first }
         requires few { length send ≤ 16 }
         requires runs_out { CanRunOut config.now self.old first send }
-        ensures { IfOk result (λ turn. (w : Caller) (past : List Tale) (ms : List Moment) → RunsOut config.now w past self.old (sent_from first send ms)
+        ensures { IfOk result (λ turn. (w : Caller) (past : List Trace) (ms : List Action) → RunsOut config.now w past self.old (sent_from first send ms)
             → HasTurned config.now w past self.new (sent_from first turn.send ms) turn.answer) }
     {
         match self.ended() {
@@ -96,7 +96,7 @@ impl Run {
         requires round { self.old.round < 2 ^ 31 + first }
         requires few { length send ≤ 16 }
         requires prepares { CanPrepare config.now self.old first send version }
-        ensures { IfOk result (λ turn. (w : Caller) (past : List Tale) (ms : List Moment) → Prepares config.now w past self.old (sent_from first send ms) version
+        ensures { IfOk result (λ turn. (w : Caller) (past : List Trace) (ms : List Action) → Prepares config.now w past self.old (sent_from first send ms) version
             → HasTurned config.now w past self.new (sent_from first turn.send ms) turn.answer) }
     {
         let ballot = self.next_ballot(version);
@@ -117,7 +117,7 @@ impl Run {
         requires few { length send ≤ 16 }
         requires prepares { CanPrepare config.now self.old first send version }
         requires ballot { IsBallotAbove self.old version ballot }
-        ensures { IfOk result (λ turn. (w : Caller) (past : List Tale) (ms : List Moment) → Prepares config.now w past self.old (sent_from first send ms) version
+        ensures { IfOk result (λ turn. (w : Caller) (past : List Trace) (ms : List Action) → Prepares config.now w past self.old (sent_from first send ms) version
             → HasTurned config.now w past self.new (sent_from first turn.send ms) turn.answer) }
     {
         let found = self.look_back(config, version)?;

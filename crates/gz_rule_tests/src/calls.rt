@@ -1,4 +1,4 @@
-//! What calls, values and words tell.
+//! What calls, values and words show.
 use crate::samples::{ONE, TWO, key_of, tomb};
 use gz_core::{Call, Items, PutName, PutValue, Value, Word};
 use std::alloc::Global;

@@ -23,7 +23,7 @@ const PROMISED: Made = Some((Act::PromiseHigh, Of::One));
 /// The place of the site that shows the first version's value to be chosen, and the greatest version shown.
 type Told = (Option<usize>, u64);
 
-/// The rows of five sites, and what they tell.
+/// The rows of five sites, and what they show.
 const SHOWN: &[(&[Made], Told)] = &[
     (&[FAST, DECIDED, DECIDED, None, LOW], (Some(1), 1)),
     (&[FAST_OF_OTHER, FAST, FAST, FAST, FAST], (Some(1), 1)),
@@ -51,7 +51,7 @@ fn rows_of(alloc: Global, made: &[Made]) -> Option<Vec<Option<Row>>> {
     Some(rows)
 }
 
-/// What five rows tell.
+/// What five rows show.
 fn told(alloc: Global, made: &[Made]) -> Option<Told> {
     let rows = rows_of(alloc, made)?;
     let rows = rows.as_slice();

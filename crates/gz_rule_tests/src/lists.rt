@@ -2,7 +2,7 @@
 use gz_core::Items;
 use std::alloc::{AllocError, Global};
 
-/// Each change leaves its own mark: 9 is pushed, 8 inserted, 7 set, 6 put in place of an element, which is told, and
+/// Each change leaves its own mark: 9 is pushed, 8 inserted, 7 set, 6 put in place of an element, which is returned, and
 /// no 3 kept.
 fn change(items: &mut Items<u8>) -> Result<Option<u8>, AllocError> {
     items.push(9)?;

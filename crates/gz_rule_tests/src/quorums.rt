@@ -53,7 +53,7 @@ const CHOSEN: &[(&[Vote], Option<u32>)] = &[
     // two puts have votes at the version, and neither has a quorum
     (&[(0, 1, 1, 2), (2, 1, 1, 1)], None),
     (&[(0, 1, 0, 1), (1, 1, 0, 1), (2, 1, 0, 2)], None),
-    // of two puts the one with the lower name is told
+    // of two puts the one with the lower name is answered
     (
         &[(0, 1, 1, 2), (1, 1, 1, 2), (0, 1, 2, 1), (1, 1, 2, 1)],
         Some(1),

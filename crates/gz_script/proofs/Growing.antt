@@ -6,7 +6,7 @@ use Rattle.gz_site.specs.Told.{Told}
 use Rattle.gz_world.specs.Bridge.{state_of}
 use Rattle.gz_world.specs.Fits.{IsFitting}
 use Rattle.gz_world.specs.States.{State, RequestAt, request_of, numbered}
-use Rattle.gz_world.specs.Steps.{Does, Skips, Step}
+use Rattle.gz_world.specs.Steps.{Does, Skips, WorldStep}
 use Rattle.gz_world.specs.Refusals.{refusal_of}
 use Rattle.std.proofs.lemmas.Bool.Decides.{eqb_tells}
 use Rattle.gz_world.proofs.Members.{numbered_place}
@@ -95,7 +95,7 @@ acts_keep : (old : State) (event : Event) (effect : Effect) (new : State) (why :
 acts_keep old event effect new None h = does_keep old event effect new h
 acts_keep old event effect new (Some skip) h = kept_same old.net new.net h.same.net
 
-step_keeps : (old : State) (event : Event) (new : State) → Step old event new → AreKept old.net new.net
+step_keeps : (old : State) (event : Event) (new : State) → WorldStep old event new → AreKept old.net new.net
 step_keeps old event new h =
     kept_then old.net h.1.0.net new.net (acts_keep old event h.0 h.1.0 (refusal_of old event) h.1.1.1.0) (kept_same h.1.0.net new.net h.1.1.1.1.net)
 

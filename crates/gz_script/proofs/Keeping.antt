@@ -1,7 +1,7 @@
 -- What each event keeps, the lines of a schedule keep.
 use Rattle.std.proofs.Common.{ℕ, zero, suc, List, [], ◌∷◌, take, subst}
 use Rattle.gz_world.specs.States.{State}
-use Rattle.gz_world.specs.Steps.{Step}
+use Rattle.gz_world.specs.Steps.{WorldStep}
 use Rattle.gz_world.specs.declared.events.ApplyError.{ApplyError}
 use Rattle.gz_world.specs.declared.events.Event.{Event}
 use Rattle.gz_world.specs.declared.events.Event.TheVariants as events
@@ -11,7 +11,7 @@ use Rattle.gz_script.specs.Plays.{Happen, HappenInPart, taken, settled, SettlesT
 
 -- each event keeps it
 abbrev pub IsKept : (State → Type 0) → Type 0
-IsKept P = (old new : State) (event : Event) → Step old event new → P old → P new
+IsKept P = (old new : State) (event : Event) → WorldStep old event new → P old → P new
 
 happen : (P : State → Type 0) → IsKept P → (es : List Event) (old new : State) → Happen es old new → P old → P new
 happen P kept [] old new h p = subst P h p

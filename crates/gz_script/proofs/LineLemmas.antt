@@ -3,7 +3,7 @@ use Rattle.std.proofs.Common.{ℕ, ◌≡◌, ◌+◌, ◌≤◌, ◌<◌, List,
 use Rattle.std.specs.Prelude.{suc, Option, Some, None, Result, OnOk, IfErr, slice_get, option_map}
 use Rattle.std.proofs.lemmas.List.{take_more, take_all, take-map, map-append, length-map}
 use Rattle.std.proofs.lemmas.Option.{slice_get-get_or, slice_get-map}
-use Rattle.gz_round.specs.History.{Tale}
+use Rattle.gz_round.specs.History.{Trace}
 use Rattle.gz_client.specs.Lowest.{IsLowestLive}
 use Rattle.gz_site.specs.Told.{Told}
 use Rattle.gz_world.specs.Bridge.{state_of}
@@ -19,37 +19,37 @@ use Rattle.gz_script.proofs.PlayLemmas.{changes_as, changes_then, happen_as, hap
 
 -- one more request was settled
 pub settle_more : {S : Type 0} (told : S → Option Told) (old mid new : World S) (session : ℕ) (without : List ℕ) (k n : ℕ)
-    → ((tales : ℕ → List Tale) → Fits tales mid → IsLowestLive mid.cfg (tales session) (Some n))
+    → ((traces : ℕ → List Trace) → Fits traces mid → IsLowestLive mid.cfg (traces session) (Some n))
     → ChangesBy told (SettlesTimes session without k) old mid → ChangesBy told (λ s. Happen (settled without n s) s) mid new
     → ChangesBy told (SettlesTimes session without (k + 1)) old new
-settle_more told old mid new session without k n low a b = λ tales fits.
-    let p = a tales fits in
+settle_more told old mid new session without k n low a b = λ traces fits.
+    let p = a traces fits in
     let q = b p.0 p.1.0 in
-    let more : SettlesTimes session without (suc k) (state_of told tales old) (state_of told q.0 new) = (state_of told p.0 mid, (p.1.1, (n, (low p.0 p.1.0, q.1.1)))) in
-    (q.0, (q.1.0, subst (λ m. SettlesTimes session without m (state_of told tales old) (state_of told q.0 new)) (sym (add-one k)) more))
+    let more : SettlesTimes session without (suc k) (state_of told traces old) (state_of told q.0 new) = (state_of told p.0 mid, (p.1.1, (n, (low p.0 p.1.0, q.1.1)))) in
+    (q.0, (q.1.0, subst (λ m. SettlesTimes session without m (state_of told traces old) (state_of told q.0 new)) (sym (add-one k)) more))
 
 -- none is left
 pub settle_ends : {S : Type 0} (told : S → Option Told) (old new : World S) (session : ℕ) (without : List ℕ) (k : ℕ) → k ≤ 65536
-    → ((tales : ℕ → List Tale) → Fits tales new → IsLowestLive new.cfg (tales session) None)
+    → ((traces : ℕ → List Trace) → Fits traces new → IsLowestLive new.cfg (traces session) None)
     → ChangesBy told (SettlesTimes session without k) old new → ChangesBy told (Settles session without) old new
-settle_ends told old new session without k few none a = λ tales fits.
-    let p = a tales fits in
+settle_ends told old new session without k few none a = λ traces fits.
+    let p = a traces fits in
     (p.0, (p.1.0, (k, (few, (p.1.1, inl (none p.0 p.1.0))))))
 
 -- it was done as often as may be
 pub settle_tires : {S : Type 0} (told : S → Option Told) (old new : World S) (session : ℕ) (without : List ℕ) (k : ℕ) → k ≡ 65536
     → ChangesBy told (SettlesTimes session without k) old new → ChangesBy told (Settles session without) old new
-settle_tires told old new session without k often a = λ tales fits.
-    let p = a tales fits in
+settle_tires told old new session without k often a = λ traces fits.
+    let p = a traces fits in
     (p.0, (p.1.0, (k, (omega (arith, often), (p.1.1, inr often)))))
 
 -- it was broken off at some request
 pub settle_stops : {S : Type 0} (told : S → Option Told) (error : ApplyError) (old mid new : World S) (session : ℕ) (without : List ℕ) (k n : ℕ) → k < 65536
-    → ((tales : ℕ → List Tale) → Fits tales mid → IsLowestLive mid.cfg (tales session) (Some n))
+    → ((traces : ℕ → List Trace) → Fits traces mid → IsLowestLive mid.cfg (traces session) (Some n))
     → ChangesBy told (SettlesTimes session without k) old mid → ChangesBy told (λ s. HappenInPart error (settled without n s) s) mid new
     → ChangesBy told (SettlesInPart error session without) old new
-settle_stops told error old mid new session without k n few low a b = λ tales fits.
-    let p = a tales fits in
+settle_stops told error old mid new session without k n few low a b = λ traces fits.
+    let p = a traces fits in
     let q = b p.0 p.1.0 in
     (q.0, (q.1.0, (k, (few, (state_of told p.0 mid, (p.1.1, (n, (low p.0 p.1.0, q.1.1))))))))
 
@@ -67,8 +67,8 @@ pub drain_more : {S : Type 0} (told : S → Option Told) (old mid new : World S)
     → ChangesBy told (Happen (take (i + 1) (map (λ n. events.Deliver n) ns))) old new
 drain_more told old mid new ns i h =
     changes_then told (Happen (take i (map (λ n. events.Deliver n) ns))) (Happen (events.Deliver (get_or ns i 0) ∷ [])) (Happen (take (i + 1) (map (λ n. events.Deliver n) ns))) old mid new
-    (λ tales after z a b. subst (λ (es : List Event). Happen es (state_of told tales old) z) (deliveries-more ns i h)
-    (happen_then (take i (map (λ n. events.Deliver n) ns)) (events.Deliver (get_or ns i 0) ∷ []) (state_of told tales old) (state_of told after mid) z a b))
+    (λ traces after z a b. subst (λ (es : List Event). Happen es (state_of told traces old) z) (deliveries-more ns i h)
+    (happen_then (take i (map (λ n. events.Deliver n) ns)) (events.Deliver (get_or ns i 0) ∷ []) (state_of told traces old) (state_of told after mid) z a b))
 
 -- all of them
 pub drain_ends : {S : Type 0} (told : S → Option Told) (old new : World S) (ns : List ℕ) (i : ℕ) → length ns ≤ i
@@ -82,19 +82,19 @@ pub drain_stops : {S : Type 0} (told : S → Option Told) (error : ApplyError) (
 drain_stops told error old mid new ns i within =
     let deliver : ℕ → Event = λ n. events.Deliver n in
     part_stops told (λ s. map deliver ns) error (deliver (get_or ns i 0)) i old mid new
-    (λ tales. slice_get-map deliver ns i ∙ ap (λ o. option_map deliver o) (slice_get-get_or ns i 0 within))
+    (λ traces. slice_get-map deliver ns i ∙ ap (λ o. option_map deliver o) (slice_get-get_or ns i 0 within))
 
 -- the deliveries of a line that drains a session
 pub drain_as : {S : Type 0} (told : S → Option Told) (old new : World S) (session : ℕ) (ns : List ℕ) → ns ≡ waiting session (map request_of old.net.items)
     → ChangesBy told (Happen (map (λ n. events.Deliver n) ns)) old new → ChangesBy told (λ s. Happen (drained session s) s) old new
 drain_as told old new session ns is =
-    happen_as told (drained session) (map (λ n. events.Deliver n) ns) old new (λ tales. ap (map (λ n. events.Deliver n)) is)
+    happen_as told (drained session) (map (λ n. events.Deliver n) ns) old new (λ traces. ap (map (λ n. events.Deliver n)) is)
 
 pub drain_part_as : {S : Type 0} (told : S → Option Told) (error : ApplyError) (old new : World S) (session : ℕ) (ns : List ℕ) → ns ≡ waiting session (map request_of old.net.items)
     → ChangesBy told (HappenInPart error (map (λ n. events.Deliver n) ns)) old new → ChangesBy told (λ s. HappenInPart error (drained session s) s) old new
 drain_part_as told error old new session ns is =
     changes_as told (HappenInPart error (map (λ n. events.Deliver n) ns)) (λ s. HappenInPart error (drained session s) s) old new
-    (λ tales y h. subst (λ (es : List Event). HappenInPart error es (state_of told tales old) y) (ap (map (λ n. events.Deliver n)) is) h)
+    (λ traces y h. subst (λ (es : List Event). HappenInPart error es (state_of told traces old) y) (ap (map (λ n. events.Deliver n)) is) h)
 
 -- one more line
 plays_then : (lines : List Line) (line : Line) (x y z : State) → Plays lines x y → PlaysLine line y z → Plays (lines ++ line ∷ []) x z
@@ -108,7 +108,7 @@ pub play_more : {S : Type 0} (told : S → Option Told) (old mid new : World S) 
     → ChangesBy told (Plays (take i lines)) old mid → ChangesBy told (PlaysLine line) mid new → ChangesBy told (Plays (take (i + 1) lines)) old new
 play_more told old mid new lines i line h is =
     changes_then told (Plays (take i lines)) (PlaysLine line) (Plays (take (i + 1) lines)) old mid new
-    (λ tales after z a b. subst (λ (ls : List Line). Plays ls (state_of told tales old) z) (lines-more lines i line h is) (plays_then (take i lines) line (state_of told tales old) (state_of told after mid) z a b))
+    (λ traces after z a b. subst (λ (ls : List Line). Plays ls (state_of told traces old) z) (lines-more lines i line h is) (plays_then (take i lines) line (state_of told traces old) (state_of told after mid) z a b))
 
 -- all of them
 pub play_ends : {S : Type 0} (told : S → Option Told) (old new : World S) (lines : List Line) (i : ℕ) → length lines ≤ i → ChangesBy told (Plays (take i lines)) old new → ChangesBy told (Plays lines) old new
@@ -119,7 +119,7 @@ pub play_stops : {S : Type 0} (told : S → Option Told) (error : ApplyError) (o
     → ChangesBy told (Plays (take i lines)) old mid → ChangesBy told (PlaysLineInPart error line) mid new → ChangesBy told (PlaysInPart error lines) old new
 play_stops told error old mid new lines i line h is =
     changes_then told (Plays (take i lines)) (PlaysLineInPart error line) (PlaysInPart error lines) old mid new
-    (λ tales after z a b. (i, (line, (slice_get-get_or lines i line h ∙ ap (λ l. Some l) (sym is), (state_of told after mid, (a, b))))))
+    (λ traces after z a b. (i, (line, (slice_get-get_or lines i line h ∙ ap (λ l. Some l) (sym is), (state_of told after mid, (a, b))))))
 
 -- what a line does, by its kind
 pub line_as : {S E : Type 0} (told : S → Option Told) (r : Result Unit E) (line at : Line) (old new : World S) → line ≡ at
@@ -135,4 +135,4 @@ pub event_part_as : {S : Type 0} (told : S → Option Told) (r : Result Unit App
     → IfErr r (λ error. ChangesBy told (StopsAt error event) old new) → IfErr r (λ error. ChangesBy told (HappenInPart error (event ∷ [])) old new)
 event_part_as told r event old new =
     if_err_map r (λ error. ChangesBy told (StopsAt error event) old new) (λ error. ChangesBy told (HappenInPart error (event ∷ [])) old new)
-    (λ error. first_stops told (λ s. event ∷ []) error event old new (λ tales. refl))
+    (λ error. first_stops told (λ s. event ∷ []) error event old new (λ traces. refl))

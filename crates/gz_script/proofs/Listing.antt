@@ -12,8 +12,8 @@ use Rattle.gz_world.specs.declared.requests.Request.{Request}
 use Rattle.gz_world.proofs.Members.{numbered_suc}
 use Rattle.gz_world.proofs.Places.{get_set_same, get_set_other, get_below, get_there}
 use Rattle.gz_script.specs.declared.outboxes.Outboxes.{Outboxes}
-use Rattle.gz_script.specs.Outboxes.{listed, AreListed, IsPut, IsReplaced}
-use Rattle.gz_script.specs.Plays.{has_reply, sent_from, sent_by, unanswered, waiting}
+use Rattle.gz_script.specs.Outboxes.{outbox_of, AreUnansweredListed, IsAppended, IsReplaced}
+use Rattle.gz_script.specs.Plays.{has_reply, numbers_sent, sent_by, unanswered, waiting}
 use Rattle.gz_script.proofs.Growing.{AreKept, same_number, other_number}
 
 number_same : (a b : ℕ) → a ≡ b → nat_eq a b ≡ true
@@ -23,10 +23,10 @@ number_other : (a b : ℕ) → a ≢ b → nat_eq a b ≡ false
 number_other a b e = elim (eqb_tells a b) [ inl k ↦ absurd (e k.1) | inr k ↦ k.0 ]
 
 -- a list that is changed at one place
-listed_set : (lists : List (List ℕ)) (at : ℕ) (x y : List ℕ) → slice_get lists at ≡ Some x → (s : ℕ) (t : Bool) → nat_eq s at ≡ t → listed (slice_set lists at y) s ≡ (if t then y else listed lists s)
+listed_set : (lists : List (List ℕ)) (at : ℕ) (x y : List ℕ) → slice_get lists at ≡ Some x → (s : ℕ) (t : Bool) → nat_eq s at ≡ t → outbox_of (slice_set lists at y) s ≡ (if t then y else outbox_of lists s)
 listed_set lists at x y there s true e =
     let same : s ≡ at = same_number s at e in
-    ap (listed (slice_set lists at y)) same ∙ ap (λ (o : Option (List ℕ)). unwrap_or o []) (get_set_same lists at x y there)
+    ap (outbox_of (slice_set lists at y)) same ∙ ap (λ (o : Option (List ℕ)). unwrap_or o []) (get_set_same lists at x y there)
 listed_set lists at x y there s false e =
     let apart : s ≢ at = other_number s at e in
     ap (λ (o : Option (List ℕ)). unwrap_or o []) (get_set_other lists at s y apart)
@@ -35,23 +35,23 @@ pub replaced : (lists : List (List ℕ)) (at : ℕ) (x y : List ℕ) → slice_g
 replaced lists at x y there = λ s. listed_set lists at x y there s (nat_eq s at) refl
 
 put_at : (lists : List (List ℕ)) (session : ℕ) (n : ℕ) (x : List ℕ) → 1 ≤ session → slice_get lists (session - 1) ≡ Some x → (s : ℕ) (t : Bool) → nat_eq session (s + 1) ≡ t
-    → listed (slice_set lists (session - 1) (x ++ n ∷ [])) s ≡ (if t then listed lists s ++ n ∷ [] else listed lists s)
+    → outbox_of (slice_set lists (session - 1) (x ++ n ∷ [])) s ≡ (if t then outbox_of lists s ++ n ∷ [] else outbox_of lists s)
 put_at lists session n x positive there s true e =
     let same : session ≡ s + 1 = same_number session (s + 1) e in
     let at : s ≡ session - 1 = omega (arith, same) in
     let is : nat_eq s (session - 1) ≡ true = number_same s (session - 1) at in
-    let was : listed lists s ≡ x = ap (listed lists) at ∙ ap (λ (o : Option (List ℕ)). unwrap_or o []) there in
+    let was : outbox_of lists s ≡ x = ap (outbox_of lists) at ∙ ap (λ (o : Option (List ℕ)). unwrap_or o []) there in
     listed_set lists (session - 1) x (x ++ n ∷ []) there s true is ∙ ap (λ (xs : List ℕ). xs ++ n ∷ []) (sym was)
 put_at lists session n x positive there s false e =
     let other : session ≢ s + 1 = other_number session (s + 1) e in
     let is_not : nat_eq s (session - 1) ≡ false = number_other s (session - 1) (λ at. other (omega (arith, at))) in
     listed_set lists (session - 1) x (x ++ n ∷ []) there s false is_not
 
-pub put : (lists : List (List ℕ)) (session n : ℕ) (x : List ℕ) → 1 ≤ session → slice_get lists (session - 1) ≡ Some x → IsPut lists session n (slice_set lists (session - 1) (x ++ n ∷ []))
+pub put : (lists : List (List ℕ)) (session n : ℕ) (x : List ℕ) → 1 ≤ session → slice_get lists (session - 1) ≡ Some x → IsAppended lists session n (slice_set lists (session - 1) (x ++ n ∷ []))
 put lists session n x positive there = λ s. put_at lists session n x positive there s (nat_eq session (s + 1)) refl
 
 -- an empty list more is as good as none
-pub listed_more : (lists : List (List ℕ)) (s : ℕ) → listed (lists ++ [] ∷ []) s ≡ listed lists s
+pub listed_more : (lists : List (List ℕ)) (s : ℕ) → outbox_of (lists ++ [] ∷ []) s ≡ outbox_of lists s
 listed_more [] zero = refl
 listed_more [] (suc s) = refl
 listed_more (x ∷ xs) zero = refl
@@ -62,13 +62,13 @@ if_more true a xs ys zs h = ap (λ (l : List ℕ). a ∷ l) h
 if_more false a xs ys zs h = h
 
 -- one more request is of its session alone
-sent-snoc : (first session : ℕ) (xs : List RequestAt) (r : RequestAt) → sent_from first session (xs ++ r ∷ []) ≡ sent_from first session xs ++ (if r.name.session == session then (first + length xs) ∷ [] else [])
+sent-snoc : (first session : ℕ) (xs : List RequestAt) (r : RequestAt) → numbers_sent first session (xs ++ r ∷ []) ≡ numbers_sent first session xs ++ (if r.name.session == session then (first + length xs) ∷ [] else [])
 sent-snoc first session [] r = rw add-zero refl
 sent-snoc first session (x ∷ xs) r =
     let same : first + 1 + length xs ≡ first + length (x ∷ xs) = omega arith in
-    let more : sent_from (first + 1) session (xs ++ r ∷ []) ≡ sent_from (first + 1) session xs ++ (if r.name.session == session then (first + length (x ∷ xs)) ∷ [] else []) =
-    sent-snoc (first + 1) session xs r ∙ ap (λ k. sent_from (first + 1) session xs ++ (if r.name.session == session then k ∷ [] else [])) same in
-    if_more (x.name.session == session) first (sent_from (first + 1) session (xs ++ r ∷ [])) (sent_from (first + 1) session xs) (if r.name.session == session then (first + length (x ∷ xs)) ∷ [] else []) more
+    let more : numbers_sent (first + 1) session (xs ++ r ∷ []) ≡ numbers_sent (first + 1) session xs ++ (if r.name.session == session then (first + length (x ∷ xs)) ∷ [] else []) =
+    sent-snoc (first + 1) session xs r ∙ ap (λ k. numbers_sent (first + 1) session xs ++ (if r.name.session == session then k ∷ [] else [])) same in
+    if_more (x.name.session == session) first (numbers_sent (first + 1) session (xs ++ r ∷ [])) (numbers_sent (first + 1) session xs) (if r.name.session == session then (first + length (x ∷ xs)) ∷ [] else []) more
 
 more_unanswered : (net : List RequestAt) (t : Bool) (n : ℕ) (a b : List ℕ) → unanswered net a ≡ unanswered net b
     → unanswered net (if t then a ++ n ∷ [] else a) ≡ unanswered net (b ++ (if t then n ∷ [] else []))
@@ -78,8 +78,8 @@ more_unanswered net true n a b h =
 more_unanswered net false n a b h = h ∙ ap (unanswered net) (sym (append-nil b))
 
 -- a request was seen
-pub list_next : (old new : Outboxes) (net : List RequestAt) (r : RequestAt) → AreListed old net → slice_get net old.seen ≡ Some r → new.seen ≡ old.seen + 1
-    → IsPut old.lists.items r.name.session (old.seen + 1) new.lists.items → AreListed new net
+pub list_next : (old new : Outboxes) (net : List RequestAt) (r : RequestAt) → AreUnansweredListed old net → slice_get net old.seen ≡ Some r → new.seen ≡ old.seen + 1
+    → IsAppended old.lists.items r.name.session (old.seen + 1) new.lists.items → AreUnansweredListed new net
 list_next old new net r h there seen put =
     let below = get_below net old.seen r there in
     let enough = h.seen in
@@ -90,7 +90,7 @@ list_next old new net r h there seen put =
       seen = omega (arith, seen, below);
       lists = λ s.
           ap (unanswered net) (put s)
-          ∙ more_unanswered net (r.name.session == s + 1) (old.seen + 1) (listed old.lists.items s) (sent_by (s + 1) front) (h.lists s)
+          ∙ more_unanswered net (r.name.session == s + 1) (old.seen + 1) (outbox_of old.lists.items s) (sent_by (s + 1) front) (h.lists s)
           ∙ ap (λ k. unanswered net (sent_by (s + 1) front ++ (if r.name.session == s + 1 then k ∷ [] else []))) (sym count)
           ∙ ap (unanswered net) (sym (sent-snoc 1 (s + 1) front r))
           ∙ ap (λ (xs : List RequestAt). unanswered net (sent_by (s + 1) xs)) (sym taken);
@@ -101,7 +101,7 @@ pub next_there : (net : List Request) (i : ℕ) (x : Request) → i < length net
 next_there net i x below is = slice_get-map request_of net i ∙ ap (option_map request_of) (slice_get-get_or net i x below ∙ ap (λ y. Some y) (sym is))
 
 -- the same lists
-pub list_same : (old new : Outboxes) (net : List RequestAt) → new.seen ≡ old.seen → ((s : ℕ) → listed new.lists.items s ≡ listed old.lists.items s) → AreListed old net → AreListed new net
+pub list_same : (old new : Outboxes) (net : List RequestAt) → new.seen ≡ old.seen → ((s : ℕ) → outbox_of new.lists.items s ≡ outbox_of old.lists.items s) → AreUnansweredListed old net → AreUnansweredListed new net
 list_same old new net seen same h =
     let enough = h.seen in
     record {
@@ -123,16 +123,16 @@ filter_again p q narrow (x ∷ xs) = filter_one p q narrow x xs (p x) (q x) refl
 unanswered_again : (net : List RequestAt) (xs : List ℕ) → unanswered net (unanswered net xs) ≡ unanswered net xs
 unanswered_again net xs = filter_again (λ k. not (has_reply (numbered net k))) (λ k. not (has_reply (numbered net k))) (λ n h. h) xs
 
-replace_at : (mid : Outboxes) (net : List RequestAt) (at s : ℕ) (t : Bool) → nat_eq s at ≡ t → AreListed mid net
-    → unanswered net (if t then unanswered net (listed mid.lists.items at) else listed mid.lists.items s) ≡ unanswered net (listed mid.lists.items s)
+replace_at : (mid : Outboxes) (net : List RequestAt) (at s : ℕ) (t : Bool) → nat_eq s at ≡ t → AreUnansweredListed mid net
+    → unanswered net (if t then unanswered net (outbox_of mid.lists.items at) else outbox_of mid.lists.items s) ≡ unanswered net (outbox_of mid.lists.items s)
 replace_at mid net at s true e h =
     let same : at ≡ s = sym (same_number s at e) in
-    unanswered_again net (listed mid.lists.items at) ∙ ap (λ k. unanswered net (listed mid.lists.items k)) same
+    unanswered_again net (outbox_of mid.lists.items at) ∙ ap (λ k. unanswered net (outbox_of mid.lists.items k)) same
 replace_at mid net at s false e h = refl
 
 -- the list of a session was looked through
-pub list_look : (mid new : Outboxes) (net : List RequestAt) (session : ℕ) → AreListed mid net → new.seen ≡ mid.seen
-    → IsReplaced mid.lists.items (session - 1) (unanswered net (listed mid.lists.items (session - 1))) new.lists.items → AreListed new net
+pub list_look : (mid new : Outboxes) (net : List RequestAt) (session : ℕ) → AreUnansweredListed mid net → new.seen ≡ mid.seen
+    → IsReplaced mid.lists.items (session - 1) (unanswered net (outbox_of mid.lists.items (session - 1))) new.lists.items → AreUnansweredListed new net
 list_look mid new net session h seen is =
     let enough = h.seen in
     record {
@@ -145,10 +145,10 @@ list_look mid new net session h seen is =
 same_place : (at : ℕ) → nat_eq at at ≡ true
 same_place at = number_same at at refl
 
-pub list_found : (mid new : Outboxes) (net : List RequestAt) (session : ℕ) → 1 ≤ session → AreListed mid net → mid.seen ≡ length net
-    → IsReplaced mid.lists.items (session - 1) (unanswered net (listed mid.lists.items (session - 1))) new.lists.items → listed new.lists.items (session - 1) ≡ waiting session net
+pub list_found : (mid new : Outboxes) (net : List RequestAt) (session : ℕ) → 1 ≤ session → AreUnansweredListed mid net → mid.seen ≡ length net
+    → IsReplaced mid.lists.items (session - 1) (unanswered net (outbox_of mid.lists.items (session - 1))) new.lists.items → outbox_of new.lists.items (session - 1) ≡ waiting session net
 list_found mid new net session positive h seen is =
-    let old = listed mid.lists.items (session - 1) in
+    let old = outbox_of mid.lists.items (session - 1) in
     let whole : take mid.seen net ≡ net = ap (λ k. take k net) seen ∙ take-length net in
     let back : session - 1 + 1 ≡ session = omega arith in
     is (session - 1)
@@ -185,7 +185,7 @@ unanswered_later old new kept a b h =
 if_test : (t u : Bool) (a : ℕ) (xs ys : List ℕ) → t ≡ u → xs ≡ ys → (if t then a ∷ xs else xs) ≡ (if u then a ∷ ys else ys)
 if_test t u a xs ys e h = ap (λ b. if b then a ∷ xs else xs) e ∙ ap (λ (l : List ℕ). if u then a ∷ l else l) h
 
-sent_same : (k first session : ℕ) (xs ys : List RequestAt) → k ≤ length xs → AreKept xs ys → sent_from first session (take k xs) ≡ sent_from first session (take k ys)
+sent_same : (k first session : ℕ) (xs ys : List RequestAt) → k ≤ length xs → AreKept xs ys → numbers_sent first session (take k xs) ≡ numbers_sent first session (take k ys)
 sent_same zero first session xs ys few kept = refl
 sent_same (suc k) first session [] ys few kept = absurd (omega arith)
 sent_same (suc k) first session (x ∷ xs) [] few kept = let q = kept 0 x refl in let bad : None ≡ Some q.0 = q.1.0 in cc
@@ -195,7 +195,7 @@ sent_same (suc k) first session (x ∷ xs) (y ∷ ys) few kept =
     let y_is : y ≡ q.0 = cc in
     let name : y.name ≡ x.name = ap (λ (r : RequestAt). r.name) y_is ∙ q.1.1.name in
     let fewer : k ≤ length xs = omega arith in
-    if_test (x.name.session == session) (y.name.session == session) first (sent_from (first + 1) session (take k xs)) (sent_from (first + 1) session (take k ys))
+    if_test (x.name.session == session) (y.name.session == session) first (numbers_sent (first + 1) session (take k xs)) (numbers_sent (first + 1) session (take k ys))
     (ap (λ (n : Name). n.session == session) (sym name)) (sent_same k (first + 1) session xs ys fewer (λ i r there. kept (suc i) r there))
 
 kept_length : (old new : List RequestAt) → AreKept old new → (t : Bool) → nat_lt (length new) (length old) ≡ t → length old ≤ length new
@@ -208,13 +208,13 @@ kept_length old new kept true e =
 kept_length old new kept false e = grind (arith, nat_tests)
 
 -- the lists stay right while the requests are kept
-pub list_later : (boxes : Outboxes) (old new : List RequestAt) → AreKept old new → AreListed boxes old → AreListed boxes new
+pub list_later : (boxes : Outboxes) (old new : List RequestAt) → AreKept old new → AreUnansweredListed boxes old → AreUnansweredListed boxes new
 list_later boxes old new kept h =
     let enough = h.seen in
     let longer = kept_length old new kept (nat_lt (length new) (length old)) refl in
     record {
       seen = omega (arith, enough, longer);
       lists = λ s.
-          unanswered_later old new kept (listed boxes.lists.items s) (sent_by (s + 1) (take boxes.seen old)) (h.lists s)
+          unanswered_later old new kept (outbox_of boxes.lists.items s) (sent_by (s + 1) (take boxes.seen old)) (h.lists s)
           ∙ ap (unanswered new) (sent_same boxes.seen 1 (s + 1) old new enough kept);
     }

@@ -1,13 +1,13 @@
 -- What the lines of a schedule do to the world: the events of each are read off the world in which the line is reached.
 use Rattle.std.specs.Prelude.{ℕ, ◌≡◌, ◌+◌, ◌≤◌, ◌<◌, ◌==◌, ◌⊎◌, Bool, false, zero, suc, not, nat_lt, if◌then◌else◌, List, [], ◌∷◌, length, map, filter, take, Option, Some, None, slice_get}
 use Rattle.std.specs.List.{list_any}
-use Rattle.gz_round.specs.History.{Tale}
+use Rattle.gz_round.specs.History.{Trace}
 use Rattle.gz_client.specs.Lowest.{IsLowestLive}
 use Rattle.gz_site.specs.Told.{Told}
 use Rattle.gz_world.specs.Bridge.{state_of}
 use Rattle.gz_world.specs.Fits.{Fits}
 use Rattle.gz_world.specs.States.{State, RequestAt, numbered}
-use Rattle.gz_world.specs.Steps.{Step}
+use Rattle.gz_world.specs.Steps.{WorldStep}
 use Rattle.gz_world.specs.declared.events.ApplyError.{ApplyError}
 use Rattle.gz_world.specs.declared.events.ApplyError.TheVariants.{Full, NoMemory}
 use Rattle.gz_world.specs.declared.events.Event.{Event}
@@ -23,7 +23,7 @@ TakesNone s = (4000000 ≤ length s.journal) ⊎ (1073741824 ≤ s.held)
 -- one event happens, in a world that takes it
 pub record Happens (event : Event) (old new : State) : Type 0 where
   pub taken : TakesNone old → ⊥
-  pub step : Step old event new
+  pub step : WorldStep old event new
 
 -- events happen one after another
 abbrev pub Happen : List Event → State → State → Type 0
@@ -66,24 +66,24 @@ settled without n s = if is_left_out without (numbered s.net n) then events.Give
 abbrev pub SettlesTimes : ℕ → List ℕ → ℕ → State → State → Type 0
 SettlesTimes session without zero old new = old ≡ new
 SettlesTimes session without (suc k) old new = (mid : State) × (SettlesTimes session without k old mid
-    × ((n : ℕ) × (IsLowestLive mid.cfg (mid.tales session) (Some n) × Happen (settled without n mid) mid new)))
+    × ((n : ℕ) × (IsLowestLive mid.cfg (mid.traces session) (Some n) × Happen (settled without n mid) mid new)))
 
 -- at most 65,536 times, while the session has a live request
 abbrev pub Settles : ℕ → List ℕ → State → State → Type 0
-Settles session without old new = (k : ℕ) × ((k ≤ 65536) × (SettlesTimes session without k old new × (IsLowestLive new.cfg (new.tales session) None ⊎ (k ≡ 65536))))
+Settles session without old new = (k : ℕ) × ((k ≤ 65536) × (SettlesTimes session without k old new × (IsLowestLive new.cfg (new.traces session) None ⊎ (k ≡ 65536))))
 
 -- the same, broken off in the course of a time
 abbrev pub SettlesInPart : ApplyError → ℕ → List ℕ → State → State → Type 0
 SettlesInPart error session without old new = (k : ℕ) × ((k < 65536) × ((mid : State) × (SettlesTimes session without k old mid
-    × ((n : ℕ) × (IsLowestLive mid.cfg (mid.tales session) (Some n) × HappenInPart error (settled without n mid) mid new)))))
+    × ((n : ℕ) × (IsLowestLive mid.cfg (mid.traces session) (Some n) × HappenInPart error (settled without n mid) mid new)))))
 
 -- the numbers of a session's requests, where the first request has this number
-abbrev pub sent_from : ℕ → ℕ → List RequestAt → List ℕ
-sent_from first session [] = []
-sent_from first session (r ∷ rs) = if r.name.session == session then first ∷ sent_from (first + 1) session rs else sent_from (first + 1) session rs
+abbrev pub numbers_sent : ℕ → ℕ → List RequestAt → List ℕ
+numbers_sent first session [] = []
+numbers_sent first session (r ∷ rs) = if r.name.session == session then first ∷ numbers_sent (first + 1) session rs else numbers_sent (first + 1) session rs
 
 abbrev pub sent_by : ℕ → List RequestAt → List ℕ
-sent_by session net = sent_from 1 session net
+sent_by session net = numbers_sent 1 session net
 
 -- those of some requests that have no reply yet
 abbrev pub unanswered : List RequestAt → List ℕ → List ℕ
@@ -127,6 +127,6 @@ abbrev pub PlaysInPart : ApplyError → List Line → State → State → Type 0
 PlaysInPart error lines old new =
     (i : ℕ) × ((line : Line) × ((slice_get lines i ≡ Some line) × ((mid : State) × (Plays (take i lines) old mid × PlaysLineInPart error line mid new))))
 
--- a world of the program, whatever the tales of its sessions are, becomes another one by such a change of its state
+-- a world of the program, whatever the traces of its sessions are, becomes another one by such a change of its state
 abbrev pub ChangesBy : {S : Type 0} → (S → Option Told) → (State → State → Type 0) → World S → World S → Type 0
-ChangesBy told Change old new = (tales : ℕ → List Tale) → Fits tales old → (after : ℕ → List Tale) × (Fits after new × Change (state_of told tales old) (state_of told after new))
+ChangesBy told Change old new = (traces : ℕ → List Trace) → Fits traces old → (after : ℕ → List Trace) × (Fits after new × Change (state_of told traces old) (state_of told after new))

@@ -2,7 +2,7 @@
 //! others.
 ghost use Rattle.std.specs.Prelude.{◌≡◌, ℕ, ◌+◌, ◌-◌, ◌<◌, ◌≤◌, ◌^◌, List, [], length, map, IfOk, OnOk};
 ghost use Rattle.gz_world.specs.States.{RequestAt, request_of, numbered};
-ghost use Rattle.gz_script.specs.Outboxes.{listed, AreListed, IsPut, IsReplaced};
+ghost use Rattle.gz_script.specs.Outboxes.{outbox_of, AreUnansweredListed, IsAppended, IsReplaced};
 ghost use Rattle.gz_script.specs.Plays.{has_reply, unanswered, waiting};
 
 use gz_core::{Items, Session};
@@ -44,7 +44,7 @@ fn unanswered(alloc: Global, net: &[Request], numbers: &[u32]) -> Result<Items<u
 /// Puts a request at the end of the list at a place.
 fn put_at(lists: &mut Vec<Items<u32>>, session: Session, n: u32) -> Result<(), AllocError>
     requires { session ≤ length lists.old.items }
-    ensures { OnOk result (IsPut lists.old.items session n lists.new.items) }
+    ensures { OnOk result (IsAppended lists.old.items session n lists.new.items) }
 {
     lists[session.number() as usize - 1].push(n)
 }
@@ -60,7 +60,7 @@ fn replace_at(lists: &mut Vec<Items<u32>>, at: usize, numbers: Items<u32>)
 impl Outboxes {
     /// No request was seen.
     pub fn new(alloc: Global) -> Outboxes
-        ensures { (net : List RequestAt) → AreListed result net }
+        ensures { (net : List RequestAt) → AreUnansweredListed result net }
     {
         Outboxes {
             seen: 0,
@@ -71,7 +71,7 @@ impl Outboxes {
 
     /// The list of a session.
     pub fn of(&self, session: Session) -> &[u32]
-        ensures { result.now ≡ listed self.now.lists.items (session - 1) }
+        ensures { result.now ≡ outbox_of self.now.lists.items (session - 1) }
     {
         match self.lists.get(session.number() as usize - 1) {
             Some(list) => list.as_slice(),
@@ -82,7 +82,7 @@ impl Outboxes {
     /// Makes empty lists up to that of a session.
     fn make_room(&mut self, session: Session) -> Result<(), AllocError>
         ensures seen { self.new.seen ≡ self.old.seen }
-        ensures same { (s : ℕ) → listed self.new.lists.items s ≡ listed self.old.lists.items s }
+        ensures same { (s : ℕ) → outbox_of self.new.lists.items s ≡ outbox_of self.old.lists.items s }
         ensures room { OnOk result (session ≤ length self.new.lists.items) }
     {
         while self.lists.len() < session.number() as usize {
@@ -95,7 +95,7 @@ impl Outboxes {
     fn put(&mut self, session: Session) -> Result<(), AllocError>
         requires { self.old.seen < 2 ^ 63 }
         ensures seen { OnOk result (self.new.seen ≡ self.old.seen + 1) }
-        ensures put { OnOk result (IsPut self.old.lists.items session (self.old.seen + 1) self.new.lists.items) }
+        ensures put { OnOk result (IsAppended self.old.lists.items session (self.old.seen + 1) self.new.lists.items) }
     {
         let n = u32::try_from(self.seen + 1).map_err(|_| AllocError)?;
         self.make_room(session)?;
@@ -106,8 +106,8 @@ impl Outboxes {
 
     /// Puts the requests that weren't seen into the lists of their sessions.
     fn catch_up(&mut self, net: &[Request]) -> Result<(), AllocError>
-        requires { AreListed self.old (map request_of net.now) }
-        ensures listed { OnOk result (AreListed self.new (map request_of net.now)) }
+        requires { AreUnansweredListed self.old (map request_of net.now) }
+        ensures listed { OnOk result (AreUnansweredListed self.new (map request_of net.now)) }
         ensures seen { OnOk result (self.new.seen ≡ length net.now) }
     {
         while self.seen < net.len() {
@@ -118,9 +118,9 @@ impl Outboxes {
 
     /// Brings the list of a session up to date: it has the requests of the session that have no reply yet.
     pub fn look(&mut self, net: &[Request], session: Session) -> Result<(), AllocError>
-        requires { AreListed self.old (map request_of net.now) }
-        ensures listed { OnOk result (AreListed self.new (map request_of net.now)) }
-        ensures found { OnOk result (listed self.new.lists.items (session - 1) ≡ waiting session (map request_of net.now)) }
+        requires { AreUnansweredListed self.old (map request_of net.now) }
+        ensures listed { OnOk result (AreUnansweredListed self.new (map request_of net.now)) }
+        ensures found { OnOk result (outbox_of self.new.lists.items (session - 1) ≡ waiting session (map request_of net.now)) }
     {
         self.catch_up(net)?;
         self.make_room(session)?;

@@ -2,12 +2,12 @@
 ghost use Rattle.std.specs.Prelude.{◌≡◌, ◌∷◌, [], OnOk, IfErr, All, ◌==◌, map};
 ghost use Rattle.std.specs.List.{list_any};
 ghost use Rattle.gz_round.specs.Starting.{IsWithin};
-ghost use Rattle.gz_world.specs.Fits.{IsFitting, IsBounded as IsBoundedEvent};
+ghost use Rattle.gz_world.specs.Fits.{IsFitting, IsBounded};
 ghost use Rattle.gz_world.specs.States.{request_of, numbered};
 ghost use Rattle.gz_world.specs.Told.{IsReachedBy};
-ghost use Rattle.gz_script.specs.Outboxes.{AreListed};
+ghost use Rattle.gz_script.specs.Outboxes.{AreUnansweredListed};
 ghost use Rattle.gz_script.specs.Plays.{Happen, StopsAt, HappenInPart, taken, is_left_out, settled, Settles, SettlesInPart, drained, PlaysLine, PlaysLineInPart, Plays, PlaysInPart, ChangesBy};
-ghost use Rattle.gz_lines.specs.Schedule.{IsBounded};
+ghost use Rattle.gz_lines.specs.Schedule.{IsBoundedLine};
 
 use crate::outboxes::{Outboxes, has_reply};
 use gz_core::{Call, Session, SiteId};
@@ -23,7 +23,7 @@ pub const MOST_TIMES: u32 = 65_536;
 /// first few events of the line that was reached.
 pub fn play<S: Site>(lines: &[Line], world: &mut World<S>) -> Result<(), ApplyError>
     requires fits { IsFitting world.old }
-    requires bounded { All IsBounded lines.now }
+    requires bounded { All IsBoundedLine lines.now }
     ensures fits { IsFitting world.new }
     ensures plays { OnOk result (ChangesBy S.told (Plays lines.now) world.old world.new) }
     ensures part { IfErr result (λ error. ChangesBy S.told (PlaysInPart error lines.now) world.old world.new) }
@@ -43,9 +43,9 @@ fn play_line<S: Site>(
     boxes: &mut Outboxes,
 ) -> Result<(), ApplyError>
     requires fits { IsFitting world.old }
-    requires bounded { IsBounded line.now }
-    requires listed { AreListed boxes.old (map request_of world.old.net.items) }
-    ensures listed { OnOk result (AreListed boxes.new (map request_of world.old.net.items)) }
+    requires bounded { IsBoundedLine line.now }
+    requires listed { AreUnansweredListed boxes.old (map request_of world.old.net.items) }
+    ensures listed { OnOk result (AreUnansweredListed boxes.new (map request_of world.old.net.items)) }
     ensures fits { IsFitting world.new }
     ensures plays { OnOk result (ChangesBy S.told (PlaysLine line.now) world.old world.new) }
     ensures part { IfErr result (λ error. ChangesBy S.told (PlaysLineInPart error line.now) world.old world.new) }
@@ -72,7 +72,7 @@ fn play_line<S: Site>(
 /// One event happens.
 fn happen<S: Site>(world: &mut World<S>, event: Event) -> Result<(), ApplyError>
     requires fits { IsFitting world.old }
-    requires bounded { IsBoundedEvent event }
+    requires bounded { IsBounded event }
     ensures fits { IsFitting world.new }
     ensures ok { OnOk result (ChangesBy S.told (Happen (event ∷ [])) world.old world.new) }
     ensures err { IfErr result (λ error. ChangesBy S.told (StopsAt error event) world.old world.new) }
@@ -183,9 +183,9 @@ fn drain<S: Site>(
     boxes: &mut Outboxes,
 ) -> Result<(), ApplyError>
     requires fits { IsFitting world.old }
-    requires listed { AreListed boxes.old (map request_of world.old.net.items) }
+    requires listed { AreUnansweredListed boxes.old (map request_of world.old.net.items) }
     ensures fits { IsFitting world.new }
-    ensures listed { OnOk result (AreListed boxes.new (map request_of world.old.net.items)) }
+    ensures listed { OnOk result (AreUnansweredListed boxes.new (map request_of world.old.net.items)) }
     ensures ok { OnOk result (ChangesBy S.told (λ s. Happen (drained session s) s) world.old world.new) }
     ensures err { IfErr result (λ error. ChangesBy S.told (λ s. HappenInPart error (drained session s) s) world.old world.new) }
 {

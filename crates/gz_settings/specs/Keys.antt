@@ -6,24 +6,24 @@ use Rattle.gz_settings.specs.declared.setting.Setting.{Setting}
 use Rattle.gz_settings.specs.declared.setting.Setting.TheVariants.{N, Qc, Qf, K, M, F, Tries, Order}
 
 -- the key of a setting
-abbrev pub key_of : Setting → List ℕ
-key_of N = codes "n"
-key_of Qc = codes "qc"
-key_of Qf = codes "qf"
-key_of K = codes "k"
-key_of M = codes "m"
-key_of F = codes "f"
-key_of Tries = codes "tries"
-key_of Order = codes "order"
+abbrev pub key_text : Setting → List ℕ
+key_text N = codes "n"
+key_text Qc = codes "qc"
+key_text Qf = codes "qf"
+key_text K = codes "k"
+key_text M = codes "m"
+key_text F = codes "f"
+key_text Tries = codes "tries"
+key_text Order = codes "order"
 
 -- the key is that of a setting
 abbrev pub is_key : List ℕ → Setting → Bool
-is_key key setting = pointwise nat_eq key (key_of setting)
+is_key key setting = pointwise nat_eq key (key_text setting)
 
-abbrev pub is_known : List ℕ → Bool
-is_known key = is_key key N || is_key key Qc || is_key key Qf || is_key key K || is_key key M || is_key key F || is_key key Tries || is_key key Order
+abbrev pub is_setting : List ℕ → Bool
+is_setting key = is_key key N || is_key key Qc || is_key key Qf || is_key key K || is_key key M || is_key key F || is_key key Tries || is_key key Order
 
 -- the first key that is that of no setting; the keys of a table ascend by their bytes
 abbrev pub first_unknown : Members → Option (List ℕ)
 first_unknown no_members = None
-first_unknown (member key value rest) = if is_known key then first_unknown rest else Some key
+first_unknown (member key value rest) = if is_setting key then first_unknown rest else Some key

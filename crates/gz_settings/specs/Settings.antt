@@ -13,12 +13,12 @@ use Rattle.gz_settings.specs.declared.refusal.ConfigText.{ConfigText}
 use Rattle.gz_settings.specs.declared.refusal.ConfigText.TheVariants.{NotToml, UnknownKey, Kind, Rule}
 use Rattle.gz_settings.specs.declared.setting.Setting.{Setting}
 use Rattle.gz_settings.specs.declared.setting.Setting.TheVariants as settings
-use Rattle.gz_settings.specs.Keys.{key_of, first_unknown}
+use Rattle.gz_settings.specs.Keys.{key_text, first_unknown}
 
 -- what follows from a value, unless it was refused
-abbrev pub with : {A B : Type 0} → Result A ConfigText → (A → Result B ConfigText) → Result B ConfigText
-with (Ok value) next = next value
-with (Err why) next = Err why
+abbrev pub with_setting : {A B : Type 0} → Result A ConfigText → (A → Result B ConfigText) → Result B ConfigText
+with_setting (Ok value) next = next value
+with_setting (Err why) next = Err why
 
 -- the value of a setting, or the refusal of one of another kind
 abbrev pub or_kind : {A : Type 0} → Setting → Option A → Result A ConfigText
@@ -39,7 +39,7 @@ size_at setting default (Some value) = or_kind setting (size_of value)
 
 -- the size of a setting, which has a default
 abbrev pub size_in : Setting → ℕ → Members → Result ℕ ConfigText
-size_in setting default table = size_at setting default (get_member (key_of setting) table)
+size_in setting default table = size_at setting default (get_member (key_text setting) table)
 
 -- the names of the orders
 abbrev pub order_named : List ℕ → Option Order
@@ -55,19 +55,19 @@ order_at None = Ok Parallel
 order_at (Some value) = or_kind settings.Order (order_of value)
 
 abbrev pub order_in : Members → Result Order ConfigText
-order_in table = order_at (get_member (key_of settings.Order) table)
+order_in table = order_at (get_member (key_text settings.Order) table)
 
 -- the configuration that the settings make: they are tried in this order, and these are their defaults
 abbrev pub config_in : Members → Result Config ConfigText
 config_in table =
-    with (size_in settings.N 3 table) (λ n.
-    with (size_in settings.Qc 2 table) (λ qc.
-    with (size_in settings.Qf 3 table) (λ qf.
-    with (size_in settings.K 2 table) (λ k.
-    with (size_in settings.M 1 table) (λ m.
-    with (size_in settings.F 0 table) (λ f.
-    with (size_in settings.Tries 8 table) (λ tries.
-    with (order_in table) (λ order.
+    with_setting (size_in settings.N 3 table) (λ n.
+    with_setting (size_in settings.Qc 2 table) (λ qc.
+    with_setting (size_in settings.Qf 3 table) (λ qf.
+    with_setting (size_in settings.K 2 table) (λ k.
+    with_setting (size_in settings.M 1 table) (λ m.
+    with_setting (size_in settings.F 0 table) (λ f.
+    with_setting (size_in settings.Tries 8 table) (λ tries.
+    with_setting (order_in table) (λ order.
     Ok (record { n = n; qc = qc; qf = qf; k = k; m = m; f = f; tries = tries; order = order })))))))))
 
 -- a configuration that keeps the rules
@@ -76,7 +76,7 @@ or_rule config (Ok done) = Ok config
 or_rule config (Err why) = Err (Rule why)
 
 abbrev pub checked : Result Config ConfigText → Result Config ConfigText
-checked found = with found (λ config. or_rule config (check_of config))
+checked found = with_setting found (λ config. or_rule config (check_of config))
 
 -- the configuration of a table, of which each key must be known
 abbrev pub of_known : Members → Option (List ℕ) → Result Config ConfigText

@@ -2,7 +2,7 @@
 ghost use Rattle.std.specs.Prelude.{◌≡◌, ◌⊎◌, option_map};
 ghost use Rattle.toml.specs.Data.{get_member};
 ghost use Rattle.toml.specs.View.{view, table_view};
-ghost use Rattle.gz_settings.specs.Keys.{key_of, first_unknown};
+ghost use Rattle.gz_settings.specs.Keys.{key_text, first_unknown};
 ghost use Rattle.gz_settings.specs.Settings.{size_of, size_in, order_named, order_of, order_in, config_in, config_of, checked, read_of};
 
 use crate::refusal::ConfigText;
@@ -22,7 +22,7 @@ pub fn read_config(alloc: Global, bytes: &[u8]) -> Result<Config, ConfigText>
     }
 }
 
-// The configuration of a table, of which each key must be known.
+/// The configuration of a table, of which each key must be known.
 fn config_of(alloc: Global, table: &Table) -> Result<Config, ConfigText>
     ensures { (result ≡ Err ConfigText.NoMemory) ⊎ (result ≡ config_of (table_view table.now)) }
 {
@@ -32,7 +32,7 @@ fn config_of(alloc: Global, table: &Table) -> Result<Config, ConfigText>
     }
 }
 
-// The first key that is that of no setting.
+/// The first key that is that of no setting.
 #[tactic(auto, using(crate::proofs::Entries::unknown_among_keys))]
 fn first_unknown(table: &Table) -> Option<&str>
     ensures { option_map (λ key. key.now) result ≡ first_unknown (table_view table.now) }
@@ -45,7 +45,7 @@ fn first_unknown(table: &Table) -> Option<&str>
     None
 }
 
-// The refusal of a key that is that of no setting.
+/// The refusal of a key that is that of no setting.
 fn unknown(alloc: Global, key: &str) -> ConfigText
     ensures { (result ≡ ConfigText.NoMemory) ⊎ (result ≡ ConfigText.UnknownKey key.now) }
 {
@@ -55,7 +55,7 @@ fn unknown(alloc: Global, key: &str) -> ConfigText
     }
 }
 
-// The configuration, if it keeps the rules.
+/// The configuration, if it keeps the rules.
 fn checked(config: Result<Config, ConfigText>) -> Result<Config, ConfigText>
     ensures { result ≡ checked config }
 {
@@ -66,7 +66,7 @@ fn checked(config: Result<Config, ConfigText>) -> Result<Config, ConfigText>
     }
 }
 
-// The configuration that a table's settings make, whether or not it keeps the rules.
+/// The configuration that a table's settings make, whether or not it keeps the rules.
 fn config_in(table: &Table) -> Result<Config, ConfigText>
     ensures { result ≡ config_in (table_view table.now) }
 {
@@ -90,7 +90,7 @@ fn config_in(table: &Table) -> Result<Config, ConfigText>
     })
 }
 
-// The size that a table gives to a setting, which has one without it, too.
+/// The size that a table gives to a setting, which has one without it, too.
 fn size_in(table: &Table, setting: Setting, default: u16) -> Result<u16, ConfigText>
     ensures { result ≡ size_in setting default (table_view table.now) }
 {
@@ -103,7 +103,7 @@ fn size_in(table: &Table, setting: Setting, default: u16) -> Result<u16, ConfigT
     }
 }
 
-// The order that a table gives.
+/// The order that a table gives.
 fn order_in(table: &Table) -> Result<Order, ConfigText>
     ensures { result ≡ order_in (table_view table.now) }
 {
@@ -118,14 +118,14 @@ fn order_in(table: &Table) -> Result<Order, ConfigText>
     }
 }
 
-// The value of a setting in a table.
+/// The value of a setting in a table.
 fn value_of(table: &Table, setting: Setting) -> Option<&Value>
-    ensures { option_map (λ value. view value.now) result ≡ get_member (key_of setting) (table_view table.now) }
+    ensures { option_map (λ value. view value.now) result ≡ get_member (key_text setting) (table_view table.now) }
 {
     table.get(setting.key())
 }
 
-// The size that a value is: an integer from 0 to 65535.
+/// The size that a value is: an integer from 0 to 65535.
 fn size_of(value: &Value) -> Option<u16>
     ensures { result ≡ size_of (view value.now) }
 {
@@ -137,7 +137,7 @@ fn size_of(value: &Value) -> Option<u16>
     }
 }
 
-// The order that a value names.
+/// The order that a value names.
 fn order_of(value: &Value) -> Option<Order>
     ensures { result ≡ order_of (view value.now) }
 {

@@ -38,7 +38,7 @@ impl fmt::Display for ConfigText {
     }
 }
 
-// The words of a rule.
+/// The words of a rule.
 fn rule(why: ConfigError) -> &'static str {
     match why {
         ConfigError::SiteCount => "sites",

@@ -1,6 +1,6 @@
 //! The settings of a configuration, and their keys in a text.
 ghost use Rattle.std.specs.Prelude.{◌≡◌};
-ghost use Rattle.gz_settings.specs.Keys.{key_of, is_known};
+ghost use Rattle.gz_settings.specs.Keys.{key_text, is_setting};
 
 /// A setting of a configuration. Where several have values of another kind, the first one here is told.
 #[derive(Clone, Copy, Debug, PartialEq, Eq)]
@@ -18,7 +18,7 @@ pub enum Setting {
 impl Setting {
     /// The setting's key in a text.
     pub fn key(self) -> &'static str
-        ensures { result.now ≡ key_of self }
+        ensures { result.now ≡ key_text self }
     {
         match self {
             Setting::N => "n",
@@ -33,9 +33,9 @@ impl Setting {
     }
 }
 
-// Whether the key is that of a setting.
+/// Whether the key is that of a setting.
 pub(crate) fn is_known(key: &str) -> bool
-    ensures { result ≡ is_known key.now }
+    ensures { result ≡ is_setting key.now }
 {
     key == "n"
         || key == "qc"

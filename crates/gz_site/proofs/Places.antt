@@ -4,7 +4,7 @@ use Rattle.std.proofs.lemmas.Bool.{cases_lt}
 use Rattle.std.proofs.lemmas.List.{get_or-set_same, get_or-set_other, length-set}
 use Rattle.std.proofs.lemmas.Option.{slice_get_read, slice_get-get_or, slice_get_past}
 use Rattle.std.specs.Prelude.{option_and_then, option_map, unwrap_or}
-use Rattle.gz_core.specs.Causes.{HasCause}
+use Rattle.gz_core.specs.Causes.{HasCountedFault}
 use Rattle.gz_site.specs.Told.{Told, Tells}
 use Rattle.gz_site.specs.Many.{TellsAt, CauseAt, OthersStay}
 
@@ -28,8 +28,8 @@ tells_at told sites at old new R l e h =
     subst (λ (o : Option _). Tells (option_and_then told o) (option_and_then told (slice_get (set sites at new) at)) R) (sym e)
     (subst (λ (o : Option _). Tells (told old) (option_and_then told o) R) (sym (replaced_at sites at new l)) h)
 
-pub cause_at : {S T E : Type 0} (faults : S → ℕ) (failed : E) (sites : List S) (at : ℕ) (old new : S) (result : Result T E) → at < length sites → slice_get sites at ≡ Some old → HasCause failed (faults old) (faults new) result
+pub cause_at : {S T E : Type 0} (faults : S → ℕ) (failed : E) (sites : List S) (at : ℕ) (old new : S) (result : Result T E) → at < length sites → slice_get sites at ≡ Some old → HasCountedFault failed (faults old) (faults new) result
     → CauseAt faults failed sites at (set sites at new) result
 cause_at faults failed sites at old new result l e h =
-    subst (λ (o : Option _). HasCause failed (unwrap_or (option_map faults o) 0) (unwrap_or (option_map faults (slice_get (set sites at new) at)) 0) result) (sym e)
-    (subst (λ (o : Option _). HasCause failed (faults old) (unwrap_or (option_map faults o) 0) result) (sym (replaced_at sites at new l)) h)
+    subst (λ (o : Option _). HasCountedFault failed (unwrap_or (option_map faults o) 0) (unwrap_or (option_map faults (slice_get (set sites at new) at)) 0) result) (sym e)
+    (subst (λ (o : Option _). HasCountedFault failed (faults old) (unwrap_or (option_map faults o) 0) result) (sym (replaced_at sites at new l)) h)

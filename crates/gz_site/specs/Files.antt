@@ -5,8 +5,8 @@ use Rattle.gz_site.specs.declared.shelves.ShelfError.{ShelfError}
 use Rattle.gz_site.specs.declared.shelves.ShelfError.TheVariants.{Failed, NoSuch, TooLarge, NoMemory}
 
 -- the file is not longer than the limit, and it is given whole
-abbrev pub Fits : Option (List ℕ) → ℕ → List ℕ → Type 0
-Fits file limit bytes = (file ≡ Some bytes) × (length bytes ≤ limit)
+abbrev pub FitsLimit : Option (List ℕ) → ℕ → List ℕ → Type 0
+FitsLimit file limit bytes = (file ≡ Some bytes) × (length bytes ≤ limit)
 
 -- the file is there and is longer than the limit
 abbrev pub Exceeds : Option (List ℕ) → ℕ → Type 0
@@ -15,7 +15,7 @@ Exceeds (Some bytes) limit = limit < length bytes
 
 -- what a read answers over the file that is there, and over none
 abbrev pub ReadsOne : Option (List ℕ) → ℕ → Result (Vec ℕ Global) ShelfError → Type 0
-ReadsOne file limit (Ok bytes) = Fits file limit bytes.items
+ReadsOne file limit (Ok bytes) = FitsLimit file limit bytes.items
 ReadsOne file limit (Err Failed) = Unit {0}
 ReadsOne file limit (Err NoSuch) = file ≡ None
 ReadsOne file limit (Err TooLarge) = Exceeds file limit

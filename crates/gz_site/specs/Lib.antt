@@ -1,6 +1,6 @@
-pub mod Told
-pub mod Steps
-pub mod Memory
-pub mod Many
 pub mod Files
+pub mod Many
+pub mod Memory
 pub mod MemoryFiles
+pub mod Steps
+pub mod Told

@@ -6,8 +6,8 @@ use Rattle.gz_site.specs.declared.memory_files.MemShelf.{MemShelf}
 use Rattle.gz_site.specs.declared.memory_files.MemSink.{MemSink}
 
 -- whether a call is among those that fail
-abbrev pub is_listed : List ℕ → ℕ → Bool
-is_listed failing call = list_any (λ listed. listed == call) failing
+abbrev pub is_failing_call : List ℕ → ℕ → Bool
+is_failing_call failing call = list_any (λ listed. listed == call) failing
 
 -- the files by name
 abbrev pub files_of : MemShelf → List ℕ → Option (List ℕ)
@@ -21,8 +21,8 @@ abbrev pub shelf_asked : MemShelf → ℕ
 shelf_asked s = s.calls
 
 -- all bytes that the sink took
-abbrev pub written_of : MemSink → List ℕ
-written_of s = s.written.items
+abbrev pub sink_bytes : MemSink → List ℕ
+sink_bytes s = s.written.items
 
 -- the calls of the sink that fail, and how many it was asked so far
 abbrev pub sink_fails : MemSink → List ℕ

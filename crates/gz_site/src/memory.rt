@@ -1,6 +1,6 @@
 //! A site in memory, which can be made to fail.
 ghost use Rattle.std.specs.Prelude.{ℕ, ◌≡◌, ◌≢◌, ◌+◌, ◌-◌, ◌^◌, ◌<◌, ◌≤◌, Some, None, Ok, Err, All, min};
-ghost use Rattle.gz_core.specs.Causes.{Rose, HasCause};
+ghost use Rattle.gz_core.specs.Causes.{Rose, HasCountedFault};
 ghost use Rattle.gz_site.specs.Told.{Told, Tells, nothing, etag_of};
 ghost use Rattle.gz_site.specs.Steps.{ReadRowStep, WriteRowStep, PutBlobStep, GetBlobStep, DropBlobStep};
 ghost use Rattle.gz_site.specs.Memory.{told_of, memory, listed, asked, fate_of, Stores, ReadNext, WriteNext, PutBlobNext, GetBlobNext, DropBlobNext, Fated};
@@ -159,7 +159,7 @@ impl MemSite {
         }
     }
 
-    // Counts a call, and tells whether it is made to fail.
+    /// Counts a call, and returns whether it is made to fail.
     fn turn(&mut self) -> Option<bool>
         ensures fate { result ≡ fate_of (listed self.old) (asked self.new) }
         ensures counted { asked self.new ≡ min (asked self.old + 1) (2 ^ 64 - 1) }
@@ -173,7 +173,7 @@ impl MemSite {
         }
     }
 
-    // Counts a fault.
+    /// Counts a fault.
     fn fail(&mut self) -> SiteFault
         ensures fault { result ≡ SiteFault.Failed }
         ensures rose { Rose self.old.faults self.new.faults × (self.old.faults ≤ self.new.faults) }
@@ -183,7 +183,7 @@ impl MemSite {
         SiteFault::Failed
     }
 
-    // A fault of the table itself is counted too.
+    /// A fault of the table itself is counted too.
     fn told_fault(&mut self, fault: SiteFault) -> SiteFault
         ensures fault { result ≡ fault }
         ensures rose { fault ≡ SiteFault.Failed → Rose self.old.faults self.new.faults }
@@ -204,7 +204,7 @@ impl Site for MemSite {
 
     fn read_row(&mut self, _alloc: Global, key: &Key) -> Result<RowRead, SiteFault>
         ensures step { Tells (Some (told_of self.old.contents)) (Some (told_of self.new.contents)) (λ old new. ReadRowStep old key.now result new) }
-        ensures cause { HasCause SiteFault.Failed self.old.faults self.new.faults result }
+        ensures cause { HasCountedFault SiteFault.Failed self.old.faults self.new.faults result }
         ensures listed { listed self.new ≡ listed self.old }
         ensures asked { asked self.new ≡ min (asked self.old + 1) (2 ^ 64 - 1) }
         ensures same { memory self.new ≡ memory self.old }
@@ -229,7 +229,7 @@ impl Site for MemSite {
         row: &Row,
     ) -> Result<RowWrite, SiteFault>
         ensures step { Tells (Some (told_of self.old.contents)) (Some (told_of self.new.contents)) (λ old new. WriteRowStep old key.now expect row.now result new) }
-        ensures cause { HasCause SiteFault.Failed self.old.faults self.new.faults result }
+        ensures cause { HasCountedFault SiteFault.Failed self.old.faults self.new.faults result }
         ensures listed { listed self.new ≡ listed self.old }
         ensures asked { asked self.new ≡ min (asked self.old + 1) (2 ^ 64 - 1) }
         ensures fated { Fated (fate_of (listed self.old) (asked self.new)) (memory self.old) (WriteNext (memory self.old) key.now expect row.now) result (memory self.new) }
@@ -250,7 +250,7 @@ impl Site for MemSite {
 
     fn put_blob(&mut self, alloc: Global, name: &BlobName, bytes: &[u8]) -> Result<(), SiteFault>
         ensures step { Tells (Some (told_of self.old.contents)) (Some (told_of self.new.contents)) (λ old new. PutBlobStep old name.now bytes.now result new) }
-        ensures cause { HasCause SiteFault.Failed self.old.faults self.new.faults result }
+        ensures cause { HasCountedFault SiteFault.Failed self.old.faults self.new.faults result }
         ensures listed { listed self.new ≡ listed self.old }
         ensures asked { asked self.new ≡ min (asked self.old + 1) (2 ^ 64 - 1) }
         ensures fated { Fated (fate_of (listed self.old) (asked self.new)) (memory self.old) (PutBlobNext (memory self.old) name.now bytes.now) result (memory self.new) }
@@ -267,7 +267,7 @@ impl Site for MemSite {
 
     fn get_blob(&mut self, alloc: Global, name: &BlobName) -> Result<Option<Vec<u8>>, SiteFault>
         ensures step { Tells (Some (told_of self.old.contents)) (Some (told_of self.new.contents)) (λ old new. GetBlobStep old name.now result new) }
-        ensures cause { HasCause SiteFault.Failed self.old.faults self.new.faults result }
+        ensures cause { HasCountedFault SiteFault.Failed self.old.faults self.new.faults result }
         ensures listed { listed self.new ≡ listed self.old }
         ensures asked { asked self.new ≡ min (asked self.old + 1) (2 ^ 64 - 1) }
         ensures same { memory self.new ≡ memory self.old }
@@ -285,7 +285,7 @@ impl Site for MemSite {
 
     fn drop_blob(&mut self, _alloc: Global, name: &BlobName) -> Result<bool, SiteFault>
         ensures step { Tells (Some (told_of self.old.contents)) (Some (told_of self.new.contents)) (λ old new. DropBlobStep old name.now result new) }
-        ensures cause { HasCause SiteFault.Failed self.old.faults self.new.faults result }
+        ensures cause { HasCountedFault SiteFault.Failed self.old.faults self.new.faults result }
         ensures listed { listed self.new ≡ listed self.old }
         ensures asked { asked self.new ≡ min (asked self.old + 1) (2 ^ 64 - 1) }
         ensures fated { Fated (fate_of (listed self.old) (asked self.new)) (memory self.old) (DropBlobNext (memory self.old) name.now) result (memory self.new) }

@@ -1,6 +1,6 @@
 //! A shelf: files that are read whole, by their names.
 ghost use Rattle.std.specs.Prelude.{ℕ, ◌≡◌, ◌≤◌, List, Option, length, IfOk};
-ghost use Rattle.gz_core.specs.Causes.{HasCause};
+ghost use Rattle.gz_core.specs.Causes.{HasCountedFault};
 ghost use Rattle.gz_site.specs.Files.{ReadsFile};
 
 use std::alloc::Global;
@@ -33,7 +33,7 @@ pub trait Shelf {
         ensures file { ReadsFile (files self.old) name.now limit result }
         ensures same { files self.new ≡ files self.old }
         ensures within { IfOk result (λ bytes. length bytes.items ≤ limit) }
-        ensures failed { HasCause ShelfError.Failed (faults self.old) (faults self.new) result }
-        ensures absent { HasCause ShelfError.NoSuch (absences self.old) (absences self.new) result }
-        ensures excess { HasCause ShelfError.TooLarge (excesses self.old) (excesses self.new) result };
+        ensures failed { HasCountedFault ShelfError.Failed (faults self.old) (faults self.new) result }
+        ensures absent { HasCountedFault ShelfError.NoSuch (absences self.old) (absences self.new) result }
+        ensures excess { HasCountedFault ShelfError.TooLarge (excesses self.old) (excesses self.new) result };
 }

@@ -1,7 +1,7 @@
 //! A site: a table of rows with a read that gives an entity tag, and a write that is conditional on one, and a table of
 //! blobs.
 ghost use Rattle.std.specs.Prelude.{ℕ, Option};
-ghost use Rattle.gz_core.specs.Causes.{HasCause};
+ghost use Rattle.gz_core.specs.Causes.{HasCountedFault};
 ghost use Rattle.gz_site.specs.Told.{Told, Tells};
 ghost use Rattle.gz_site.specs.Steps.{ReadRowStep, WriteRowStep, PutBlobStep, GetBlobStep, DropBlobStep};
 
@@ -46,7 +46,7 @@ pub trait Site: Drop {
     /// Reads the row of a key with its tag.
     fn read_row(&mut self, alloc: Global, key: &Key) -> Result<RowRead, SiteFault>
         ensures step { Tells (told self.old) (told self.new) (λ old new. ReadRowStep old key.now result new) }
-        ensures cause { HasCause SiteFault.Failed (faults self.old) (faults self.new) result };
+        ensures cause { HasCountedFault SiteFault.Failed (faults self.old) (faults self.new) result };
 
     /// Writes the row of a key where the stored tag is `expect`, none standing for no row.
     fn write_row_if(
@@ -57,20 +57,20 @@ pub trait Site: Drop {
         row: &Row,
     ) -> Result<RowWrite, SiteFault>
         ensures step { Tells (told self.old) (told self.new) (λ old new. WriteRowStep old key.now expect row.now result new) }
-        ensures cause { HasCause SiteFault.Failed (faults self.old) (faults self.new) result };
+        ensures cause { HasCountedFault SiteFault.Failed (faults self.old) (faults self.new) result };
 
     /// Stores bytes under a blob's name, in place of those that stood there.
     fn put_blob(&mut self, alloc: Global, name: &BlobName, bytes: &[u8]) -> Result<(), SiteFault>
         ensures step { Tells (told self.old) (told self.new) (λ old new. PutBlobStep old name.now bytes.now result new) }
-        ensures cause { HasCause SiteFault.Failed (faults self.old) (faults self.new) result };
+        ensures cause { HasCountedFault SiteFault.Failed (faults self.old) (faults self.new) result };
 
     /// The bytes of a blob, if there is one of this name.
     fn get_blob(&mut self, alloc: Global, name: &BlobName) -> Result<Option<Vec<u8>>, SiteFault>
         ensures step { Tells (told self.old) (told self.new) (λ old new. GetBlobStep old name.now result new) }
-        ensures cause { HasCause SiteFault.Failed (faults self.old) (faults self.new) result };
+        ensures cause { HasCountedFault SiteFault.Failed (faults self.old) (faults self.new) result };
 
     /// Takes a blob away, and tells whether there was one of this name.
     fn drop_blob(&mut self, alloc: Global, name: &BlobName) -> Result<bool, SiteFault>
         ensures step { Tells (told self.old) (told self.new) (λ old new. DropBlobStep old name.now result new) }
-        ensures cause { HasCause SiteFault.Failed (faults self.old) (faults self.new) result };
+        ensures cause { HasCountedFault SiteFault.Failed (faults self.old) (faults self.new) result };
 }

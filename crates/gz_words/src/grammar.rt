@@ -2,7 +2,7 @@
 ghost use Rattle.std.specs.Prelude.{◌≡◌, ◌&&◌, IfSome, map, option_map};
 ghost use Rattle.std.specs.Char.{is_ascii_hexdigit};
 ghost use Rattle.std.specs.List.{list_all, list_any};
-ghost use Rattle.gz_words.specs.Words.{task_in, task_of, form_of, replay_in, code_in, is_option, is_shape, is_hex, IsSound};
+ghost use Rattle.gz_words.specs.Words.{task_in, task_of, form_of, replay_in, code_in, is_option, is_shape, is_hex, IsWellFormed};
 
 use crate::command::Command;
 use gz_lines::fields::number;
@@ -10,7 +10,7 @@ use gz_lines::fields::number;
 /// What the words ask for, none where they are of no form. A word that begins with a dash is of no form.
 pub fn own_reading<'a>(words: &[&'a str]) -> Option<Command<'a>>
     ensures exact { option_map task_of result ≡ task_in (map (λ word. word.now) words.now) }
-    ensures sound { IfSome result IsSound }
+    ensures sound { IfSome result IsWellFormed }
 {
     if has_option(words) {
         None
@@ -19,7 +19,7 @@ pub fn own_reading<'a>(words: &[&'a str]) -> Option<Command<'a>>
     }
 }
 
-// Whether a word begins with a dash.
+/// Whether a word begins with a dash.
 fn has_option(words: &[&str]) -> bool
     ensures { result ≡ list_any is_option (map (λ word. word.now) words.now) }
 {
@@ -40,11 +40,11 @@ fn is_option(word: &str) -> bool
     }
 }
 
-// What words without a dash ask for: `replay SCHEDULE`, `replay SCHEDULE CONFIG`, `code K M HEX`.
+/// What words without a dash ask for: `replay SCHEDULE`, `replay SCHEDULE CONFIG`, `code K M HEX`.
 #[tactic(auto, using(crate::proofs::Forms::no_form))]
 fn form_of<'a>(words: &[&'a str]) -> Option<Command<'a>>
     ensures exact { option_map task_of result ≡ form_of (map (λ word. word.now) words.now) }
-    ensures sound { IfSome result IsSound }
+    ensures sound { IfSome result IsWellFormed }
 {
     match words {
         [] => None,
@@ -58,7 +58,7 @@ fn form_of<'a>(words: &[&'a str]) -> Option<Command<'a>>
 
 fn replay<'a>(verb: &str, schedule: &'a str, config: Option<&'a str>) -> Option<Command<'a>>
     ensures exact { option_map task_of result ≡ replay_in verb.now schedule.now (option_map (λ name. name.now) config.entry) }
-    ensures sound { IfSome result IsSound }
+    ensures sound { IfSome result IsWellFormed }
 {
     if verb == "replay" {
         Some(Command::Replay { schedule, config })
@@ -69,7 +69,7 @@ fn replay<'a>(verb: &str, schedule: &'a str, config: Option<&'a str>) -> Option<
 
 fn code<'a>(verb: &str, k: &str, m: &str, digits: &'a str) -> Option<Command<'a>>
     ensures exact { option_map task_of result ≡ code_in verb.now k.now m.now digits.now }
-    ensures sound { IfSome result IsSound }
+    ensures sound { IfSome result IsWellFormed }
 {
     if verb != "code" {
         return None;
@@ -88,14 +88,14 @@ fn code<'a>(verb: &str, k: &str, m: &str, digits: &'a str) -> Option<Command<'a>
     }
 }
 
-// Whether there is at least one data piece, and there are at most 256 pieces.
+/// Whether there is at least one data piece, and there are at most 256 pieces.
 fn is_shape(k: u32, m: u32) -> bool
     ensures { result ≡ is_shape k m }
 {
     k >= 1 && k as u64 + m as u64 <= 256
 }
 
-// Whether these are an even number of hexadecimal digits.
+/// Whether these are an even number of hexadecimal digits.
 fn is_hex(digits: &[u8]) -> bool
     ensures { result ≡ is_hex digits.now }
 {

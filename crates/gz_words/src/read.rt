@@ -1,6 +1,6 @@
 //! The words of the command line are read.
 ghost use Rattle.std.specs.Prelude.{◌≡◌, true, IfOk, IfSome, map, option_map};
-ghost use Rattle.gz_words.specs.Words.{task_in, task_of, IsSound};
+ghost use Rattle.gz_words.specs.Words.{task_in, task_of, IsWellFormed};
 
 use crate::command::Command;
 use crate::grammar::own_reading;
@@ -26,7 +26,7 @@ pub fn command_of<'a>(
     words: &'a [&'a str],
 ) -> Result<Option<Command<'a>>, AllocError>
     ensures exact { IfOk result (λ command. option_map task_of command ≡ task_in (map (λ word. word.now) words.now)) }
-    ensures sound { IfOk result (λ command. IfSome command IsSound) }
+    ensures sound { IfOk result (λ command. IfSome command IsWellFormed) }
 {
     let Some(own) = own_reading(words) else {
         return Ok(None);
@@ -43,7 +43,7 @@ pub fn command_of<'a>(
     }
 }
 
-// Whether the words are the same.
+/// Whether the words are the same.
 fn are_same(read: &[&str], words: &[&str]) -> bool
     ensures { result ≡ true → map (λ word. word.now) read.now ≡ map (λ word. word.now) words.now }
 {

@@ -1,4 +1,4 @@
--- A reply tells of a fault only where its site counted one.
+-- A reply reports a fault only where its site counted one.
 use Rattle.std.proofs.Common.{◌≡◌, ℕ, ◌+◌, ◌-◌, ◌≤◌, List, [], ◌∷◌, ◌++◌, Bool, true, false, Some, None, length, map, ap, sym, ◌∙◌, subst, length-append, arith}
 use Rattle.std.specs.Prelude.{Option, is_none, if◌then◌else◌, slice_get, slice_set}
 use Rattle.std.proofs.lemmas.Option.{some_pair_parts}
@@ -16,7 +16,7 @@ use Rattle.gz_world.specs.Steps.{quiet}
 use Rattle.gz_world.specs.declared.events.Effect.{Effect}
 use Rattle.gz_world.specs.declared.events.Outcome.{Outcome}
 use Rattle.gz_world.specs.declared.events.Outcome.TheVariants as outcomes
-use Rattle.gz_round.specs.History.{Tale}
+use Rattle.gz_round.specs.History.{Trace}
 use Rattle.gz_site.specs.Told.{Told}
 use Rattle.gz_world.specs.Bridge.{state_of}
 use Rattle.gz_world.specs.Refusals.{refusal_of}
@@ -82,10 +82,10 @@ other_counts faults old new event other is none = λ n e.
     cc
 
 -- a delivery that was skipped
-pub skipped_counts : {S : Type 0} (told : S → Option Told) (faults : S → ℕ) (w : World S) (tales : ℕ → List Tale) (event : Event) (why : Skip) → Some why ≡ refusal_of (state_of told tales w) event → IsCountedAfter faults w event w
-skipped_counts told faults w tales event why is = λ n e r tick there last.
-    let none : refusal_of (state_of told tales w) (events.Deliver n) ≡ None = ap (λ o. if is_none o then Some skips.NoRequest else None) there in
-    let bad : Some why ≡ None = is ∙ ap (refusal_of (state_of told tales w)) e ∙ none in
+pub skipped_counts : {S : Type 0} (told : S → Option Told) (faults : S → ℕ) (w : World S) (traces : ℕ → List Trace) (event : Event) (why : Skip) → Some why ≡ refusal_of (state_of told traces w) event → IsCountedAfter faults w event w
+skipped_counts told faults w traces event why is = λ n e r tick there last.
+    let none : refusal_of (state_of told traces w) (events.Deliver n) ≡ None = ap (λ o. if is_none o then Some skips.NoRequest else None) there in
+    let bad : Some why ≡ None = is ∙ ap (refusal_of (state_of told traces w)) e ∙ none in
     cc
 
 -- what comes after, and leaves sites and requests alone

@@ -4,9 +4,9 @@ use Rattle.std.specs.Prelude.{slice_get, slice_set}
 use Rattle.gz_core.specs.Names.{Name}
 use Rattle.gz_core.specs.declared.calls.Call.{Call}
 use Rattle.gz_core.specs.declared.requests.Turn.{Turn}
-use Rattle.gz_round.specs.History.{Asked, Moment, Tale}
+use Rattle.gz_round.specs.History.{Asked, Action, Trace}
 use Rattle.gz_client.specs.declared.client.Client.{Client}
-use Rattle.gz_client.specs.Tales.{Begins, Extends, IsSameClient}
+use Rattle.gz_client.specs.Traces.{Begins, Extends, IsSameClient}
 use Rattle.gz_history.specs.declared.record.CallRec.{CallRec}
 use Rattle.gz_world.specs.States.{RequestAt, request_of, numbered, sent_requests, end_at}
 use Rattle.gz_world.specs.Weights.{capped, call_bytes, outs_weight}
@@ -28,13 +28,13 @@ pub record IsMarked {S : Type 0} (room mid : World S) (n : ℕ) (marked : Reques
   pub held : mid.held ≡ room.held
   pub net : map request_of mid.net.items ≡ slice_set (map request_of room.net.items) (n - 1) marked
 
-pub told_parts : {S : Type 0} (old room mid new : World S) (n : ℕ) (r marked : RequestAt) (moment : Asked → Moment) (m : Member) (last : ℕ) (c : CallRec) (client : Client) (turn : Turn) (first tick : ℕ) (effect : Effect)
+pub told_parts : {S : Type 0} (old room mid new : World S) (n : ℕ) (r marked : RequestAt) (action : Asked → Action) (m : Member) (last : ℕ) (c : CallRec) (client : Client) (turn : Turn) (first tick : ℕ) (effect : Effect)
     → IsSameWorld old room → IsMarked room mid n marked → first ≡ length (map request_of old.net.items) + 1 → tick ≡ length old.journal.items + 1
     → numbered (map request_of old.net.items) n ≡ Some r → slice_get old.clients.items (r.name.session - 1) ≡ Some m → m.last ≡ Some last → slice_get old.calls.items last ≡ Some c
-    → Extends m.client client n first moment turn → IsSameClient m.client client
+    → Extends m.client client n first action turn → IsSameClient m.client client
     → WentOn mid new r.name.session tick m last c client turn → effect ≡ effect_of first r.name.session turn
-    → ToldBy old new n r marked moment m last c client turn effect
-told_parts old room mid new n r marked moment m last c client turn first tick effect same mark first_is tick_is request member last_is record_is extends same_client went effect_is =
+    → ToldBy old new n r marked action m last c client turn effect
+told_parts old room mid new n r marked action m last c client turn first tick effect same mark first_is tick_is request member last_is record_is extends same_client went effect_is =
     let clients : mid.clients.items ≡ old.clients.items = ap (λ v. v.items) mark.clients ∙ same.clients in
     let calls : mid.calls.items ≡ old.calls.items = ap (λ v. v.items) mark.calls ∙ same.calls in
     let journal : mid.journal ≡ old.journal = mark.journal ∙ same.rest.journal in
@@ -44,7 +44,7 @@ told_parts old room mid new n r marked moment m last c client turn first tick ef
       member = member;
       last_is = last_is;
       record_is = record_is;
-      extends = subst (λ k. Extends m.client client n k moment turn) first_is extends;
+      extends = subst (λ k. Extends m.client client n k action turn) first_is extends;
       same = same_client;
       clients = went.clients ∙ ap (λ xs. slice_set xs (r.name.session - 1) (let k : Member = record { client = client; crashed = m.crashed; last = Some last } in k)) clients;
       calls = went.calls ∙ ap (λ xs. slice_set xs last (answered tick turn.answer c)) calls ∙ ap (λ t. slice_set old.calls.items last (answered t turn.answer c)) tick_is;
@@ -64,7 +64,7 @@ pub began_parts : {S : Type 0} (old room new : World S) (session : ℕ) (call ke
     → IsSameWorld old room → first ≡ length (map request_of old.net.items) + 1 → tick ≡ length old.journal.items + 1 → 1 ≤ session → kept ≡ call
     → slice_get old.clients.items (session - 1) ≡ Some m
     → Begins m.client client first call turn → IsSameClient m.client client
-    → ((tales : ℕ → List Tale) → Fits tales old → name ≡ record { session = session; seq = length (tales session) + 1 })
+    → ((traces : ℕ → List Trace) → Fits traces old → name ≡ record { session = session; seq = length (traces session) + 1 })
     → Started room new session name tick kept m client turn → effect ≡ effect_of first session turn
     → BeganBy old new session call m client turn name effect
 began_parts old room new session call kept m client turn name first tick effect same first_is tick_is opened kept_is member holds same_client name_is started effect_is = record {

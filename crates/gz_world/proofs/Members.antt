@@ -7,8 +7,8 @@ use Rattle.std.specs.Prelude.{Option, IsSome, option_map, ◌==◌, if◌then◌
 use Rattle.std.specs.Option.{ForSome, option_map_or}
 use Rattle.gz_core.specs.declared.calls.Answer.{Answer}
 use Rattle.gz_config.specs.declared.Config.{Config}
-use Rattle.gz_round.specs.History.{Tale}
-use Rattle.gz_client.specs.Tales.{Holds, AreTold, IsRunning}
+use Rattle.gz_round.specs.History.{Trace}
+use Rattle.gz_client.specs.Traces.{Holds, AllKeepRules, IsRunning}
 use Rattle.gz_history.specs.declared.record.CallRec.{CallRec}
 use Rattle.gz_world.specs.States.{request_of, numbered}
 use Rattle.gz_world.specs.Refusals.{is_running, is_live}
@@ -67,17 +67,17 @@ pub numbered_none : {A : Type 0} (xs : List A) (n : ℕ) → None ≡ numbered x
 numbered_none xs zero h = inl refl
 numbered_none xs (suc n) h = elim (none_past xs n (h ∙ numbered_suc xs n)) [ inl z ↦ absurd (omega (arith, z)) | inr l ↦ inr (omega (arith, l)) ]
 
--- the client of a session stands for its tales
-pub member_stands : {S : Type 0} {events : ℕ} (w : World S) (tales : ℕ → List Tale) (n : ℕ) (m : Member) → FitsBy events tales w → numbered w.clients.items n ≡ Some m → StandsFor w.cfg (length (map request_of w.net.items) + 1) w.calls.items n m (tales n)
-member_stands w tales n m fits h =
+-- the client of a session stands for its traces
+pub member_stands : {S : Type 0} {events : ℕ} (w : World S) (traces : ℕ → List Trace) (n : ℕ) (m : Member) → FitsBy events traces w → numbered w.clients.items n ≡ Some m → StandsFor w.cfg (length (map request_of w.net.items) + 1) w.calls.items n m (traces n)
+member_stands w traces n m fits h =
     let p = numbered_place w.clients.items n m h in
     let l = p.0 in
     let e : n - 1 + 1 ≡ n = omega (arith, l) in
-    subst (λ k. StandsFor w.cfg (length (map request_of w.net.items) + 1) w.calls.items k m (tales k)) e (fits.clients (n - 1) m p.1)
+    subst (λ k. StandsFor w.cfg (length (map request_of w.net.items) + 1) w.calls.items k m (traces k)) e (fits.clients (n - 1) m p.1)
 
--- a session that isn't there has no tales
-pub no_tales : {S : Type 0} {events : ℕ} (w : World S) (tales : ℕ → List Tale) (n : ℕ) → FitsBy events tales w → None ≡ numbered w.clients.items n → tales n ≡ []
-no_tales w tales n fits h = elim (numbered_none w.clients.items n h) [ inl e ↦ ap tales e ∙ fits.zeroth | inr l ↦ fits.unopened n l ]
+-- a session that isn't there has no traces
+pub no_traces : {S : Type 0} {events : ℕ} (w : World S) (traces : ℕ → List Trace) (n : ℕ) → FitsBy events traces w → None ≡ numbered w.clients.items n → traces n ≡ []
+no_traces w traces n fits h = elim (numbered_none w.clients.items n h) [ inl e ↦ ap traces e ∙ fits.zeroth | inr l ↦ fits.unopened n l ]
 
 runs_by : (b : Bool) (o : Option Answer) → (IsTrue b ↔ (o ≡ None)) → b ≡ is_none o
 runs_by true None h = refl
@@ -85,51 +85,51 @@ runs_by false None h = let k : false ≡ true = h.1 refl in cc
 runs_by true (Some a) h = let k : Some a ≡ None = h.0 refl in cc
 runs_by false (Some a) h = refl
 
-runs_of : (b : Bool) (ts : List Tale) → (IsTrue b ↔ IsRunning ts) → b ≡ is_running ts
+runs_of : (b : Bool) (ts : List Trace) → (IsTrue b ↔ IsRunning ts) → b ≡ is_running ts
 runs_of true [] h = absurd (h.0 refl)
 runs_of false [] h = refl
 runs_of b (t ∷ ts) h = runs_by b t.answer h
 
 -- whether a session's call runs
-pub busy_there : {S : Type 0} (w : World S) (tales : ℕ → List Tale) (n : ℕ) (m : Member) (b : Bool) → Fits tales w → numbered w.clients.items n ≡ Some m → ((next : ℕ) (ts : List Tale) → Holds m.client next ts → (IsTrue b ↔ IsRunning ts)) → b ≡ is_running (tales n)
-busy_there w tales n m b fits h runs = let s = member_stands w tales n m fits h in runs_of b (tales n) (runs s.next (tales n) s.holds)
+pub busy_there : {S : Type 0} (w : World S) (traces : ℕ → List Trace) (n : ℕ) (m : Member) (b : Bool) → Fits traces w → numbered w.clients.items n ≡ Some m → ((next : ℕ) (ts : List Trace) → Holds m.client next ts → (IsTrue b ↔ IsRunning ts)) → b ≡ is_running (traces n)
+busy_there w traces n m b fits h runs = let s = member_stands w traces n m fits h in runs_of b (traces n) (runs s.next (traces n) s.holds)
 
-pub busy_none : {S : Type 0} (w : World S) (tales : ℕ → List Tale) (n : ℕ) → Fits tales w → None ≡ numbered w.clients.items n → false ≡ is_running (tales n)
-busy_none w tales n fits h = sym (ap is_running (no_tales w tales n fits h))
+pub busy_none : {S : Type 0} (w : World S) (traces : ℕ → List Trace) (n : ℕ) → Fits traces w → None ≡ numbered w.clients.items n → false ≡ is_running (traces n)
+busy_none w traces n fits h = sym (ap is_running (no_traces w traces n fits h))
 
 -- whether a request is live
-pub live_there : {S : Type 0} (w : World S) (tales : ℕ → List Tale) (n : ℕ) (m : Member) (k : ℕ) (b : Bool) → Fits tales w → numbered w.clients.items n ≡ Some m → ((next : ℕ) (ts : List Tale) → Holds m.client next ts → b ≡ is_live m.client.config ts k) → b ≡ is_live w.cfg (tales n) k
-live_there w tales n m k b fits h lives = let s = member_stands w tales n m fits h in lives s.next (tales n) s.holds ∙ ap (λ c. is_live c (tales n) k) s.config_is
+pub live_there : {S : Type 0} (w : World S) (traces : ℕ → List Trace) (n : ℕ) (m : Member) (k : ℕ) (b : Bool) → Fits traces w → numbered w.clients.items n ≡ Some m → ((next : ℕ) (ts : List Trace) → Holds m.client next ts → b ≡ is_live m.client.config ts k) → b ≡ is_live w.cfg (traces n) k
+live_there w traces n m k b fits h lives = let s = member_stands w traces n m fits h in lives s.next (traces n) s.holds ∙ ap (λ c. is_live c (traces n) k) s.config_is
 
-pub live_none : {S : Type 0} (w : World S) (tales : ℕ → List Tale) (n k : ℕ) → Fits tales w → None ≡ numbered w.clients.items n → false ≡ is_live w.cfg (tales n) k
-live_none w tales n k fits h = sym (ap (λ ts. is_live w.cfg ts k) (no_tales w tales n fits h))
+pub live_none : {S : Type 0} (w : World S) (traces : ℕ → List Trace) (n k : ℕ) → Fits traces w → None ≡ numbered w.clients.items n → false ≡ is_live w.cfg (traces n) k
+live_none w traces n k fits h = sym (ap (λ ts. is_live w.cfg ts k) (no_traces w traces n fits h))
 
 -- the number of the last call of a session counts its calls
 abbrev pub seq_of : List CallRec → Option ℕ → ℕ
 seq_of calls last = option_map_or (λ i. option_map_or (λ (c : CallRec). c.name.seq) (slice_get calls i) 0) last 0
 
-pub last_there : (calls : List CallRec) (o : Option ℕ) (ts : List Tale) → IsLast calls o ts → ForSome o (λ i. i < length calls)
+pub last_there : (calls : List CallRec) (o : Option ℕ) (ts : List Trace) → IsLast calls o ts → ForSome o (λ i. i < length calls)
 last_there calls None ts h = λ x e. cc
 last_there calls (Some i) ts h = λ x e. let q : i ≡ x = cc in subst (λ k. k < length calls) q (get_below calls i h.0 h.1.1.1.0)
 
-seq_counts : (c : Config) (session : ℕ) (calls : List CallRec) (o : Option ℕ) (ts : List Tale) → IsLast calls o ts → AreTold c session ts → seq_of calls o ≡ length ts
+seq_counts : (c : Config) (session : ℕ) (calls : List CallRec) (o : Option ℕ) (ts : List Trace) → IsLast calls o ts → AllKeepRules c session ts → seq_of calls o ≡ length ts
 seq_counts c session calls None ts h told = sym (ap length h)
 seq_counts c session calls (Some i) ts h told =
-    let told' : AreTold c session (h.1.0 ∷ h.1.1.0) = subst (AreTold c session) h.1.1.1.1.0 told in
+    let told' : AllKeepRules c session (h.1.0 ∷ h.1.1.0) = subst (AllKeepRules c session) h.1.1.1.1.0 told in
     let len : length ts ≡ length h.1.1.0 + 1 = ap length h.1.1.1.1.0 ∙ omega arith in
     ap (λ o. option_map_or (λ (c : CallRec). c.name.seq) o 0) h.1.1.1.0 ∙ ap (λ n. n.seq) h.1.1.1.1.1 ∙ ap (λ n. n.seq) told'.1 ∙ sym len
 
 -- the number of the last call, by what the client stands for
-pub seq_stands : (cfg : Config) (first : ℕ) (calls : List CallRec) (session : ℕ) (m : Member) (ts : List Tale) → StandsFor cfg first calls session m ts → seq_of calls m.last ≡ length ts
+pub seq_stands : (cfg : Config) (first : ℕ) (calls : List CallRec) (session : ℕ) (m : Member) (ts : List Trace) → StandsFor cfg first calls session m ts → seq_of calls m.last ≡ length ts
 seq_stands cfg first calls session m ts s = seq_counts m.client.config m.client.session calls m.last ts s.last_is s.holds.told
 
 -- the same of the client at a place
-pub next_seq : {S : Type 0} (w : World S) (tales : ℕ → List Tale) (session : ℕ) (m : Member) → Fits tales w → 1 ≤ session → slice_get w.clients.items (session - 1) ≡ Some m → (seq_of w.calls.items m.last ≡ length (tales session)) × ForSome m.last (λ i. i < length w.calls.items)
-next_seq w tales session m fits opened there =
-    let s = member_stands w tales session m fits (place_numbered w.clients.items session m opened there) in
-    (seq_stands w.cfg (length (map request_of w.net.items) + 1) w.calls.items session m (tales session) s, last_there w.calls.items m.last (tales session) s.last_is)
+pub next_seq : {S : Type 0} (w : World S) (traces : ℕ → List Trace) (session : ℕ) (m : Member) → Fits traces w → 1 ≤ session → slice_get w.clients.items (session - 1) ≡ Some m → (seq_of w.calls.items m.last ≡ length (traces session)) × ForSome m.last (λ i. i < length w.calls.items)
+next_seq w traces session m fits opened there =
+    let s = member_stands w traces session m fits (place_numbered w.clients.items session m opened there) in
+    (seq_stands w.cfg (length (map request_of w.net.items) + 1) w.calls.items session m (traces session) s, last_there w.calls.items m.last (traces session) s.last_is)
 
--- the name of the last call of a session is that of its newest tale
-pub names_last : (calls : List CallRec) (o : Option ℕ) (ts : List Tale) → IsLast calls o ts → name_at calls o ≡ last_name ts
+-- the name of the last call of a session is that of its newest trace
+pub names_last : (calls : List CallRec) (o : Option ℕ) (ts : List Trace) → IsLast calls o ts → name_at calls o ≡ last_name ts
 names_last calls None ts h = sym (ap last_name h)
 names_last calls (Some i) ts h = ap (option_map (λ (c : CallRec). c.name)) h.1.1.1.0 ∙ ap Some h.1.1.1.1.1 ∙ sym (ap last_name h.1.1.1.1.0)

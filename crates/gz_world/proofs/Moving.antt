@@ -5,8 +5,8 @@ use Rattle.std.proofs.lemmas.Bool.{cases_eq}
 use Rattle.std.proofs.lemmas.Bool.Decides.{nat_tests}
 use Rattle.gz_core.specs.Configurations.{IsConfig}
 use Rattle.gz_config.specs.declared.Config.{Config}
-use Rattle.gz_round.specs.History.{Tale}
-use Rattle.gz_client.specs.Tales.{Holds}
+use Rattle.gz_round.specs.History.{Trace}
+use Rattle.gz_client.specs.Traces.{Holds}
 use Rattle.gz_site.specs.Told.{Told}
 use Rattle.gz_site.specs.Many.{told_at}
 use Rattle.gz_world.specs.States.{request_of, with_reply}
@@ -32,8 +32,8 @@ pub record IsKeptOf {S : Type 0} (old new : World S) : Type 0 where
   pub count : length (map request_of new.net.items) ≡ length (map request_of old.net.items)
   pub held : old.held ≤ new.held
 
-pub fits_kept : {S : Type 0} (old new : World S) (tales : ℕ → List Tale) (events : ℕ) → Fits tales old → length old.journal.items ≤ events → events ≤ 4000000 → IsKeptOf old new → FitsBy events tales new
-fits_kept old new tales events fits le bounded k =
+pub fits_kept : {S : Type 0} (old new : World S) (traces : ℕ → List Trace) (events : ℕ) → Fits traces old → length old.journal.items ≤ events → events ≤ 4000000 → IsKeptOf old new → FitsBy events traces new
+fits_kept old new traces events fits le bounded k =
     let n : new.cfg.n ≡ old.cfg.n = ap (λ (c : Config). c.n) k.cfg in
     let members : length new.clients.items ≡ length old.clients.items = ap length k.clients in
     let sites = k.sites in
@@ -48,9 +48,9 @@ fits_kept old new tales events fits le bounded k =
       sites = omega (arith, n, sites, enough);
       requests = subst (λ q. ArePlaced q (length new.clients.items) (map request_of new.net.items)) (sym n) (subst (λ q. ArePlaced old.cfg.n q (map request_of new.net.items)) (sym members) k.requests);
       clients = λ i m h.
-          subst (λ q. StandsFor new.cfg q new.calls.items (i + 1) m (tales (i + 1))) (ap (λ q. q + 1) (sym count))
-          (subst (λ q. StandsFor new.cfg (length (map request_of old.net.items) + 1) q (i + 1) m (tales (i + 1))) (sym k.calls)
-          (subst (λ q. StandsFor q (length (map request_of old.net.items) + 1) old.calls.items (i + 1) m (tales (i + 1))) (sym k.cfg)
+          subst (λ q. StandsFor new.cfg q new.calls.items (i + 1) m (traces (i + 1))) (ap (λ q. q + 1) (sym count))
+          (subst (λ q. StandsFor new.cfg (length (map request_of old.net.items) + 1) q (i + 1) m (traces (i + 1))) (sym k.calls)
+          (subst (λ q. StandsFor q (length (map request_of old.net.items) + 1) old.calls.items (i + 1) m (traces (i + 1))) (sym k.cfg)
           (fits.clients i m (subst (λ xs. slice_get xs i ≡ Some m) k.clients h))));
       unopened = λ s l. fits.unopened s (omega (arith, l, members));
       zeroth = fits.zeroth;
@@ -61,8 +61,8 @@ fits_kept old new tales events fits le bounded k =
     }
 
 -- nothing was done
-kept_same : {S : Type 0} (told : S → Option Told) (old new : World S) (tales : ℕ → List Tale) → Fits tales old → IsSameTold told old new → IsKeptOf old new
-kept_same told old new tales fits same = let h = same.held in record {
+kept_same : {S : Type 0} (told : S → Option Told) (old new : World S) (traces : ℕ → List Trace) → Fits traces old → IsSameTold told old new → IsKeptOf old new
+kept_same told old new traces fits same = let h = same.held in record {
   cfg = same.cfg;
   sites = same.len;
   clients = same.clients;
@@ -72,13 +72,13 @@ kept_same told old new tales fits same = let h = same.held in record {
   held = omega (arith, h);
 }
 
-pub fits_same : {S : Type 0} (told : S → Option Told) (old new : World S) (tales : ℕ → List Tale) (events : ℕ) → Fits tales old → length old.journal.items ≤ events → events ≤ 4000000 → IsSameTold told old new → FitsBy events tales new
-fits_same told old new tales events fits le bounded same = fits_kept old new tales events fits le bounded (kept_same told old new tales fits same)
+pub fits_same : {S : Type 0} (told : S → Option Told) (old new : World S) (traces : ℕ → List Trace) (events : ℕ) → Fits traces old → length old.journal.items ≤ events → events ≤ 4000000 → IsSameTold told old new → FitsBy events traces new
+fits_same told old new traces events fits le bounded same = fits_kept old new traces events fits le bounded (kept_same told old new traces fits same)
 
-pub state_same : {S : Type 0} (told : S → Option Told) (old new : World S) (tales : ℕ → List Tale) → IsSameTold told old new → SameState (state_of told tales old) (state_of told tales new)
-state_same told old new tales same = record {
+pub state_same : {S : Type 0} (told : S → Option Told) (old new : World S) (traces : ℕ → List Trace) → IsSameTold told old new → SameState (state_of told traces old) (state_of told traces new)
+state_same told old new traces same = record {
   sites = record { sites = same.told_is; casts = same.casts };
-  sessions = record { sessions = ap length same.clients; crashed = λ k. ap (λ xs. crashed_in xs k) same.clients; tales = λ k. refl; calls = same.calls };
+  sessions = record { sessions = ap length same.clients; crashed = λ k. ap (λ xs. crashed_in xs k) same.clients; traces = λ k. refl; calls = same.calls };
   frame = record { cfg = same.cfg; journal = ap (λ v. v.items) same.journal };
   net = same.net;
   held = same.held;
@@ -99,9 +99,9 @@ same_told told old new same = record {
 }
 
 -- a request was performed
-pub delivered_moves : {S : Type 0} (told : S → Option Told) (old new : World S) (tales : ℕ → List Tale) (n : ℕ) (effect : Effect) → Fits tales old → IsSmall old → WasDelivered told old new n effect
-    → FitsBy (length old.journal.items + 1) tales new × Delivers (state_of told tales old) n effect (state_of told tales new)
-delivered_moves told old new tales n effect fits small d =
+pub delivered_moves : {S : Type 0} (told : S → Option Told) (old new : World S) (traces : ℕ → List Trace) (n : ℕ) (effect : Effect) → Fits traces old → IsSmall old → WasDelivered told old new n effect
+    → FitsBy (length old.journal.items + 1) traces new × Delivers (state_of told traces old) n effect (state_of told traces new)
+delivered_moves told old new traces n effect fits small d =
     let r = d.0 in
     let reply = d.1.0 in
     let b = d.1.1 in
@@ -121,7 +121,7 @@ delivered_moves told old new tales n effect fits small d =
       count = ap length b.net ∙ length-set (map request_of old.net.items) (n - 1) marked;
       held = omega (arith, held, light);
     } in (
-      fits_kept old new tales (length old.journal.items + 1) fits (omega arith) (omega (arith, events)) kept,
+      fits_kept old new traces (length old.journal.items + 1) fits (omega arith) (omega (arith, events)) kept,
       (
         r,
         (
@@ -134,7 +134,7 @@ delivered_moves told old new tales n effect fits small d =
             net = b.net;
             casts = b.casts;
             held = b.held;
-            sessions = record { sessions = ap length kept.clients; crashed = λ k. ap (λ xs. crashed_in xs k) kept.clients; tales = λ k. refl; calls = kept.calls };
+            sessions = record { sessions = ap length kept.clients; crashed = λ k. ap (λ xs. crashed_in xs k) kept.clients; traces = λ k. refl; calls = kept.calls };
             frame = record { cfg = kept.cfg; journal = ap (λ v. v.items) b.rest.journal };
             effect_is = b.effect_is;
           },
@@ -143,17 +143,17 @@ delivered_moves told old new tales n effect fits small d =
     )
 
 -- a change of the list of sessions leaves the rest alone
-lists_sites : {S : Type 0} (told : S → Option Told) (old new : World S) (tales : ℕ → List Tale) → ListsUntouched old new → SitesStay (state_of told tales old) (state_of told tales new)
-lists_sites told old new tales rest = record { sites = λ i. ap (λ v. told_at told v.items i) rest.sites; casts = ap (λ c. c.list.items) rest.casts }
+lists_sites : {S : Type 0} (told : S → Option Told) (old new : World S) (traces : ℕ → List Trace) → ListsUntouched old new → SitesStay (state_of told traces old) (state_of told traces new)
+lists_sites told old new traces rest = record { sites = λ i. ap (λ v. told_at told v.items i) rest.sites; casts = ap (λ c. c.list.items) rest.casts }
 
-lists_frame : {S : Type 0} (told : S → Option Told) (old new : World S) (tales : ℕ → List Tale) → ListsUntouched old new → FrameStays (state_of told tales old) (state_of told tales new)
-lists_frame told old new tales rest = record { cfg = rest.cfg; journal = ap (λ v. v.items) rest.journal }
+lists_frame : {S : Type 0} (told : S → Option Told) (old new : World S) (traces : ℕ → List Trace) → ListsUntouched old new → FrameStays (state_of told traces old) (state_of told traces new)
+lists_frame told old new traces rest = record { cfg = rest.cfg; journal = ap (λ v. v.items) rest.journal }
 
 -- the sessions after a change of their list
-fits_lists : {S : Type 0} (old new : World S) (tales : ℕ → List Tale) → Fits tales old → IsSmall old → ListsUntouched old new → length old.clients.items ≤ length new.clients.items → length new.clients.items ≤ length old.clients.items + 1
-    → ((i : ℕ) (m : Member) → slice_get new.clients.items i ≡ Some m → StandsFor old.cfg (length (map request_of old.net.items) + 1) old.calls.items (i + 1) m (tales (i + 1)))
-    → FitsBy (length old.journal.items + 1) tales new
-fits_lists old new tales fits small rest more one stand =
+fits_lists : {S : Type 0} (old new : World S) (traces : ℕ → List Trace) → Fits traces old → IsSmall old → ListsUntouched old new → length old.clients.items ≤ length new.clients.items → length new.clients.items ≤ length old.clients.items + 1
+    → ((i : ℕ) (m : Member) → slice_get new.clients.items i ≡ Some m → StandsFor old.cfg (length (map request_of old.net.items) + 1) old.calls.items (i + 1) m (traces (i + 1)))
+    → FitsBy (length old.journal.items + 1) traces new
+fits_lists old new traces fits small rest more one stand =
     let n : new.cfg.n ≡ old.cfg.n = ap (λ (c : Config). c.n) rest.cfg in
     let sites : length new.sites.items ≡ length old.sites.items = ap (λ v. length v.items) rest.sites in
     let net : map request_of new.net.items ≡ map request_of old.net.items = ap (λ v. map request_of v.items) rest.net in
@@ -173,9 +173,9 @@ fits_lists old new tales fits small rest more one stand =
           let at = p.site in
           record { opened = p.opened; session = omega (arith, s, more); site = omega (arith, at, n) };
       clients = λ i m h.
-          subst (λ q. StandsFor new.cfg q new.calls.items (i + 1) m (tales (i + 1))) (ap (λ q. q + 1) (sym count))
-          (subst (λ q. StandsFor new.cfg (length (map request_of old.net.items) + 1) q (i + 1) m (tales (i + 1))) (sym (ap (λ v. v.items) rest.calls))
-          (subst (λ q. StandsFor q (length (map request_of old.net.items) + 1) old.calls.items (i + 1) m (tales (i + 1))) (sym rest.cfg) (stand i m h)));
+          subst (λ q. StandsFor new.cfg q new.calls.items (i + 1) m (traces (i + 1))) (ap (λ q. q + 1) (sym count))
+          (subst (λ q. StandsFor new.cfg (length (map request_of old.net.items) + 1) q (i + 1) m (traces (i + 1))) (sym (ap (λ v. v.items) rest.calls))
+          (subst (λ q. StandsFor q (length (map request_of old.net.items) + 1) old.calls.items (i + 1) m (traces (i + 1))) (sym rest.cfg) (stand i m h)));
       unopened = λ s l. fits.unopened s (omega (arith, l, more));
       zeroth = fits.zeroth;
       few = λ s. let f = few s in omega (arith, f);
@@ -197,15 +197,15 @@ crashed_opened xs y h (suc n) =
     ap (λ o. unwrap_or (option_map (λ (k : Member). k.crashed) o) false) (numbered_suc (xs ++ y ∷ []) n) ∙ crashed_more xs y h n ∙ sym (ap (λ o. unwrap_or (option_map (λ (k : Member). k.crashed) o) false) (numbered_suc xs n))
 
 -- a session was opened
-pub opened_moves : {S : Type 0} (told : S → Option Told) (old new : World S) (tales : ℕ → List Tale) (effect : Effect) → Fits tales old → IsSmall old → WasOpened old new effect
-    → FitsBy (length old.journal.items + 1) tales new × OpensSession (state_of told tales old) effect (state_of told tales new)
-opened_moves told old new tales effect fits small o =
+pub opened_moves : {S : Type 0} (told : S → Option Told) (old new : World S) (traces : ℕ → List Trace) (effect : Effect) → Fits traces old → IsSmall old → WasOpened old new effect
+    → FitsBy (length old.journal.items + 1) traces new × OpensSession (state_of told traces old) effect (state_of told traces new)
+opened_moves told old new traces effect fits small o =
     let client = o.0 in
     let b = o.1 in
     let member : Member = record { client = client; crashed = false; last = None } in
     let members : length new.clients.items ≡ length old.clients.items + 1 = ap length b.clients ∙ length-append old.clients.items (member ∷ []) in
-    let empty : tales (length old.clients.items + 1) ≡ [] = fits.unopened (length old.clients.items + 1) (omega arith) in
-    let fresh : StandsFor old.cfg (length (map request_of old.net.items) + 1) old.calls.items (length old.clients.items + 1) member (tales (length old.clients.items + 1)) = record {
+    let empty : traces (length old.clients.items + 1) ≡ [] = fits.unopened (length old.clients.items + 1) (omega arith) in
+    let fresh : StandsFor old.cfg (length (map request_of old.net.items) + 1) old.calls.items (length old.clients.items + 1) member (traces (length old.clients.items + 1)) = record {
       next = 0;
       below = omega arith;
       holds = subst (Holds client 0) (sym empty) (b.holds 0);
@@ -213,7 +213,7 @@ opened_moves told old new tales effect fits small o =
       session_is = b.session;
       last_is = empty;
     } in
-    let stand : (i : ℕ) (m : Member) → slice_get new.clients.items i ≡ Some m → StandsFor old.cfg (length (map request_of old.net.items) + 1) old.calls.items (i + 1) m (tales (i + 1)) =
+    let stand : (i : ℕ) (m : Member) → slice_get new.clients.items i ≡ Some m → StandsFor old.cfg (length (map request_of old.net.items) + 1) old.calls.items (i + 1) m (traces (i + 1)) =
     λ i m h. elim (get_of_two old.clients.items (member ∷ []) i m (subst (λ xs. slice_get xs i ≡ Some m) b.clients h)) [
       | inl e ↦ fits.clients i m e
       | inr e ↦
@@ -221,17 +221,17 @@ opened_moves told old new tales effect fits small o =
           let at = e.1.0 in
           let z = q.0 in
           let place : i ≡ length old.clients.items = omega (arith, at, z) in
-          subst (λ k. StandsFor old.cfg (length (map request_of old.net.items) + 1) old.calls.items (k + 1) m (tales (k + 1))) (sym place)
-          (subst (λ k. StandsFor old.cfg (length (map request_of old.net.items) + 1) old.calls.items (length old.clients.items + 1) k (tales (length old.clients.items + 1))) q.1 fresh)
+          subst (λ k. StandsFor old.cfg (length (map request_of old.net.items) + 1) old.calls.items (k + 1) m (traces (k + 1))) (sym place)
+          (subst (λ k. StandsFor old.cfg (length (map request_of old.net.items) + 1) old.calls.items (length old.clients.items + 1) k (traces (length old.clients.items + 1))) q.1 fresh)
     ] in (
-      fits_lists old new tales fits small b.rest (omega (arith, members)) (omega (arith, members)) stand,
+      fits_lists old new traces fits small b.rest (omega (arith, members)) (omega (arith, members)) stand,
       record {
         sessions = members;
         crashed = λ k. ap (λ xs. crashed_in xs k) b.clients ∙ crashed_opened old.clients.items member refl k;
-        tales = λ k. refl;
+        traces = λ k. refl;
         calls = ap (λ v. v.items) b.rest.calls;
-        sites = lists_sites told old new tales b.rest;
-        frame = lists_frame told old new tales b.rest;
+        sites = lists_sites told old new traces b.rest;
+        frame = lists_frame told old new traces b.rest;
         net = ap (λ v. map request_of v.items) b.rest.net;
         held = b.rest.held;
         effect_is = b.effect_is;
@@ -276,14 +276,14 @@ crashed_by xs session m y opened here gone (suc n) =
     ∙ crash_test xs session n opened
 
 -- a session crashed
-pub crashed_moves : {S : Type 0} (told : S → Option Told) (old new : World S) (tales : ℕ → List Tale) (session : ℕ) (effect : Effect) → Fits tales old → IsSmall old → WasCrashed old new session effect
-    → FitsBy (length old.journal.items + 1) tales new × Crashes (state_of told tales old) session effect (state_of told tales new)
-crashed_moves told old new tales session effect fits small o =
+pub crashed_moves : {S : Type 0} (told : S → Option Told) (old new : World S) (traces : ℕ → List Trace) (session : ℕ) (effect : Effect) → Fits traces old → IsSmall old → WasCrashed old new session effect
+    → FitsBy (length old.journal.items + 1) traces new × Crashes (state_of told traces old) session effect (state_of told traces new)
+crashed_moves told old new traces session effect fits small o =
     let m = o.0 in
     let b = o.1 in
     let after : Member = record { client = m.client; crashed = true; last = m.last } in
     let members : length new.clients.items ≡ length old.clients.items = ap length b.clients ∙ length-set old.clients.items (session - 1) after in
-    let stand : (i : ℕ) (k : Member) → slice_get new.clients.items i ≡ Some k → StandsFor old.cfg (length (map request_of old.net.items) + 1) old.calls.items (i + 1) k (tales (i + 1)) =
+    let stand : (i : ℕ) (k : Member) → slice_get new.clients.items i ≡ Some k → StandsFor old.cfg (length (map request_of old.net.items) + 1) old.calls.items (i + 1) k (traces (i + 1)) =
     λ i k h.
     let h' : slice_get (slice_set old.clients.items (session - 1) after) i ≡ Some k = subst (λ xs. slice_get xs i ≡ Some k) b.clients h in
     elim (cases_eq i (session - 1)) [
@@ -292,18 +292,18 @@ crashed_moves told old new tales session effect fits small o =
           let both : Some after ≡ Some k = sym there ∙ h' in
           let same : after ≡ k = cc in
           let s = fits.clients i m (subst (λ j. slice_get old.clients.items j ≡ Some m) (sym e) b.member) in
-          let t : StandsFor old.cfg (length (map request_of old.net.items) + 1) old.calls.items (i + 1) after (tales (i + 1)) = record { next = s.next; below = s.below; holds = s.holds; config_is = s.config_is; session_is = s.session_is; last_is = s.last_is } in
-          subst (λ q. StandsFor old.cfg (length (map request_of old.net.items) + 1) old.calls.items (i + 1) q (tales (i + 1))) same t
+          let t : StandsFor old.cfg (length (map request_of old.net.items) + 1) old.calls.items (i + 1) after (traces (i + 1)) = record { next = s.next; below = s.below; holds = s.holds; config_is = s.config_is; session_is = s.session_is; last_is = s.last_is } in
+          subst (λ q. StandsFor old.cfg (length (map request_of old.net.items) + 1) old.calls.items (i + 1) q (traces (i + 1))) same t
       | inr ne ↦ fits.clients i k (sym (get_set_other old.clients.items (session - 1) i after ne) ∙ h')
     ] in (
-      fits_lists old new tales fits small b.rest (omega (arith, members)) (omega (arith, members)) stand,
+      fits_lists old new traces fits small b.rest (omega (arith, members)) (omega (arith, members)) stand,
       record {
         sessions = members;
         crashed = λ k. ap (λ xs. crashed_in xs k) b.clients ∙ crashed_by old.clients.items session m after b.opened b.member refl k;
-        tales = λ k. refl;
+        traces = λ k. refl;
         calls = ap (λ v. v.items) b.rest.calls;
-        sites = lists_sites told old new tales b.rest;
-        frame = lists_frame told old new tales b.rest;
+        sites = lists_sites told old new traces b.rest;
+        frame = lists_frame told old new traces b.rest;
         net = ap (λ v. map request_of v.items) b.rest.net;
         held = b.rest.held;
         effect_is = b.effect_is;

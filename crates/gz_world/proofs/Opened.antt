@@ -3,7 +3,7 @@ use Rattle.std.proofs.Common.{◌≡◌, ℕ, zero, suc, ◌≤◌, List, [], So
 use Rattle.std.specs.Prelude.{Option, IfSome, slice_get, option_map, unwrap_or}
 use Rattle.gz_core.specs.Configurations.{IsConfig}
 use Rattle.gz_config.specs.declared.Config.{Config}
-use Rattle.gz_round.specs.History.{Tale}
+use Rattle.gz_round.specs.History.{Trace}
 use Rattle.gz_site.specs.Told.{Told, IsEmpty}
 use Rattle.gz_site.specs.Many.{told_at}
 use Rattle.gz_world.specs.States.{request_of}
@@ -17,13 +17,13 @@ use Rattle.gz_world.specs.declared.world.World.{World}
 use Rattle.gz_world.proofs.Members.{numbered_suc}
 
 -- no session has called anything
-abbrev pub no_tales_yet : ℕ → List Tale
-no_tales_yet session = []
+abbrev pub no_traces_yet : ℕ → List Trace
+no_traces_yet session = []
 
 nothing_at : {A : Type 0} (i : ℕ) (x : A) (xs : List A) → xs ≡ [] → slice_get xs i ≡ Some x → ⊥
 nothing_at i x xs e h = let k : slice_get [] i ≡ Some x = subst (λ ys. slice_get ys i ≡ Some x) e h in cc
 
-pub fits_opened : {S : Type 0} (cfg : Config) (sites : List S) (w : World S) → IsConfig cfg → cfg.n ≤ length sites → IsOpened cfg sites w → Fits no_tales_yet w
+pub fits_opened : {S : Type 0} (cfg : Config) (sites : List S) (w : World S) → IsConfig cfg → cfg.n ≤ length sites → IsOpened cfg sites w → Fits no_traces_yet w
 fits_opened cfg sites w config enough o =
     let n : w.cfg.n ≡ cfg.n = ap (λ (c : Config). c.n) o.cfg_is in
     let many : length w.sites.items ≡ length sites = ap length o.sites_are in
@@ -50,15 +50,15 @@ none_crashed xs (suc n) e = ap (λ ys. crashed_in ys (suc n)) e ∙ ap (λ o. un
 
 pub reached_opened : {S : Type 0} (told : S → Option Told) (cfg : Config) (sites : List S) (w : World S) → IsConfig cfg → cfg.n ≤ length sites → IsOpened cfg sites w → AreEmpty told sites → IsReachedBy told w
 reached_opened told cfg sites w config enough o empty = (
-  no_tales_yet,
+  no_traces_yet,
   (
     fits_opened cfg sites w config enough o,
-    opened (state_of told no_tales_yet w) (record {
+    opened (state_of told no_traces_yet w) (record {
       config = subst IsConfig (sym o.cfg_is) config;
       sites = λ i. subst (λ xs. IfSome (told_at told xs i) IsEmpty) (sym o.sites_are) (empty i);
       sessions = ap length o.clients;
       crashed = λ n. none_crashed w.clients.items n o.clients;
-      tales = λ n. refl;
+      traces = λ n. refl;
       net = ap (map request_of) o.net;
       journal = o.journal;
       casts = o.casts;

@@ -6,25 +6,25 @@ use Rattle.std.proofs.lemmas.Bool.{cases_lt}
 use Rattle.std.proofs.lemmas.List.{length-map}
 use Rattle.std.proofs.lemmas.Option.{slice_get-map}
 use Rattle.gz_round.specs.declared.run.Run.{Run}
-use Rattle.gz_client.specs.Tales.{Holds, HoldsRun, CanBegin}
+use Rattle.gz_client.specs.Traces.{Holds, HoldsRun, CanBegin}
 use Rattle.gz_world.specs.declared.requests.Request.{Request}
 use Rattle.gz_world.specs.declared.world.Member.{Member}
 use Rattle.gz_core.specs.Configurations.{IsConfig}
 use Rattle.gz_config.specs.declared.Config.{Config}
 use Rattle.gz_core.specs.declared.calls.Call.{Call}
-use Rattle.gz_round.specs.History.{Handed, GaveUp, Tale}
+use Rattle.gz_round.specs.History.{Handed, GaveUp, Trace}
 use Rattle.gz_site.specs.Told.{Told}
 use Rattle.gz_site.specs.Many.{told_at}
 use Rattle.gz_world.specs.States.{RequestAt, State, request_of, numbered, with_handed, with_given_up}
 use Rattle.gz_world.specs.Bridge.{state_of, crashed_in}
 use Rattle.gz_world.specs.Counting.{IsFull}
-use Rattle.gz_world.specs.Refusals.{refusal_of, session_refusal, is_running, request_refusal, reply_refusal, or_else, is_live, is_open}
+use Rattle.gz_world.specs.Refusals.{refusal_of, session_refusal, is_running, request_refusal, reply_refusal, or_next_skip, is_live, is_open}
 use Rattle.gz_world.specs.Fits.{IsLast, StandsFor, FitsBy, Fits, IsFitting}
 use Rattle.gz_world.specs.Reached.{IsReached, stepped}
-use Rattle.gz_world.specs.Steps.{SameState, Does, Skips, Acts, Step, quiet, session_of}
-use Rattle.gz_world.specs.Turns.{IsSmall, IsNumber, IsTellable, HasCall, IsSameWorld, Began, WasHanded, WasGivenUp}
+use Rattle.gz_world.specs.Steps.{SameState, Does, Skips, HasEffect, WorldStep, quiet, session_of}
+use Rattle.gz_world.specs.Turns.{IsSmall, IsNumber, CanBeNotified, HasCall, IsSameWorld, Began, WasHanded, WasGivenUp}
 use Rattle.gz_world.specs.Deliveries.{IsSameTold, WasDelivered, WasOpened, WasCrashed}
-use Rattle.gz_world.specs.Told.{ActsBy, StaysBy, RecordedBy, IsToldOf, TellsStep, StepsBy, IsReachedBy}
+use Rattle.gz_world.specs.Told.{ActsBy, StaysBy, RecordedBy, IsReported, ReportsStep, StepsBy, IsReachedBy}
 use Rattle.gz_world.specs.declared.events.Applied.{Applied}
 use Rattle.gz_world.specs.declared.events.Effect.{Effect}
 use Rattle.gz_world.specs.declared.events.Entry.{Entry}
@@ -54,13 +54,13 @@ le_by : (a b : ℕ) → nat_le a b ≡ true → a ≤ b
 le_by a b h = grind (arith, nat_tests)
 
 -- an event that isn't skipped, and one that is
-acts_done : (s : State) (event : Event) (effect : Effect) (new : State) → refusal_of s event ≡ None → Does s event effect new → Acts s event effect new
+acts_done : (s : State) (event : Event) (effect : Effect) (new : State) → refusal_of s event ≡ None → Does s event effect new → HasEffect s event effect new
 acts_done s event effect new none does = subst (λ o. MatchOption o (Does s event effect new) (λ why. Skips s event why effect new)) (sym none) does
 
-acts_skipped : (s : State) (event : Event) (why : Skip) (effect : Effect) (new : State) → refusal_of s event ≡ Some why → Skips s event why effect new → Acts s event effect new
+acts_skipped : (s : State) (event : Event) (why : Skip) (effect : Effect) (new : State) → refusal_of s event ≡ Some why → Skips s event why effect new → HasEffect s event effect new
 acts_skipped s event why effect new is skips = subst (λ o. MatchOption o (Does s event effect new) (λ why. Skips s event why effect new)) (sym is) skips
 
-first_none : (a b : Option Skip) → or_else a b ≡ None → a ≡ None
+first_none : (a b : Option Skip) → or_next_skip a b ≡ None → a ≡ None
 first_none None b h = refl
 first_none (Some why) b h = cc
 
@@ -80,7 +80,7 @@ open_by s session h =
     let o = open_test (nat_le 1 session) (nat_le session s.sessions) (not_false (is_open s.sessions session) t.0) in
     le_by session s.sessions o.1
 
-second_none : (a b : Option Skip) → or_else a b ≡ None → b ≡ None
+second_none : (a b : Option Skip) → or_next_skip a b ≡ None → b ≡ None
 second_none None b h = h
 second_none (Some why) b h = cc
 
@@ -91,7 +91,7 @@ opened_by sessions crashed session h =
     let o = open_test (nat_le 1 session) (nat_le session sessions) (not_false (is_open sessions session) t.0) in
     (le_by 1 session o.0, le_by session sessions o.1)
 
-no_run : (c : Config) (next : ℕ) (run : Option Run) (ts : List Tale) → HoldsRun c next run ts → is_running ts ≡ false → run ≡ None
+no_run : (c : Config) (next : ℕ) (run : Option Run) (ts : List Trace) → HoldsRun c next run ts → is_running ts ≡ false → run ≡ None
 no_run c next None ts h idle = refl
 no_run c next (Some run) [] h idle = absurd h
 no_run c next (Some run) (t ∷ ts) h idle = let e : is_none t.answer ≡ true = ap is_none h.0 in let bad : true ≡ false = sym e ∙ idle in cc
@@ -101,35 +101,35 @@ busy_none true h = cc
 busy_none false h = refl
 
 -- a session that may begin a call: it is open, and its client is idle
-pub begin_ready : {S : Type 0} (told : S → Option Told) (w : World S) (tales : ℕ → List Tale) (session : ℕ) (call : Call) → Fits tales w → IsSmall w → refusal_of (state_of told tales w) (events.Begin session call) ≡ None
+pub begin_ready : {S : Type 0} (told : S → Option Told) (w : World S) (traces : ℕ → List Trace) (session : ℕ) (call : Call) → Fits traces w → IsSmall w → refusal_of (state_of told traces w) (events.Begin session call) ≡ None
     → (session ≤ length w.clients.items) × ((m : Member) → slice_get w.clients.items (session - 1) ≡ Some m → CanBegin m.client)
-begin_ready told w tales session call fits small none =
-    let first = first_none (session_refusal (length w.clients.items) (crashed_in w.clients.items) session) (if is_running (tales session) then Some skips.Busy else None) none in
-    let second = second_none (session_refusal (length w.clients.items) (crashed_in w.clients.items) session) (if is_running (tales session) then Some skips.Busy else None) none in
-    let idle = busy_none (is_running (tales session)) second in
+begin_ready told w traces session call fits small none =
+    let first = first_none (session_refusal (length w.clients.items) (crashed_in w.clients.items) session) (if is_running (traces session) then Some skips.Busy else None) none in
+    let second = second_none (session_refusal (length w.clients.items) (crashed_in w.clients.items) session) (if is_running (traces session) then Some skips.Busy else None) none in
+    let idle = busy_none (is_running (traces session)) second in
     let opened = opened_by (length w.clients.items) (crashed_in w.clients.items) session first in (
       opened.1,
       λ m there.
-          let s = member_stands w tales session m fits (place_numbered w.clients.items session m opened.0 there) in
+          let s = member_stands w traces session m fits (place_numbered w.clients.items session m opened.0 there) in
           let few = fits.few session in
           let events = small.events in
           let calls = s.holds.calls_are in
-          record { idle = no_run m.client.config s.next m.client.run (tales session) s.holds.run_is idle; few = omega (arith, few, events, calls); sizes = s.holds.sizes },
+          record { idle = no_run m.client.config s.next m.client.run (traces session) s.holds.run_is idle; few = omega (arith, few, events, calls); sizes = s.holds.sizes },
     )
 
 some_by : (s : State) (n : ℕ) (o : Option RequestAt) → request_refusal s n o ≡ None → (r : RequestAt) × (o ≡ Some r)
 some_by s n None h = cc
 some_by s n (Some r) h = (r, refl)
 
-called : {S : Type 0} (w : World S) (m : Member) (o : Option ℕ) (t : Tale) (earlier ts : List Tale) → m.last ≡ o → ts ≡ t ∷ earlier → IsLast w.calls.items o ts → HasCall w.calls.items m
+called : {S : Type 0} (w : World S) (m : Member) (o : Option ℕ) (t : Trace) (earlier ts : List Trace) → m.last ≡ o → ts ≡ t ∷ earlier → IsLast w.calls.items o ts → HasCall w.calls.items m
 called w m None t earlier ts e is h = let bad : [] ≡ t ∷ earlier = sym h ∙ is in cc
 called w m (Some i) t earlier ts e is h = record { last = i; is = e; within = get_below w.calls.items i h.0 h.1.1.1.0 }
 
--- a client that may be told of a request
-pub tell_ready : {S : Type 0} (told : S → Option Told) (w : World S) (tales : ℕ → List Tale) (n : ℕ) → Fits tales w → request_refusal (state_of told tales w) n (numbered (map request_of w.net.items) n) ≡ None
-    → IsNumber n (length w.net.items) × ((r : Request) → slice_get w.net.items (n - 1) ≡ Some r → IsTellable w n r)
-tell_ready told w tales n fits none =
-    let s = state_of told tales w in
+-- a client that may learn of a request
+pub tell_ready : {S : Type 0} (told : S → Option Told) (w : World S) (traces : ℕ → List Trace) (n : ℕ) → Fits traces w → request_refusal (state_of told traces w) n (numbered (map request_of w.net.items) n) ≡ None
+    → IsNumber n (length w.net.items) × ((r : Request) → slice_get w.net.items (n - 1) ≡ Some r → CanBeNotified w n r)
+tell_ready told w traces n fits none =
+    let s = state_of told traces w in
     let some = some_by s n (numbered (map request_of w.net.items) n) none in
     let place = numbered_place (map request_of w.net.items) n some.0 some.1 in
     let positive = place.0 in
@@ -145,13 +145,13 @@ tell_ready told w tales n fits none =
           record {
             opened = placed.session;
             tells = λ m is.
-                let k = member_stands w tales r.name.session m fits (place_numbered w.clients.items r.name.session m placed.opened is) in
-                let f = live_found m.client k.next (tales r.name.session) n k.holds (ap (λ q. is_live q (tales r.name.session) n) k.config_is ∙ live) in
+                let k = member_stands w traces r.name.session m fits (place_numbered w.clients.items r.name.session m placed.opened is) in
+                let f = live_found m.client k.next (traces r.name.session) n k.holds (ap (λ q. is_live q (traces r.name.session) n) k.config_is ∙ live) in
                 (k.next, f.0, f.1.0, f.1.1.0, subst (Holds m.client k.next) f.1.1.1.0 k.holds, f.1.1.1.1, k.below);
             running = λ m is.
-                let k = member_stands w tales r.name.session m fits (place_numbered w.clients.items r.name.session m placed.opened is) in
-                let f = live_found m.client k.next (tales r.name.session) n k.holds (ap (λ q. is_live q (tales r.name.session) n) k.config_is ∙ live) in
-                called w m m.last f.0 f.1.0 (tales r.name.session) refl f.1.1.1.0 k.last_is;
+                let k = member_stands w traces r.name.session m fits (place_numbered w.clients.items r.name.session m placed.opened is) in
+                let f = live_found m.client k.next (traces r.name.session) n k.holds (ap (λ q. is_live q (traces r.name.session) n) k.config_is ∙ live) in
+                called w m m.last f.0 f.1.0 (traces r.name.session) refl f.1.1.1.0 k.last_is;
           },
     )
 
@@ -159,10 +159,10 @@ within_by : (which len : ℕ) → (if (which == 0) || nat_lt len which then Some
 within_by which len h = let t = unless ((which == 0) || nat_lt len which) skips.NoReply None h in let e = t.0 in record { positive = grind (arith, nat_tests); within = grind (arith, nat_tests) }
 
 -- a reply that may be handed
-pub reply_ready : {S : Type 0} (told : S → Option Told) (w : World S) (tales : ℕ → List Tale) (n which : ℕ) → Fits tales w → refusal_of (state_of told tales w) (events.Reply n which) ≡ None
-    → (request_refusal (state_of told tales w) n (numbered (map request_of w.net.items) n) ≡ None) × ((r : Request) → 1 ≤ n → slice_get w.net.items (n - 1) ≡ Some r → IsNumber which (length r.replies.items))
-reply_ready told w tales n which fits none =
-    let s = state_of told tales w in
+pub reply_ready : {S : Type 0} (told : S → Option Told) (w : World S) (traces : ℕ → List Trace) (n which : ℕ) → Fits traces w → refusal_of (state_of told traces w) (events.Reply n which) ≡ None
+    → (request_refusal (state_of told traces w) n (numbered (map request_of w.net.items) n) ≡ None) × ((r : Request) → 1 ≤ n → slice_get w.net.items (n - 1) ≡ Some r → IsNumber which (length r.replies.items))
+reply_ready told w traces n which fits none =
+    let s = state_of told traces w in
     let o = numbered (map request_of w.net.items) n in
     let second = second_none (request_refusal s n o) (reply_refusal which o) none in (
       first_none (request_refusal s n o) (reply_refusal which o) none,
@@ -172,74 +172,74 @@ reply_ready told w tales n which fits none =
           within_by which (length r.replies.items) (subst (λ q. reply_refusal which q ≡ None) here second),
     )
 
--- nothing refuses the event in a world, whatever its tales
+-- nothing refuses the event in a world, whatever its traces
 abbrev pub IsAllowedIn : {S : Type 0} → (S → Option Told) → World S → Event → Type 0
-IsAllowedIn told w event = (tales : ℕ → List Tale) → Fits tales w → refusal_of (state_of told tales w) event ≡ None
+IsAllowedIn told w event = (traces : ℕ → List Trace) → Fits traces w → refusal_of (state_of told traces w) event ≡ None
 
 pub begin_acts : {S : Type 0} (told : S → Option Told) (old new : World S) (session : ℕ) (call : Call) (effect : Effect) → IsSmall old → IsAllowedIn told old (events.Begin session call) → Began old new session call effect → ActsBy told old (events.Begin session call) new effect
-begin_acts told old new session call effect small allowed began = λ tales fits.
-    let k = begun_turn told old new tales session call effect fits small began in
-    (k.0, (k.1.0, acts_done (state_of told tales old) (events.Begin session call) effect (state_of told k.0 new) (allowed tales fits) k.1.1))
+begin_acts told old new session call effect small allowed began = λ traces fits.
+    let k = begun_turn told old new traces session call effect fits small began in
+    (k.0, (k.1.0, acts_done (state_of told traces old) (events.Begin session call) effect (state_of told k.0 new) (allowed traces fits) k.1.1))
 
 pub hand_acts : {S : Type 0} (told : S → Option Told) (old new : World S) (n which : ℕ) (effect : Effect) → IsSmall old → IsAllowedIn told old (events.Reply n which) → WasHanded old new n which effect → ActsBy told old (events.Reply n which) new effect
-hand_acts told old new n which effect small allowed h = λ tales fits.
+hand_acts told old new n which effect small allowed h = λ traces fits.
     let r = h.0 in
     let reply = h.1.0 in
     let by = h.1.1.1.1.1.1.1.1 in
-    let s = state_of told tales old in
-    let none = allowed tales fits in
+    let s = state_of told traces old in
+    let none = allowed traces fits in
     let first = first_none (request_refusal s n (numbered (map request_of old.net.items) n)) (reply_refusal which (numbered (map request_of old.net.items) n)) none in
     let tells = subst (λ o. request_refusal s n o ≡ None) by.request first in
-    let k = told_turn told old new tales n r (with_handed (length old.journal.items + 1) which r) (λ a. Handed a reply.1) h.1.1.0 h.1.1.1.0 h.1.1.1.1.0 h.1.1.1.1.1.0 h.1.1.1.1.1.1.0 effect fits small refl refl (may_be_told s n r tells) by in
+    let k = told_turn told old new traces n r (with_handed (length old.journal.items + 1) which r) (λ a. Handed a reply.1) h.1.1.0 h.1.1.1.0 h.1.1.1.1.0 h.1.1.1.1.1.0 h.1.1.1.1.1.1.0 effect fits small refl refl (may_be_told s n r tells) by in
     (k.1.0, (k.1.1.0, acts_done s (events.Reply n which) effect (state_of told k.1.0 new) none (r, (reply, (k.0, (h.1.1.1.1.1.1.1.0, k.1.1.1))))))
 
 pub give_up_acts : {S : Type 0} (told : S → Option Told) (old new : World S) (n : ℕ) (effect : Effect) → IsSmall old → IsAllowedIn told old (events.GiveUp n) → WasGivenUp old new n effect → ActsBy told old (events.GiveUp n) new effect
-give_up_acts told old new n effect small allowed h = λ tales fits.
+give_up_acts told old new n effect small allowed h = λ traces fits.
     let r = h.0 in
     let by = h.1.1.1.1.1.1 in
-    let s = state_of told tales old in
-    let none = allowed tales fits in
+    let s = state_of told traces old in
+    let none = allowed traces fits in
     let tells = subst (λ o. request_refusal s n o ≡ None) by.request none in
-    let k = told_turn told old new tales n r (with_given_up (length old.journal.items + 1) r) (λ a. GaveUp a) h.1.0 h.1.1.0 h.1.1.1.0 h.1.1.1.1.0 h.1.1.1.1.1.0 effect fits small refl refl (may_be_told s n r tells) by in
+    let k = told_turn told old new traces n r (with_given_up (length old.journal.items + 1) r) (λ a. GaveUp a) h.1.0 h.1.1.0 h.1.1.1.0 h.1.1.1.1.0 h.1.1.1.1.1.0 effect fits small refl refl (may_be_told s n r tells) by in
     (k.1.0, (k.1.1.0, acts_done s (events.GiveUp n) effect (state_of told k.1.0 new) none (r, (k.0, k.1.1.1))))
 
 pub deliver_acts : {S : Type 0} (told : S → Option Told) (old new : World S) (n : ℕ) (effect : Effect) → IsSmall old → IsAllowedIn told old (events.Deliver n) → WasDelivered told old new n effect → ActsBy told old (events.Deliver n) new effect
-deliver_acts told old new n effect small allowed h = λ tales fits.
-    let k = delivered_moves told old new tales n effect fits small h in
-    (tales, (k.0, acts_done (state_of told tales old) (events.Deliver n) effect (state_of told tales new) (allowed tales fits) k.1))
+deliver_acts told old new n effect small allowed h = λ traces fits.
+    let k = delivered_moves told old new traces n effect fits small h in
+    (traces, (k.0, acts_done (state_of told traces old) (events.Deliver n) effect (state_of told traces new) (allowed traces fits) k.1))
 
 pub open_acts : {S : Type 0} (told : S → Option Told) (old new : World S) (effect : Effect) → IsSmall old → WasOpened old new effect → ActsBy told old events.OpenSession new effect
-open_acts told old new effect small h = λ tales fits.
-    let k = opened_moves told old new tales effect fits small h in
-    (tales, (k.0, k.1))
+open_acts told old new effect small h = λ traces fits.
+    let k = opened_moves told old new traces effect fits small h in
+    (traces, (k.0, k.1))
 
 pub crash_acts : {S : Type 0} (told : S → Option Told) (old new : World S) (session : ℕ) (effect : Effect) → IsSmall old → IsAllowedIn told old (events.Crash session) → WasCrashed old new session effect → ActsBy told old (events.Crash session) new effect
-crash_acts told old new session effect small allowed h = λ tales fits.
-    let k = crashed_moves told old new tales session effect fits small h in
-    (tales, (k.0, acts_done (state_of told tales old) (events.Crash session) effect (state_of told tales new) (allowed tales fits) k.1))
+crash_acts told old new session effect small allowed h = λ traces fits.
+    let k = crashed_moves told old new traces session effect fits small h in
+    (traces, (k.0, acts_done (state_of told traces old) (events.Crash session) effect (state_of told traces new) (allowed traces fits) k.1))
 
 -- nothing has changed in one world
 untouched : {S : Type 0} (told : S → Option Told) (w : World S) → IsSameTold told w w
 untouched told w = record { cfg = refl; journal = refl; clients = refl; calls = refl; len = refl; told_is = λ i. refl; casts = refl; net = refl; held = refl }
 
 pub skip_acts : {S : Type 0} (told : S → Option Told) (w : World S) (event : Event) (why : Skip) (effect : Effect) → IsSmall w
-    → ((tales : ℕ → List Tale) → Fits tales w → Some why ≡ refusal_of (state_of told tales w) event)
-    → ((tales : ℕ → List Tale) → effect ≡ quiet (outcomes.Skipped why) (session_of (state_of told tales w) event)) → ActsBy told w event w effect
-skip_acts told w event why effect small refused is = λ tales fits.
+    → ((traces : ℕ → List Trace) → Fits traces w → Some why ≡ refusal_of (state_of told traces w) event)
+    → ((traces : ℕ → List Trace) → effect ≡ quiet (outcomes.Skipped why) (session_of (state_of told traces w) event)) → ActsBy told w event w effect
+skip_acts told w event why effect small refused is = λ traces fits.
     let events = small.events in (
-      tales,
+      traces,
       (
-        fits_same told w w tales (length w.journal.items + 1) fits (omega arith) (omega (arith, events)) (untouched told w),
-        acts_skipped (state_of told tales w) event why effect (state_of told tales w) (sym (refused tales fits)) (record { same = state_same told w w tales (untouched told w); effect_is = is tales }),
+        fits_same told w w traces (length w.journal.items + 1) fits (omega arith) (omega (arith, events)) (untouched told w),
+        acts_skipped (state_of told traces w) event why effect (state_of told traces w) (sym (refused traces fits)) (record { same = state_same told w w traces (untouched told w); effect_is = is traces }),
       ),
     )
 
 -- nothing was done
 pub stays_told : {S : Type 0} (told : S → Option Told) (old new : World S) → IsSameTold told old new → StaysBy told old new
-stays_told told old new same = λ tales fits.
+stays_told told old new same = λ traces fits.
     let events : length new.journal.items ≡ length old.journal.items = ap (λ v. length v.items) same.journal in
     let bounded = fits.bounded in
-    (fits_same told old new tales (length new.journal.items) fits (omega (arith, events)) (omega (arith, events, bounded)) same, state_same told old new tales same)
+    (fits_same told old new traces (length new.journal.items) fits (omega (arith, events)) (omega (arith, events, bounded)) same, state_same told old new traces same)
 
 pub stays_same : {S : Type 0} (told : S → Option Told) (old new : World S) → IsSameWorld old new → StaysBy told old new
 stays_same told old new same = stays_told told old new (same_told told old new same)
@@ -256,7 +256,7 @@ states_equal old new h = λ i. record {
   sites = λ k. sym (h.sites.sites k) i;
   sessions = sym h.sessions.sessions i;
   crashed = λ k. sym (h.sessions.crashed k) i;
-  tales = λ k. sym (h.sessions.tales k) i;
+  traces = λ k. sym (h.sessions.traces k) i;
   net = sym h.net i;
   journal = sym h.frame.journal i;
   casts = sym h.sites.casts i;
@@ -264,8 +264,8 @@ states_equal old new h = λ i. record {
   held = sym h.held i;
 }
 
--- what is told of a step is a step
-pub step_of : (old : State) (event : Event) (new : State) (applied : Applied) → TellsStep old event new applied → Step old event new
+-- what is reported of a step is a step
+pub step_of : (old : State) (event : Event) (new : State) (applied : Applied) → ReportsStep old event new applied → WorldStep old event new
 step_of old event new applied t = (t.effect, (t.mid, (t.entry, (t.acts, t.records))))
 
 -- a step keeps what is reached
@@ -280,9 +280,9 @@ reached_same told old new stays r =
     (r.0, (k.0, subst IsReached (states_equal (state_of told r.0 old) (state_of told r.0 new) k.1) r.1.1))
 
 -- the world with another journal
-pub fits_journal : {S : Type 0} (events : ℕ) (tales : ℕ → List Tale) (w v : World S) → FitsBy events tales w
-    → v.cfg ≡ w.cfg → v.sites ≡ w.sites → v.net ≡ w.net → v.clients ≡ w.clients → v.calls ≡ w.calls → v.held ≡ w.held → FitsBy events tales v
-fits_journal events tales w v fits cfg sites net clients calls held =
+pub fits_journal : {S : Type 0} (events : ℕ) (traces : ℕ → List Trace) (w v : World S) → FitsBy events traces w
+    → v.cfg ≡ w.cfg → v.sites ≡ w.sites → v.net ≡ w.net → v.clients ≡ w.clients → v.calls ≡ w.calls → v.held ≡ w.held → FitsBy events traces v
+fits_journal events traces w v fits cfg sites net clients calls held =
     let n : v.cfg.n ≡ w.cfg.n = ap (λ (c : Config). c.n) cfg in
     let many : length v.sites.items ≡ length w.sites.items = ap (λ s. length s.items) sites in
     let requests : map request_of v.net.items ≡ map request_of w.net.items = ap (λ s. map request_of s.items) net in
@@ -302,9 +302,9 @@ fits_journal events tales w v fits cfg sites net clients calls held =
           let at = p.site in
           record { opened = p.opened; session = omega (arith, s, size); site = omega (arith, at, n) };
       clients = λ i m h.
-          subst (λ q. StandsFor v.cfg q v.calls.items (i + 1) m (tales (i + 1))) (ap (λ q. q + 1) (sym count))
-          (subst (λ q. StandsFor v.cfg (length (map request_of w.net.items) + 1) q (i + 1) m (tales (i + 1))) (sym recs)
-          (subst (λ q. StandsFor q (length (map request_of w.net.items) + 1) w.calls.items (i + 1) m (tales (i + 1))) (sym cfg)
+          subst (λ q. StandsFor v.cfg q v.calls.items (i + 1) m (traces (i + 1))) (ap (λ q. q + 1) (sym count))
+          (subst (λ q. StandsFor v.cfg (length (map request_of w.net.items) + 1) q (i + 1) m (traces (i + 1))) (sym recs)
+          (subst (λ q. StandsFor q (length (map request_of w.net.items) + 1) w.calls.items (i + 1) m (traces (i + 1))) (sym cfg)
           (fits.clients i m (subst (λ xs. slice_get xs i ≡ Some m) members h))));
       unopened = λ s l. fits.unopened s (omega (arith, l, size));
       zeroth = fits.zeroth;
@@ -325,33 +325,33 @@ pub record IsReserved {S : Type 0} (w v : World S) : Type 0 where
   pub held : v.held ≡ w.held
   pub journal : v.journal.items ≡ w.journal.items
 
-pub fits_kept_by : {S : Type 0} (tales : ℕ → List Tale) (w v : World S) → IsReserved w v → Fits tales w → Fits tales v
-fits_kept_by tales w v k fits = subst (λ n. FitsBy n tales v) (sym (ap length k.journal)) (fits_journal (length w.journal.items) tales w v fits k.cfg k.sites k.net k.clients k.calls k.held)
+pub fits_kept_by : {S : Type 0} (traces : ℕ → List Trace) (w v : World S) → IsReserved w v → Fits traces w → Fits traces v
+fits_kept_by traces w v k fits = subst (λ n. FitsBy n traces v) (sym (ap length k.journal)) (fits_journal (length w.journal.items) traces w v fits k.cfg k.sites k.net k.clients k.calls k.held)
 
-state_reserved : {S : Type 0} (told : S → Option Told) (tales : ℕ → List Tale) (w v : World S) → IsReserved w v → SameState (state_of told tales w) (state_of told tales v)
-state_reserved told tales w v k = record {
+state_reserved : {S : Type 0} (told : S → Option Told) (traces : ℕ → List Trace) (w v : World S) → IsReserved w v → SameState (state_of told traces w) (state_of told traces v)
+state_reserved told traces w v k = record {
   sites = record { sites = λ i. ap (λ s. told_at told s.items i) k.sites; casts = ap (λ c. c.list.items) k.casts };
-  sessions = record { sessions = ap (λ s. length s.items) k.clients; crashed = λ n. ap (λ s. crashed_in s.items n) k.clients; tales = λ n. refl; calls = ap (λ s. s.items) k.calls };
+  sessions = record { sessions = ap (λ s. length s.items) k.clients; crashed = λ n. ap (λ s. crashed_in s.items n) k.clients; traces = λ n. refl; calls = ap (λ s. s.items) k.calls };
   frame = record { cfg = k.cfg; journal = k.journal };
   net = ap (λ s. map request_of s.items) k.net;
   held = k.held;
 }
 
 pub stays_reserved : {S : Type 0} (told : S → Option Told) (w v : World S) → IsReserved w v → StaysBy told w v
-stays_reserved told w v k = λ tales fits. (fits_kept_by tales w v k fits, state_reserved told tales w v k)
+stays_reserved told w v k = λ traces fits. (fits_kept_by traces w v k fits, state_reserved told traces w v k)
 
 -- what stays, and then stays again
 pub stays_then : {S : Type 0} (told : S → Option Told) (u v w : World S) → StaysBy told u v → StaysBy told v w → StaysBy told u w
-stays_then told u v w a b = λ tales fits.
-    let k = a tales fits in
-    let j = b tales k.0 in
-    (j.0, subst (λ s. SameState s (state_of told tales w)) (sym (states_equal (state_of told tales u) (state_of told tales v) k.1)) j.1)
+stays_then told u v w a b = λ traces fits.
+    let k = a traces fits in
+    let j = b traces k.0 in
+    (j.0, subst (λ s. SameState s (state_of told traces w)) (sym (states_equal (state_of told traces u) (state_of told traces v) k.1)) j.1)
 
 -- the room for an entry, what an event does, and its entry make one step
 pub steps_of : {S : Type 0} (told : S → Option Told) (u v w x : World S) (event : Event) (effect : Effect) (entry : Entry) (applied : Applied) → IsReserved u v → ActsBy told v event w effect → w.journal ≡ v.journal
-    → RecordedBy told w event effect x entry → IsToldOf (length x.journal.items) entry effect applied → StepsBy told u event x applied
-steps_of told u v w x event effect entry applied k acts journal records is = λ tales fits.
-    let a = acts tales (fits_kept_by tales u v k fits) in
+    → RecordedBy told w event effect x entry → IsReported (length x.journal.items) entry effect applied → StepsBy told u event x applied
+steps_of told u v w x event effect entry applied k acts journal records is = λ traces fits.
+    let a = acts traces (fits_kept_by traces u v k fits) in
     let n : length v.journal.items ≡ length w.journal.items = sym (ap (λ s. length s.items) journal) in
     let r = records a.0 (subst (λ q. FitsBy (q + 1) a.0 w) n a.1.0) in (
       a.0,
@@ -361,7 +361,7 @@ steps_of told u v w x event effect entry applied k acts journal records is = λ 
           effect = effect;
           mid = state_of told a.0 w;
           entry = entry;
-          acts = subst (λ s. Acts s event effect (state_of told a.0 w)) (sym (states_equal (state_of told tales u) (state_of told tales v) (state_reserved told tales u v k))) a.1.1;
+          acts = subst (λ s. HasEffect s event effect (state_of told a.0 w)) (sym (states_equal (state_of told traces u) (state_of told traces v) (state_reserved told traces u v k))) a.1.1;
           records = r.1;
           told = is;
         },
@@ -370,6 +370,6 @@ steps_of told u v w x event effect entry applied k acts journal records is = λ 
 
 -- a step, and then a mark
 pub steps_then : {S : Type 0} (told : S → Option Told) (u v w : World S) (event : Event) (applied : Applied) → StepsBy told u event v applied → IsReserved v w → StepsBy told u event w applied
-steps_then told u v w event applied steps k = λ tales fits.
-    let s = steps tales fits in
-    (s.0, (fits_kept_by s.0 v w k s.1.0, subst (λ q. TellsStep (state_of told tales u) event q applied) (states_equal (state_of told s.0 v) (state_of told s.0 w) (state_reserved told s.0 v w k)) s.1.1))
+steps_then told u v w event applied steps k = λ traces fits.
+    let s = steps traces fits in
+    (s.0, (fits_kept_by s.0 v w k s.1.0, subst (λ q. ReportsStep (state_of told traces u) event q applied) (states_equal (state_of told s.0 v) (state_of told s.0 w) (state_reserved told s.0 v w k)) s.1.1))

@@ -7,13 +7,13 @@ use Rattle.gz_config.specs.declared.Config.{Config}
 use Rattle.gz_core.specs.declared.requests.Op.{Op}
 use Rattle.gz_core.specs.declared.requests.Op.TheVariants as ops
 use Rattle.gz_core.specs.declared.requests.Out.{Out}
-use Rattle.gz_round.specs.History.{Moment, Sent, GaveIn, Caller, Tale, IsClosing, asked_of, sent_from}
+use Rattle.gz_round.specs.History.{Action, Sent, GaveIn, Caller, Trace, IsClosing, asked_of, sent_from}
 use Rattle.gz_round.specs.Sending.{AreAllowed}
 use Rattle.gz_history.specs.declared.record.CallRec.{CallRec}
-use Rattle.gz_world.specs.States.{RequestAt, with_tales, sent_requests, sent_request}
+use Rattle.gz_world.specs.States.{RequestAt, with_traces, sent_requests, sent_request}
 use Rattle.gz_world.specs.Bridge.{crashed_in}
 use Rattle.gz_world.specs.Weights.{op_weight, outs_weight}
-use Rattle.gz_world.specs.Fits.{IsLast, StandsFor, IsPlaced}
+use Rattle.gz_world.specs.Fits.{IsLast, StandsFor, IsAddressed}
 use Rattle.gz_world.specs.Steps.{answered}
 use Rattle.gz_world.specs.declared.world.Member.{Member}
 use Rattle.std.proofs.lemmas.Bool.{cases_eq}
@@ -46,14 +46,14 @@ names_answered calls last c tick o at i d h =
       | inr ne ↦ (d, (get_set_other calls last i (answered tick o c) ne ∙ h, refl))
     ]
 
-last_more : (old new : List CallRec) (o : Option ℕ) (ts : List Tale) → NamesStay old new → IsLast old o ts → IsLast new o ts
+last_more : (old new : List CallRec) (o : Option ℕ) (ts : List Trace) → NamesStay old new → IsLast old o ts → IsLast new o ts
 last_more old new None ts stay h = h
 last_more old new (Some i) ts stay h =
     let k = stay i h.0 h.1.1.1.0 in
     (k.0, (h.1.0, (h.1.1.0, (k.1.0, (h.1.1.1.1.0, k.1.1 ∙ h.1.1.1.1.1)))))
 
--- a client that stands for its tales goes on so while the world grows
-pub stands_more : (cfg : Config) (first more : ℕ) (old new : List CallRec) (session : ℕ) (m : Member) (ts : List Tale) → first ≤ more → NamesStay old new → StandsFor cfg first old session m ts → StandsFor cfg more new session m ts
+-- a client that stands for its traces goes on so while the world grows
+pub stands_more : (cfg : Config) (first more : ℕ) (old new : List CallRec) (session : ℕ) (m : Member) (ts : List Trace) → first ≤ more → NamesStay old new → StandsFor cfg first old session m ts → StandsFor cfg more new session m ts
 stands_more cfg first more old new session m ts le stay h = let b = h.below in record {
   next = h.next;
   below = omega (arith, b);
@@ -63,26 +63,26 @@ stands_more cfg first more old new session m ts le stay h = let b = h.below in r
   last_is = last_more old new m.last ts stay h.last_is;
 }
 
--- tales with those of one session changed
-pub tales_same : (tales : ℕ → List Tale) (session : ℕ) (ts : List Tale) → with_tales tales session ts session ≡ ts
-tales_same tales session ts = let t : (session == session) ≡ true = grind (arith, nat_tests) in ap (λ b. if b then ts else tales session) t
+-- traces with those of one session changed
+pub traces_same : (traces : ℕ → List Trace) (session : ℕ) (ts : List Trace) → with_traces traces session ts session ≡ ts
+traces_same traces session ts = let t : (session == session) ≡ true = grind (arith, nat_tests) in ap (λ b. if b then ts else traces session) t
 
-pub tales_other : (tales : ℕ → List Tale) (session n : ℕ) (ts : List Tale) → n ≢ session → with_tales tales session ts n ≡ tales n
-tales_other tales session n ts ne = let t : (n == session) ≡ false = grind (arith, nat_tests) in ap (λ b. if b then ts else tales n) t
+pub traces_other : (traces : ℕ → List Trace) (session n : ℕ) (ts : List Trace) → n ≢ session → with_traces traces session ts n ≡ traces n
+traces_other traces session n ts ne = let t : (n == session) ≡ false = grind (arith, nat_tests) in ap (λ b. if b then ts else traces n) t
 
 -- requests that are placed
 abbrev pub ArePlaced : ℕ → ℕ → List RequestAt → Type 0
-ArePlaced n sessions rs = (i : ℕ) (r : RequestAt) → slice_get rs i ≡ Some r → IsPlaced n sessions r
+ArePlaced n sessions rs = (i : ℕ) (r : RequestAt) → slice_get rs i ≡ Some r → IsAddressed n sessions r
 
 pub placed_append : (n sessions : ℕ) (xs ys : List RequestAt) → ArePlaced n sessions xs → ArePlaced n sessions ys → ArePlaced n sessions (xs ++ ys)
 placed_append n sessions xs ys p q i r h = elim (get_of_two xs ys i r h) [ inl e ↦ p i r e | inr e ↦ q e.0 r e.1.1 ]
 
-placed_at : (n sessions : ℕ) (xs : List RequestAt) (at : ℕ) (y : RequestAt) → ArePlaced n sessions xs → IsPlaced n sessions y → (r : RequestAt) → slice_get (slice_set xs at y) at ≡ Some r → IsPlaced n sessions r
+placed_at : (n sessions : ℕ) (xs : List RequestAt) (at : ℕ) (y : RequestAt) → ArePlaced n sessions xs → IsAddressed n sessions y → (r : RequestAt) → slice_get (slice_set xs at y) at ≡ Some r → IsAddressed n sessions r
 placed_at n sessions [] at y p q r h = cc
-placed_at n sessions (x ∷ xs) zero y p q r h = let e : y ≡ r = cc in subst (IsPlaced n sessions) e q
+placed_at n sessions (x ∷ xs) zero y p q r h = let e : y ≡ r = cc in subst (IsAddressed n sessions) e q
 placed_at n sessions (x ∷ xs) (suc at) y p q r h = placed_at n sessions xs at y (λ i r h. p (suc i) r h) q r h
 
-pub placed_set : (n sessions : ℕ) (xs : List RequestAt) (at : ℕ) (y : RequestAt) → ArePlaced n sessions xs → IsPlaced n sessions y → ArePlaced n sessions (slice_set xs at y)
+pub placed_set : (n sessions : ℕ) (xs : List RequestAt) (at : ℕ) (y : RequestAt) → ArePlaced n sessions xs → IsAddressed n sessions y → ArePlaced n sessions (slice_set xs at y)
 placed_set n sessions xs at y p q i r h =
     elim (cases_eq i at) [
       | inl e ↦ placed_at n sessions xs at y p q r (subst (λ k. slice_get (slice_set xs at y) k ≡ Some r) e h)
@@ -92,20 +92,20 @@ placed_set n sessions xs at y p q i r h =
 pub placed_sent : (n sessions : ℕ) (name : Name) (tick : ℕ) (outs : List Out) → 1 ≤ name.session → name.session ≤ sessions → ((j : ℕ) (o : Out) → slice_get outs j ≡ Some o → o.site < n) → ArePlaced n sessions (sent_requests name tick outs)
 placed_sent n sessions name tick outs opened session sites i r h =
     let k = get_mapped (sent_request name tick) outs i r h in
-    subst (IsPlaced n sessions) k.1.1 (record { opened = opened; session = session; site = sites i k.0 k.1.0 })
+    subst (IsAddressed n sessions) k.1.1 (record { opened = opened; session = session; site = sites i k.0 k.1.0 })
 
 site_of : (c : Config) (out : Out) (outs : List Out) → out.site < c.n → ((j : ℕ) (o : Out) → slice_get outs j ≡ Some o → o.site < c.n) → (j : ℕ) (o : Out) → slice_get (out ∷ outs) j ≡ Some o → o.site < c.n
 site_of c out outs here more zero o e = let p : out ≡ o = cc in subst (λ (k : Out). k.site < c.n) p here
 site_of c out outs here more (suc j) o e = more j o e
 
 -- what is sent by the rules goes to sites of the configuration
-pub allowed_sent : (c : Config) (w : Caller) (past : List Tale) (first : ℕ) (outs : List Out) (ms : List Moment) → AreAllowed c w past (sent_from first outs ms) → AreAllowed c w past ms × ((j : ℕ) (o : Out) → slice_get outs j ≡ Some o → o.site < c.n)
+pub allowed_sent : (c : Config) (w : Caller) (past : List Trace) (first : ℕ) (outs : List Out) (ms : List Action) → AreAllowed c w past (sent_from first outs ms) → AreAllowed c w past ms × ((j : ℕ) (o : Out) → slice_get outs j ≡ Some o → o.site < c.n)
 allowed_sent c w past first [] ms h = (h, λ j o e. cc)
 allowed_sent c w past first (out ∷ outs) ms h =
     let r = allowed_sent c w past (first + 1) outs (Sent (asked_of first out) ∷ ms) h in
     (r.0.1, λ j o e. site_of c out outs r.0.0.site r.1 j o e)
 
-pub allowed_closed : (c : Config) (w : Caller) (past : List Tale) (closing ms : List Moment) → IsClosing closing → AreAllowed c w past (closing ++ ms) → AreAllowed c w past ms
+pub allowed_closed : (c : Config) (w : Caller) (past : List Trace) (closing ms : List Action) → IsClosing closing → AreAllowed c w past (closing ++ ms) → AreAllowed c w past ms
 allowed_closed c w past closing ms (inl e) h = subst (λ k. AreAllowed c w past (k ++ ms)) e h
 allowed_closed c w past closing ms (inr e) h = (let k : AreAllowed c w past (GaveIn ∷ ms) = subst (λ k. AreAllowed c w past (k ++ ms)) e h in k.1)
 

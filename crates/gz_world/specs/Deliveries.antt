@@ -3,7 +3,7 @@ use Rattle.std.specs.Prelude.{ℕ, ◌≡◌, ◌≤◌, ◌<◌, ◌+◌, ◌-�
 use Rattle.gz_core.specs.declared.requests.Reply.{Reply}
 use Rattle.gz_core.specs.declared.requests.Reply.TheVariants as replies
 use Rattle.gz_client.specs.declared.client.Client.{Client}
-use Rattle.gz_client.specs.Tales.{Holds}
+use Rattle.gz_client.specs.Traces.{Holds}
 use Rattle.gz_site.specs.Told.{Told}
 use Rattle.gz_core.specs.Causes.{Rose}
 use Rattle.gz_site.specs.Many.{told_at, faults_at, TellsAt, OthersStay}
@@ -43,11 +43,11 @@ casts_written writes.Changed casts = []
 abbrev pub HasRoomAt : List Request → ℕ → Type 0
 HasRoomAt net at = (r : Request) → slice_get net at ≡ Some r → vec_len r.replies < vec_capacity r.replies
 
--- a reply tells of a fault only where the site at this place counted one
+-- a reply reports a fault only where the site at this place counted one
 abbrev pub IsCounted : {S : Type 0} → (S → ℕ) → List S → ℕ → List S → Reply → Type 0
 IsCounted faults olds at news reply = reply ≡ replies.Failed → Rose (faults_at faults olds at) (faults_at faults news at)
 
--- where the last reply of a request that was delivered tells of a fault, its site counted one
+-- where the last reply of a request that was delivered reports a fault, its site counted one
 abbrev pub IsCountedFor : {S : Type 0} → (S → ℕ) → World S → ℕ → World S → Type 0
 IsCountedFor faults old n new =
     (r : RequestAt) (tick : ℕ) → numbered (map request_of new.net.items) n ≡ Some r → numbered r.replies (length r.replies) ≡ Some (tick, replies.Failed)

@@ -1,10 +1,10 @@
--- What the program keeps of a world: its parts fit each other, and each client stands for the tales of its session.
+-- What the program keeps of a world: its parts fit each other, and each client stands for the traces of its session.
 use Rattle.std.specs.Prelude.{ℕ, ◌≡◌, ◌≤◌, ◌<◌, ◌+◌, ◌*◌, ◌-◌, ◌^◌, min, List, [], ◌∷◌, length, map, Option, Some, None, slice_get}
 use Rattle.gz_core.specs.Configurations.{IsConfig}
 use Rattle.gz_config.specs.declared.Config.{Config}
-use Rattle.gz_round.specs.History.{Tale}
+use Rattle.gz_round.specs.History.{Trace}
 use Rattle.gz_round.specs.Starting.{IsWithin}
-use Rattle.gz_client.specs.Tales.{Holds}
+use Rattle.gz_client.specs.Traces.{Holds}
 use Rattle.gz_history.specs.declared.record.CallRec.{CallRec}
 use Rattle.gz_world.specs.States.{RequestAt, request_of}
 use Rattle.gz_world.specs.declared.events.Event.{Event}
@@ -13,12 +13,12 @@ use Rattle.gz_world.specs.declared.world.Member.{Member}
 use Rattle.gz_world.specs.declared.world.World.{World}
 
 -- the place of the last call of a session, if it has one
-abbrev pub IsLast : List CallRec → Option ℕ → List Tale → Type 0
+abbrev pub IsLast : List CallRec → Option ℕ → List Trace → Type 0
 IsLast calls None ts = ts ≡ []
-IsLast calls (Some i) ts = (c : CallRec) × ((t : Tale) × ((earlier : List Tale) × ((slice_get calls i ≡ Some c) × ((ts ≡ t ∷ earlier) × (c.name ≡ t.caller.name)))))
+IsLast calls (Some i) ts = (c : CallRec) × ((t : Trace) × ((earlier : List Trace) × ((slice_get calls i ≡ Some c) × ((ts ≡ t ∷ earlier) × (c.name ≡ t.caller.name)))))
 
--- a client stands for the tales of its session, and its requests have numbers below the next one
-pub record StandsFor (cfg : Config) (first : ℕ) (calls : List CallRec) (session : ℕ) (m : Member) (ts : List Tale) : Type 0 where
+-- a client stands for the traces of its session, and its requests have numbers below the next one
+pub record StandsFor (cfg : Config) (first : ℕ) (calls : List CallRec) (session : ℕ) (m : Member) (ts : List Trace) : Type 0 where
   pub next : ℕ
   pub below : next ≤ first
   pub holds : Holds m.client next ts
@@ -27,31 +27,31 @@ pub record StandsFor (cfg : Config) (first : ℕ) (calls : List CallRec) (sessio
   pub last_is : IsLast calls m.last ts
 
 -- a request is of a session that was opened, and goes to a site of the configuration
-pub record IsPlaced (n sessions : ℕ) (r : RequestAt) : Type 0 where
+pub record IsAddressed (n sessions : ℕ) (r : RequestAt) : Type 0 where
   pub opened : 1 ≤ r.name.session
   pub session : r.name.session ≤ sessions
   pub site : r.site < n
 
--- the parts of a world fit each other after so many events, and its clients stand for these tales
-pub record FitsBy {S : Type 0} (events : ℕ) (tales : ℕ → List Tale) (w : World S) : Type 0 where
+-- the parts of a world fit each other after so many events, and its clients stand for these traces
+pub record FitsBy {S : Type 0} (events : ℕ) (traces : ℕ → List Trace) (w : World S) : Type 0 where
   pub config : IsConfig w.cfg
   pub sites : w.cfg.n ≤ length w.sites.items
-  pub requests : (i : ℕ) (r : RequestAt) → slice_get (map request_of w.net.items) i ≡ Some r → IsPlaced w.cfg.n (length w.clients.items) r
-  pub clients : (i : ℕ) (m : Member) → slice_get w.clients.items i ≡ Some m → StandsFor w.cfg (length (map request_of w.net.items) + 1) w.calls.items (i + 1) m (tales (i + 1))
-  pub unopened : (session : ℕ) → length w.clients.items < session → tales session ≡ []
-  pub zeroth : tales 0 ≡ []
-  pub few : (session : ℕ) → length (tales session) ≤ events
+  pub requests : (i : ℕ) (r : RequestAt) → slice_get (map request_of w.net.items) i ≡ Some r → IsAddressed w.cfg.n (length w.clients.items) r
+  pub clients : (i : ℕ) (m : Member) → slice_get w.clients.items i ≡ Some m → StandsFor w.cfg (length (map request_of w.net.items) + 1) w.calls.items (i + 1) m (traces (i + 1))
+  pub unopened : (session : ℕ) → length w.clients.items < session → traces session ≡ []
+  pub zeroth : traces 0 ≡ []
+  pub few : (session : ℕ) → length (traces session) ≤ events
   pub weighs : min (64 * length (map request_of w.net.items)) (2 ^ 64 - 1) ≤ w.held
   pub opened : length w.clients.items ≤ events
   pub bounded : events ≤ 4000000
 
 -- the same, after the events of the journal
-abbrev pub Fits : {S : Type 0} → (ℕ → List Tale) → World S → Type 0
-Fits tales w = FitsBy (length w.journal.items) tales w
+abbrev pub Fits : {S : Type 0} → (ℕ → List Trace) → World S → Type 0
+Fits traces w = FitsBy (length w.journal.items) traces w
 
--- the world fits some tales of its sessions
+-- the world fits some traces of its sessions
 abbrev pub IsFitting : {S : Type 0} → World S → Type 0
-IsFitting w = (tales : ℕ → List Tale) × Fits tales w
+IsFitting w = (traces : ℕ → List Trace) × Fits traces w
 
 -- a call that an event begins is within the bounds of an object
 abbrev pub IsBounded : Event → Type 0

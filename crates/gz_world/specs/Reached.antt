@@ -3,7 +3,7 @@ use Rattle.std.specs.Prelude.{ℕ, ◌≡◌, ◌<◌, false, [], IfSome, IsSome
 use Rattle.gz_core.specs.Configurations.{IsConfig}
 use Rattle.gz_site.specs.Told.{IsEmpty}
 use Rattle.gz_world.specs.States.{State}
-use Rattle.gz_world.specs.Steps.{Step}
+use Rattle.gz_world.specs.Steps.{WorldStep}
 use Rattle.gz_world.specs.declared.events.Event.{Event}
 
 -- nothing has happened, and each site that tells its state holds nothing
@@ -12,7 +12,7 @@ pub record IsOpening (s : State) : Type 0 where
   pub sites : (i : ℕ) → IfSome (s.sites i) IsEmpty
   pub sessions : s.sessions ≡ 0
   pub crashed : (session : ℕ) → s.crashed session ≡ false
-  pub tales : (session : ℕ) → s.tales session ≡ []
+  pub traces : (session : ℕ) → s.traces session ≡ []
   pub net : s.net ≡ []
   pub journal : s.journal ≡ []
   pub casts : s.casts ≡ []
@@ -22,7 +22,7 @@ pub record IsOpening (s : State) : Type 0 where
 -- what is reached by events
 pub data IsReached : State → Type 0 where
   opened : (s : State) → IsOpening s → IsReached s
-  stepped : (old new : State) (event : Event) → IsReached old → Step old event new → IsReached new
+  stepped : (old new : State) (event : Event) → IsReached old → WorldStep old event new → IsReached new
 
 -- each site of the configuration tells its state
 abbrev pub AllTell : State → Type 0

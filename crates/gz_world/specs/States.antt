@@ -6,7 +6,7 @@ use Rattle.gz_config.specs.declared.Config.{Config}
 use Rattle.gz_core.specs.declared.requests.Op.{Op}
 use Rattle.gz_core.specs.declared.requests.Out.{Out}
 use Rattle.gz_core.specs.declared.requests.Reply.{Reply}
-use Rattle.gz_round.specs.History.{Tale}
+use Rattle.gz_round.specs.History.{Trace}
 use Rattle.gz_site.specs.Told.{Told}
 use Rattle.gz_history.specs.declared.record.CallRec.{CallRec}
 use Rattle.gz_model.specs.declared.casts.Cast.{Cast}
@@ -36,14 +36,14 @@ request_of r = record {
   given_up = r.given_up;
 }
 
--- the world: sites by their places, sessions by their numbers with the tales of their calls, newest first, and the
+-- the world: sites by their places, sessions by their numbers with the traces of their calls, newest first, and the
 -- lists of what was recorded
 pub record State : Type 0 where
   pub cfg : Config
   pub sites : ℕ → Option Told
   pub sessions : ℕ
   pub crashed : ℕ → Bool
-  pub tales : ℕ → List Tale
+  pub traces : ℕ → List Trace
   pub net : List RequestAt
   pub journal : List Entry
   pub casts : List Cast
@@ -62,9 +62,9 @@ next_of s = length s.net + 1
 abbrev pub numbered : {A : Type 0} → List A → ℕ → Option A
 numbered xs n = if n == 0 then None else slice_get xs (n - 1)
 
--- the tales with those of one session changed
-abbrev pub with_tales : (ℕ → List Tale) → ℕ → List Tale → ℕ → List Tale
-with_tales tales session ts n = if n == session then ts else tales n
+-- the traces with those of one session changed
+abbrev pub with_traces : (ℕ → List Trace) → ℕ → List Trace → ℕ → List Trace
+with_traces traces session ts n = if n == session then ts else traces n
 
 -- a request with one more reply, with a reply handed, or given up, at a tick
 abbrev pub with_reply : ℕ → Reply → RequestAt → RequestAt

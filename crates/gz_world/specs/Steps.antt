@@ -9,9 +9,9 @@ use Rattle.gz_core.specs.declared.requests.Out.{Out}
 use Rattle.gz_core.specs.declared.requests.Reply.{Reply}
 use Rattle.gz_core.specs.declared.requests.Reply.TheVariants as replies
 use Rattle.gz_core.specs.declared.requests.Turn.{Turn}
-use Rattle.gz_round.specs.History.{Asked, Moment, Handed, GaveUp, Tale, IsClosing, begun, turned}
+use Rattle.gz_round.specs.History.{Asked, Action, Handed, GaveUp, Trace, IsClosing, begun, turned}
 use Rattle.gz_client.specs.Lowest.{IsLowestLive}
-use Rattle.gz_client.specs.Tales.{AreTold, IsAwaited}
+use Rattle.gz_client.specs.Traces.{AllKeepRules, IsAwaited}
 use Rattle.gz_site.specs.Told.{Told, Tells}
 use Rattle.gz_site.specs.Steps.{ReadRowStep, WriteRowStep}
 use Rattle.gz_site.specs.declared.sites.RowRead.TheVariants as reads
@@ -20,7 +20,7 @@ use Rattle.gz_site.specs.declared.sites.SiteFault.TheVariants as faults
 use Rattle.gz_history.specs.declared.record.CallRec.{CallRec}
 use Rattle.gz_world.specs.Audit.{casts_of, with_casts}
 use Rattle.gz_world.specs.Weights.{capped, call_bytes, outs_weight, reply_weight}
-use Rattle.gz_world.specs.States.{RequestAt, State, tick_of, next_of, numbered, with_tales, with_reply, with_handed, with_given_up, sent_requests, end_at}
+use Rattle.gz_world.specs.States.{RequestAt, State, tick_of, next_of, numbered, with_traces, with_reply, with_handed, with_given_up, sent_requests, end_at}
 use Rattle.gz_world.specs.Refusals.{refusal_of, is_open}
 use Rattle.gz_model.specs.declared.casts.Cast.{Cast}
 use Rattle.gz_world.specs.declared.events.Effect.{Effect}
@@ -40,7 +40,7 @@ pub record SitesStay (old new : State) : Type 0 where
 pub record SessionsStay (old new : State) : Type 0 where
   pub sessions : new.sessions ≡ old.sessions
   pub crashed : (session : ℕ) → new.crashed session ≡ old.crashed session
-  pub tales : (session : ℕ) → new.tales session ≡ old.tales session
+  pub traces : (session : ℕ) → new.traces session ≡ old.traces session
   pub calls : new.calls ≡ old.calls
 
 -- the configuration never changes, and the journal grows only once the event is over
@@ -88,7 +88,7 @@ turn_effect s session turn = record { outcome = outcomes.Done; session = Some se
 pub record OpensSession (old : State) (effect : Effect) (new : State) : Type 0 where
   pub sessions : new.sessions ≡ old.sessions + 1
   pub crashed : (session : ℕ) → new.crashed session ≡ old.crashed session
-  pub tales : (session : ℕ) → new.tales session ≡ old.tales session
+  pub traces : (session : ℕ) → new.traces session ≡ old.traces session
   pub calls : new.calls ≡ old.calls
   pub sites : SitesStay old new
   pub frame : FrameStays old new
@@ -100,7 +100,7 @@ pub record OpensSession (old : State) (effect : Effect) (new : State) : Type 0 w
 pub record Crashes (old : State) (session : ℕ) (effect : Effect) (new : State) : Type 0 where
   pub sessions : new.sessions ≡ old.sessions
   pub crashed : (n : ℕ) → new.crashed n ≡ (if n == session then true else old.crashed n)
-  pub tales : (n : ℕ) → new.tales n ≡ old.tales n
+  pub traces : (n : ℕ) → new.traces n ≡ old.traces n
   pub calls : new.calls ≡ old.calls
   pub sites : SitesStay old new
   pub frame : FrameStays old new
@@ -108,31 +108,31 @@ pub record Crashes (old : State) (session : ℕ) (effect : Effect) (new : State)
   pub held : new.held ≡ old.held
   pub effect_is : effect ≡ quiet outcomes.Done (Some session)
 
--- the tales of a session change, by the rules of what a call may send and when its answers come
-pub record SessionMoves (old : State) (session : ℕ) (ts : List Tale) (new : State) : Type 0 where
+-- the traces of a session change, by the rules of what a call may send and when its answers come
+pub record SessionMoves (old : State) (session : ℕ) (ts : List Trace) (new : State) : Type 0 where
   pub sessions : new.sessions ≡ old.sessions
   pub crashed : (n : ℕ) → new.crashed n ≡ old.crashed n
-  pub tales : (n : ℕ) → new.tales n ≡ with_tales old.tales session ts n
-  pub told : AreTold old.cfg session ts
+  pub traces : (n : ℕ) → new.traces n ≡ with_traces old.traces session ts n
+  pub told : AllKeepRules old.cfg session ts
 
 -- a session begins a call
 pub record BeginsBy (old : State) (session : ℕ) (call : Call) (turn : Turn) (effect : Effect) (new : State) : Type 0 where
-  pub moves : SessionMoves old session (begun session call (next_of old) turn (old.tales session) ∷ old.tales session) new
+  pub moves : SessionMoves old session (begun session call (next_of old) turn (old.traces session) ∷ old.traces session) new
   pub calls : new.calls ≡ old.calls ++ record {
-    name = record { session = session; seq = length (old.tales session) + 1 };
+    name = record { session = session; seq = length (old.traces session) + 1 };
     call = call;
     begin = tick_of old;
     end = end_at (tick_of old) turn.answer;
     answer = turn.answer;
   } ∷ []
-  pub net : new.net ≡ old.net ++ sent_requests (record { session = session; seq = length (old.tales session) + 1 }) (tick_of old) turn.send
+  pub net : new.net ≡ old.net ++ sent_requests (record { session = session; seq = length (old.traces session) + 1 }) (tick_of old) turn.send
   pub held : new.held ≡ capped (old.held + call_bytes call + outs_weight turn.send)
   pub sites : SitesStay old new
   pub frame : FrameStays old new
   pub effect_is : effect ≡ turn_effect old session turn
 
-abbrev pub Begins : State → ℕ → Call → Effect → State → Type 0
-Begins old session call effect new = (turn : Turn) × BeginsBy old session call turn effect new
+abbrev pub BeginsCall : State → ℕ → Call → Effect → State → Type 0
+BeginsCall old session call effect new = (turn : Turn) × BeginsBy old session call turn effect new
 
 -- the record of a call, once it has an answer
 abbrev pub answered : ℕ → Option Answer → CallRec → CallRec
@@ -143,23 +143,23 @@ answered tick (Some answer) c = record { name = c.name; call = c.call; begin = c
 abbrev pub CallEnds : List CallRec → Name → ℕ → Option Answer → List CallRec → Type 0
 CallEnds old name tick answer new = (i : ℕ) × ((c : CallRec) × ((slice_get old i ≡ Some c) × ((c.name ≡ name) × (new ≡ slice_set old i (answered tick answer c)))))
 
--- how a running call goes on: its newest tale gets a moment of a request, what it sends at it, and perhaps its answer
+-- how a running call goes on: its newest trace gets an action of a request, what it sends at it, and perhaps its answer
 pub record TurnBy : Type 0 where
-  pub tale : Tale
-  pub earlier : List Tale
+  pub trace : Trace
+  pub earlier : List Trace
   pub asked : Asked
   pub turn : Turn
-  pub closing : List Moment
+  pub closing : List Action
 
--- the running call of a session is told of a request of its own
-pub record TakesTurn (old : State) (n : ℕ) (r : RequestAt) (moment : Asked → Moment) (by : TurnBy) (marked : RequestAt) (effect : Effect) (new : State) : Type 0 where
+-- the running call of a session learns of a request of its own
+pub record TakesTurn (old : State) (n : ℕ) (r : RequestAt) (action : Asked → Action) (by : TurnBy) (marked : RequestAt) (effect : Effect) (new : State) : Type 0 where
   pub request : numbered old.net n ≡ Some r
-  pub tales : old.tales r.name.session ≡ by.tale ∷ by.earlier
-  pub awaited : IsAwaited old.cfg by.tale by.asked n
+  pub traces : old.traces r.name.session ≡ by.trace ∷ by.earlier
+  pub awaited : IsAwaited old.cfg by.trace by.asked n
   pub closing : IsClosing by.closing
-  pub moves : SessionMoves old r.name.session (turned (next_of old) by.turn (moment by.asked) by.closing by.tale ∷ by.earlier) new
-  pub calls : CallEnds old.calls by.tale.caller.name (tick_of old) by.turn.answer new.calls
-  pub net : new.net ≡ slice_set old.net (n - 1) marked ++ sent_requests by.tale.caller.name (tick_of old) by.turn.send
+  pub moves : SessionMoves old r.name.session (turned (next_of old) by.turn (action by.asked) by.closing by.trace ∷ by.earlier) new
+  pub calls : CallEnds old.calls by.trace.caller.name (tick_of old) by.turn.answer new.calls
+  pub net : new.net ≡ slice_set old.net (n - 1) marked ++ sent_requests by.trace.caller.name (tick_of old) by.turn.send
   pub held : new.held ≡ capped (old.held + outs_weight by.turn.send)
   pub sites : SitesStay old new
   pub frame : FrameStays old new
@@ -171,7 +171,7 @@ Hands old n which effect new =
     (r : RequestAt) × ((reply : ℕ × Reply) × ((by : TurnBy) × ((numbered r.replies which ≡ Some reply)
     × TakesTurn old n r (λ a. Handed a reply.1) by (with_handed (tick_of old) which r) effect new)))
 
--- a client is told that a request won't be answered
+-- a client learns that a request won't be answered
 abbrev pub GivesUp : State → ℕ → Effect → State → Type 0
 GivesUp old n effect new = (r : RequestAt) × ((by : TurnBy) × TakesTurn old n r (λ a. GaveUp a) by (with_given_up (tick_of old) r) effect new)
 
@@ -233,7 +233,7 @@ Delivers old n effect new = (r : RequestAt) × ((reply : Reply) × DeliversBy ol
 -- an event that isn't skipped
 abbrev pub Does : State → Event → Effect → State → Type 0
 Does old events.OpenSession effect new = OpensSession old effect new
-Does old (events.Begin session call) effect new = Begins old session call effect new
+Does old (events.Begin session call) effect new = BeginsCall old session call effect new
 Does old (events.Deliver n) effect new = Delivers old n effect new
 Does old (events.Reply n which) effect new = Hands old n which effect new
 Does old (events.GiveUp n) effect new = GivesUp old n effect new
@@ -245,11 +245,11 @@ pub record Skips (old : State) (event : Event) (why : Skip) (effect : Effect) (n
   pub effect_is : effect ≡ quiet (outcomes.Skipped why) (session_of old event)
 
 -- what an event does, but for its entry in the journal
-abbrev pub Acts : State → Event → Effect → State → Type 0
-Acts old event effect new = MatchOption (refusal_of old event) (Does old event effect new) (λ why. Skips old event why effect new)
+abbrev pub HasEffect : State → Event → Effect → State → Type 0
+HasEffect old event effect new = MatchOption (refusal_of old event) (Does old event effect new) (λ why. Skips old event why effect new)
 
 -- the last call of a session
-abbrev pub last_name : List Tale → Option Name
+abbrev pub last_name : List Trace → Option Name
 last_name [] = None
 last_name (t ∷ ts) = Some t.caller.name
 
@@ -260,11 +260,11 @@ name_at calls (Some i) = option_map (λ (c : CallRec). c.name) (slice_get calls 
 
 -- the last call of the session of an event, if it has one
 abbrev pub last_call : State → Option ℕ → Option Name
-last_call s session = option_and_then (λ n. last_name (s.tales n)) session
+last_call s session = option_and_then (λ n. last_name (s.traces n)) session
 
 abbrev pub IsLowestOf : State → Option ℕ → Option ℕ → Type 0
 IsLowestOf s None number = number ≡ None
-IsLowestOf s (Some session) number = IsLowestLive s.cfg (s.tales session) number
+IsLowestOf s (Some session) number = IsLowestLive s.cfg (s.traces session) number
 
 -- the entry of an event: the event, its effect, and the session's last call and lowest live request after it
 pub record IsEntryOf (s : State) (event : Event) (effect : Effect) (entry : Entry) : Type 0 where
@@ -286,5 +286,5 @@ pub record Records (mid : State) (event : Event) (effect : Effect) (entry : Entr
   pub held : new.held ≡ mid.held
 
 -- one event: what it does, and then its entry in the journal
-abbrev pub Step : State → Event → State → Type 0
-Step old event new = (effect : Effect) × ((mid : State) × ((entry : Entry) × (Acts old event effect mid × Records mid event effect entry new)))
+abbrev pub WorldStep : State → Event → State → Type 0
+WorldStep old event new = (effect : Effect) × ((mid : State) × ((entry : Entry) × (HasEffect old event effect mid × Records mid event effect entry new)))

@@ -4,9 +4,9 @@ use Rattle.gz_core.specs.Names.{Name}
 use Rattle.gz_core.specs.declared.calls.Call.{Call}
 use Rattle.gz_core.specs.declared.requests.Reply.{Reply}
 use Rattle.gz_core.specs.declared.requests.Turn.{Turn}
-use Rattle.gz_round.specs.History.{Asked, Moment, Handed, GaveUp, Tale}
+use Rattle.gz_round.specs.History.{Asked, Action, Handed, GaveUp, Trace}
 use Rattle.gz_client.specs.declared.client.Client.{Client}
-use Rattle.gz_client.specs.Tales.{IsSameClient, Begins, Extends, CanBeTold}
+use Rattle.gz_client.specs.Traces.{IsSameClient, Begins, Extends, CanLearn}
 use Rattle.gz_history.specs.declared.record.CallRec.{CallRec}
 use Rattle.gz_world.specs.States.{RequestAt, request_of, numbered, with_handed, with_given_up, sent_requests, end_at}
 use Rattle.gz_world.specs.Steps.{sent_pair, answered}
@@ -51,10 +51,10 @@ pub record HasCall (calls : List CallRec) (m : Member) : Type 0 where
   pub is : m.last ≡ Some last
   pub within : last < length calls
 
--- the client of a request may be told of it
-pub record IsTellable {S : Type 0} (w : World S) (n : ℕ) (r : Request) : Type 0 where
+-- the client of a request may learn of it
+pub record CanBeNotified {S : Type 0} (w : World S) (n : ℕ) (r : Request) : Type 0 where
   pub opened : r.name.session ≤ length w.clients.items
-  pub tells : (m : Member) → slice_get w.clients.items (r.name.session - 1) ≡ Some m → CanBeTold m.client n (length (map request_of w.net.items) + 1)
+  pub tells : (m : Member) → slice_get w.clients.items (r.name.session - 1) ≡ Some m → CanLearn m.client n (length (map request_of w.net.items) + 1)
   pub running : (m : Member) → slice_get w.clients.items (r.name.session - 1) ≡ Some m → HasCall w.calls.items m
 
 -- the effect of a turn
@@ -67,7 +67,7 @@ pub record BeganBy {S : Type 0} (old new : World S) (session : ℕ) (call : Call
   pub member : slice_get old.clients.items (session - 1) ≡ Some m
   pub holds : Begins m.client client (length (map request_of old.net.items) + 1) call turn
   pub same : IsSameClient m.client client
-  pub name_is : (tales : ℕ → List Tale) → Fits tales old → name ≡ record { session = session; seq = length (tales session) + 1 }
+  pub name_is : (traces : ℕ → List Trace) → Fits traces old → name ≡ record { session = session; seq = length (traces session) + 1 }
   pub clients : new.clients.items ≡ slice_set old.clients.items (session - 1) (record { client = client; crashed = m.crashed; last = Some (length old.calls.items) })
   pub calls : new.calls.items ≡ old.calls.items ++ record { name = name; call = call; begin = length old.journal.items + 1; end = end_at (length old.journal.items + 1) turn.answer; answer = turn.answer } ∷ []
   pub net : map request_of new.net.items ≡ map request_of old.net.items ++ sent_requests name (length old.journal.items + 1) turn.send
@@ -78,13 +78,13 @@ pub record BeganBy {S : Type 0} (old new : World S) (session : ℕ) (call : Call
 abbrev pub Began : {S : Type 0} → World S → World S → ℕ → Call → Effect → Type 0
 Began old new session call effect = (m : Member) × ((client : Client) × ((turn : Turn) × ((name : Name) × BeganBy old new session call m client turn name effect)))
 
--- a client is told of a request, with this client after it and this turn
-pub record ToldBy {S : Type 0} (old new : World S) (n : ℕ) (r marked : RequestAt) (moment : Asked → Moment) (m : Member) (last : ℕ) (c : CallRec) (client : Client) (turn : Turn) (effect : Effect) : Type 0 where
+-- a client learns of a request, with this client after it and this turn
+pub record ToldBy {S : Type 0} (old new : World S) (n : ℕ) (r marked : RequestAt) (action : Asked → Action) (m : Member) (last : ℕ) (c : CallRec) (client : Client) (turn : Turn) (effect : Effect) : Type 0 where
   pub request : numbered (map request_of old.net.items) n ≡ Some r
   pub member : slice_get old.clients.items (r.name.session - 1) ≡ Some m
   pub last_is : m.last ≡ Some last
   pub record_is : slice_get old.calls.items last ≡ Some c
-  pub extends : Extends m.client client n (length (map request_of old.net.items) + 1) moment turn
+  pub extends : Extends m.client client n (length (map request_of old.net.items) + 1) action turn
   pub same : IsSameClient m.client client
   pub clients : new.clients.items ≡ slice_set old.clients.items (r.name.session - 1) (record { client = client; crashed = m.crashed; last = Some last })
   pub calls : new.calls.items ≡ slice_set old.calls.items last (answered (length old.journal.items + 1) turn.answer c)
@@ -99,7 +99,7 @@ WasHanded old new n which effect =
     (r : RequestAt) × ((reply : ℕ × Reply) × ((m : Member) × ((last : ℕ) × ((c : CallRec) × ((client : Client) × ((turn : Turn) × ((numbered r.replies which ≡ Some reply)
     × ToldBy old new n r (with_handed (length old.journal.items + 1) which r) (λ a. Handed a reply.1) m last c client turn effect)))))))
 
--- a client was told that a request won't be answered
+-- a client learnt that a request won't be answered
 abbrev pub WasGivenUp : {S : Type 0} → World S → World S → ℕ → Effect → Type 0
 WasGivenUp old new n effect =
     (r : RequestAt) × ((m : Member) × ((last : ℕ) × ((c : CallRec) × ((client : Client) × ((turn : Turn)

@@ -1,18 +1,18 @@
 //! One event of the world.
 ghost use Rattle.std.specs.Prelude.{◌≡◌, ℕ, ◌+◌, ◌<◌, ◌≤◌, ◌⊎◌, ◌↔◌, List, length, IfOk, OnErr, Ok, Err, Some, None, IsTrue, true, false, vec_len, vec_capacity};
-ghost use Rattle.gz_round.specs.History.{Tale};
+ghost use Rattle.gz_round.specs.History.{Trace};
 ghost use Rattle.gz_world.specs.declared.events.Effect.{Effect};
 ghost use Rattle.gz_world.specs.declared.events.Entry.{Entry};
 ghost use Rattle.gz_world.specs.declared.events.Event.{Event};
 ghost use Rattle.gz_client.specs.Lowest.{IsLowestLive};
-ghost use Rattle.gz_client.specs.Tales.{live, IsLiveAtIn};
+ghost use Rattle.gz_client.specs.Traces.{live, IsLiveAtIn};
 ghost use Rattle.gz_world.specs.Bridge.{state_of};
 ghost use Rattle.gz_world.specs.Counting.{IsFull};
 ghost use Rattle.gz_world.specs.Deliveries.{IsCountedFor, LeavesSites};
 ghost use Rattle.gz_world.specs.Fits.{FitsBy, Fits, IsFitting, IsBounded};
 ghost use Rattle.gz_world.specs.Refusals.{refusal_of};
 ghost use Rattle.gz_world.specs.Steps.{last_name, name_at, last_call, IsLowestOf, IsEntryOf};
-ghost use Rattle.gz_world.specs.Told.{ActsBy, StaysBy, RecordedBy, IsToldOf, StepsBy, IsReachedBy};
+ghost use Rattle.gz_world.specs.Told.{ActsBy, StaysBy, RecordedBy, IsReported, StepsBy, IsReachedBy};
 ghost use Rattle.gz_world.specs.Turns.{IsSmall};
 
 use crate::delivery::quiet;
@@ -28,9 +28,9 @@ pub const MOST_EVENTS: usize = 4_000_000;
 /// The bytes held at which a world takes no more events.
 pub const MOST_HELD: u64 = 1_073_741_824;
 
-/// What is told of an event, by its entry.
+/// What is reported of an event, by its entry.
 fn told_of(tick: u32, entry: &Entry, answer: Option<Answer>) -> Applied
-    ensures { (effect : Effect) → effect.answer ≡ answer → IsToldOf tick entry.now effect result }
+    ensures { (effect : Effect) → effect.answer ≡ answer → IsReported tick entry.now effect result }
 {
     Applied {
         tick,
@@ -53,7 +53,7 @@ impl<S: Site> World<S> {
 
     /// The name of the last call that a session began. Takes no memory.
     pub fn last_call(&self, session: Session) -> Option<PutName>
-        ensures { (events : ℕ) (tales : ℕ → List Tale) → FitsBy events tales self.now → result ≡ last_name (tales session) }
+        ensures { (events : ℕ) (traces : ℕ → List Trace) → FitsBy events traces self.now → result ≡ last_name (traces session) }
     {
         match self.member(session) {
             Some(member) => self.call_name(member.last),
@@ -73,7 +73,7 @@ impl<S: Site> World<S> {
 
     /// The lowest live request of a session. Takes no memory.
     pub fn lowest_live(&self, session: Session) -> Option<u32>
-        ensures { (events : ℕ) (tales : ℕ → List Tale) → FitsBy events tales self.now → IsLowestLive self.now.cfg (tales session) result }
+        ensures { (events : ℕ) (traces : ℕ → List Trace) → FitsBy events traces self.now → IsLowestLive self.now.cfg (traces session) result }
     {
         match self.member(session) {
             Some(member) => member.client.lowest_live(),
@@ -83,7 +83,7 @@ impl<S: Site> World<S> {
 
     /// How many requests of a session are live. Takes no memory.
     pub fn live_count(&self, session: Session) -> u32
-        ensures { (events : ℕ) (tales : ℕ → List Tale) → FitsBy events tales self.now → result ≡ live self.now.cfg (λ m. true) (tales session) }
+        ensures { (events : ℕ) (traces : ℕ → List Trace) → FitsBy events traces self.now → result ≡ live self.now.cfg (λ m. true) (traces session) }
     {
         match self.member(session) {
             Some(member) => member.client.live_count(),
@@ -93,7 +93,7 @@ impl<S: Site> World<S> {
 
     /// The `i`-th lowest live request of a session, counted from 0. Takes no memory.
     pub fn live_at(&self, session: Session, i: u32) -> Option<u32>
-        ensures { (events : ℕ) (tales : ℕ → List Tale) → FitsBy events tales self.now → IsLiveAtIn self.now.cfg (tales session) i result }
+        ensures { (events : ℕ) (traces : ℕ → List Trace) → FitsBy events traces self.now → IsLiveAtIn self.now.cfg (traces session) i result }
     {
         match self.member(session) {
             Some(member) => member.client.live_at(i),
@@ -103,8 +103,8 @@ impl<S: Site> World<S> {
 
     /// The last call and the lowest live request of the session of an event, where it has one.
     fn call_and_live(&self, session: Option<Session>) -> (Option<PutName>, Option<u32>)
-        ensures call { (events : ℕ) (tales : ℕ → List Tale) → FitsBy events tales self.now → result.0 ≡ last_call (state_of S.told tales self.now) session }
-        ensures live { (events : ℕ) (tales : ℕ → List Tale) → FitsBy events tales self.now → IsLowestOf (state_of S.told tales self.now) session result.1 }
+        ensures call { (events : ℕ) (traces : ℕ → List Trace) → FitsBy events traces self.now → result.0 ≡ last_call (state_of S.told traces self.now) session }
+        ensures live { (events : ℕ) (traces : ℕ → List Trace) → FitsBy events traces self.now → IsLowestOf (state_of S.told traces self.now) session result.1 }
     {
         match session {
             Some(session) => (self.last_call(session), self.lowest_live(session)),
@@ -117,7 +117,7 @@ impl<S: Site> World<S> {
         requires fits { IsFitting self.old }
         requires small { IsSmall self.old }
         requires bounded { IsBounded event.now }
-        requires happens { (tales : ℕ → List Tale) → Fits tales self.old → refusal_of (state_of S.told tales self.old) event.now ≡ None }
+        requires happens { (traces : ℕ → List Trace) → Fits traces self.old → refusal_of (state_of S.told traces self.old) event.now ≡ None }
         ensures acts { IfOk result (λ effect. ActsBy S.told self.old event.now self.new effect) }
         ensures err { OnErr result (StaysBy S.told self.old self.new) }
         ensures journal { self.new.journal ≡ self.old.journal }
@@ -135,7 +135,7 @@ impl<S: Site> World<S> {
     }
 
     /// Does an event, or skips it for the first reason that holds.
-    fn act(&mut self, event: &Event) -> Result<Effect, AllocError>
+    fn do_event(&mut self, event: &Event) -> Result<Effect, AllocError>
         requires fits { IsFitting self.old }
         requires small { IsSmall self.old }
         requires bounded { IsBounded event.now }
@@ -155,7 +155,7 @@ impl<S: Site> World<S> {
     fn enter(&mut self, event: Event, effect: Effect) -> Applied
         requires room { vec_len self.old.journal < vec_capacity self.old.journal }
         requires events { length self.old.journal.items < 4000000 }
-        ensures told { (entry : Entry) × (RecordedBy S.told self.old event effect self.new entry × IsToldOf (length self.new.journal.items) entry effect result) }
+        ensures told { (entry : Entry) × (RecordedBy S.told self.old event effect self.new entry × IsReported (length self.new.journal.items) entry effect result) }
         ensures net { self.new.net ≡ self.old.net }
         ensures sites { self.new.sites ≡ self.old.sites }
         ensures outcome { result.outcome ≡ effect.outcome }
@@ -169,7 +169,7 @@ impl<S: Site> World<S> {
 
     /// The entry of an event, by its effect.
     fn entry_of(&self, event: Event, effect: &Effect) -> Entry
-        ensures is { (events : ℕ) (tales : ℕ → List Tale) → FitsBy events tales self.now → IsEntryOf (state_of S.told tales self.now) event effect.now result }
+        ensures is { (events : ℕ) (traces : ℕ → List Trace) → FitsBy events traces self.now → IsEntryOf (state_of S.told traces self.now) event effect.now result }
         ensures outcome { result.outcome ≡ effect.now.outcome }
     {
         let (call, live) = self.call_and_live(effect.session);
@@ -194,7 +194,7 @@ impl<S: Site> World<S> {
         ensures sites { IfOk result (λ applied. LeavesSites event applied.outcome → self.new.sites ≡ self.old.sites) }
     {
         self.journal.reserve(1)?;
-        let effect = self.act(&event)?;
+        let effect = self.do_event(&event)?;
         Ok(self.enter(event, effect))
     }
 
@@ -207,7 +207,7 @@ impl<S: Site> World<S> {
         ensures step { IfOk result (λ applied. StepsBy S.told self.old event self.new applied) }
         ensures err { OnErr result (StaysBy S.told self.old self.new) }
 
-        // A reply that tells of a fault is kept only where the site counted one.
+        // A reply that reports a fault is kept only where the site counted one.
         ensures fault { IfOk result (λ applied. (n : ℕ) → event ≡ Event.Deliver n → IsCountedFor S.faults self.old n self.new) }
 
         // An event that is skipped, or that is no delivery, reaches no site, and so raises no site's count of faults.

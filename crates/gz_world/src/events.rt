@@ -1,4 +1,4 @@
-//! Events, and what the world tells of each.
+//! Events, and what the world reports of each.
 use gz_core::{Answer, Call, PutName, Session};
 
 /// What may happen to the world. Requests and replies count from 1.
@@ -11,7 +11,7 @@ pub enum Event {
     Deliver { n: u32 },
     /// A reply of a request reaches the client.
     Reply { n: u32, which: u32 },
-    /// The client is told that a request won't be answered.
+    /// The client learns that a request won't be answered.
     GiveUp { n: u32 },
     /// A session does nothing any more.
     Crash { session: Session },
@@ -44,7 +44,7 @@ pub enum Skip {
     Busy,
     /// There is no such request.
     NoRequest,
-    /// The client was told that the request won't be answered.
+    /// The client learnt that the request won't be answered.
     GivenUp,
     /// No running call awaits the request.
     NotLive,
@@ -69,7 +69,7 @@ pub struct Effect {
     pub answer: Option<Answer>,
 }
 
-/// An event in the journal, with what was told of it: the session, its last call and its lowest live request after
+/// An event in the journal, with what was reported of it: the session, its last call and its lowest live request after
 /// the event, and the first request that was sent and how many were ((0, 0): none).
 pub struct Entry {
     pub event: Event,
@@ -93,7 +93,7 @@ impl Drop for Entry {
     }
 }
 
-/// What is told of an event: the fields of its entry, its tick (its place in the journal, from 1), and the answer of
+/// What is reported of an event: the fields of its entry, its tick (its place in the journal, from 1), and the answer of
 /// the call that ended at it.
 #[derive(Debug, PartialEq, Eq, Drop)]
 pub struct Applied {

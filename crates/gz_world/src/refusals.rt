@@ -1,10 +1,10 @@
 //! Why an event is skipped. Takes no memory.
 ghost use Rattle.std.specs.Prelude.{◌<◌, ◌-◌, ◌^◌, Some, None, ◌≡◌, ℕ, ◌↔◌, List, IsTrue, length, option_copied, map};
 ghost use Rattle.gz_core.specs.declared.calls.Call.{Call};
-ghost use Rattle.gz_round.specs.History.{Tale};
+ghost use Rattle.gz_round.specs.History.{Trace};
 ghost use Rattle.gz_world.specs.States.{numbered, request_of};
 ghost use Rattle.gz_world.specs.Bridge.{state_of, crashed_in};
-ghost use Rattle.gz_world.specs.Refusals.{is_open, session_refusal, request_refusal, reply_refusal, refusal_of, or_else, is_running, is_live};
+ghost use Rattle.gz_world.specs.Refusals.{is_open, session_refusal, request_refusal, reply_refusal, refusal_of, or_next_skip, is_running, is_live};
 ghost use Rattle.gz_world.specs.Steps.{session_of, open_session, session_of_request};
 ghost use Rattle.gz_world.specs.Fits.{Fits, IsFitting};
 
@@ -48,7 +48,7 @@ impl<S: Site> World<S> {
     /// Whether a call of a session runs.
     fn is_busy(&self, session: Session) -> bool
         requires { IsFitting self.now }
-        ensures { (tales : ℕ → List Tale) → Fits tales self.now → result ≡ is_running (tales session) }
+        ensures { (traces : ℕ → List Trace) → Fits traces self.now → result ≡ is_running (traces session) }
     {
         match self.member(session) {
             Some(member) => member.client.runs(),
@@ -59,7 +59,7 @@ impl<S: Site> World<S> {
     /// Why a session doesn't begin a call, where it doesn't.
     fn begin_refusal(&self, session: Session) -> Option<Skip>
         requires { IsFitting self.now }
-        ensures { (tales : ℕ → List Tale) (call : Call) → Fits tales self.now → result ≡ refusal_of (state_of S.told tales self.now) (Event.Begin session call) }
+        ensures { (traces : ℕ → List Trace) (call : Call) → Fits traces self.now → result ≡ refusal_of (state_of S.told traces self.now) (Event.Begin session call) }
     {
         let refusal = self.session_refusal(session);
         if refusal.is_some() {
@@ -74,7 +74,7 @@ impl<S: Site> World<S> {
     /// Whether a session's running call awaits the n-th request.
     fn is_live(&self, session: Session, n: u32) -> bool
         requires { IsFitting self.now }
-        ensures { (tales : ℕ → List Tale) → Fits tales self.now → result ≡ is_live self.now.cfg (tales session) n }
+        ensures { (traces : ℕ → List Trace) → Fits traces self.now → result ≡ is_live self.now.cfg (traces session) n }
     {
         match self.member(session) {
             Some(member) => member.client.awaits(n),
@@ -82,10 +82,10 @@ impl<S: Site> World<S> {
         }
     }
 
-    /// Why a client isn't told of a request, where it isn't.
+    /// Why a client doesn't learn of a request, where it doesn't.
     fn request_refusal(&self, n: u32) -> Option<Skip>
         requires { IsFitting self.now }
-        ensures { (tales : ℕ → List Tale) → Fits tales self.now → result ≡ request_refusal (state_of S.told tales self.now) n (numbered (map request_of self.now.net.items) n) }
+        ensures { (traces : ℕ → List Trace) → Fits traces self.now → result ≡ request_refusal (state_of S.told traces self.now) n (numbered (map request_of self.now.net.items) n) }
     {
         match self.request(n) {
             Some(request) => self.refusal_to_tell(n, request),
@@ -93,10 +93,10 @@ impl<S: Site> World<S> {
         }
     }
 
-    /// Why a client isn't told of this request, where it isn't.
+    /// Why a client doesn't learn of this request, where it doesn't.
     fn refusal_to_tell(&self, n: u32, request: &Request) -> Option<Skip>
         requires { IsFitting self.now }
-        ensures { (tales : ℕ → List Tale) → Fits tales self.now → result ≡ request_refusal (state_of S.told tales self.now) n (Some (request_of request.now)) }
+        ensures { (traces : ℕ → List Trace) → Fits traces self.now → result ≡ request_refusal (state_of S.told traces self.now) n (Some (request_of request.now)) }
     {
         let session = request.asker();
         if self.has_crashed(session) {
@@ -113,7 +113,7 @@ impl<S: Site> World<S> {
     /// Why a reply isn't handed to its client, where it isn't.
     fn reply_refusal(&self, n: u32, which: u32) -> Option<Skip>
         requires { IsFitting self.now }
-        ensures { (tales : ℕ → List Tale) → Fits tales self.now → result ≡ refusal_of (state_of S.told tales self.now) (Event.Reply n which) }
+        ensures { (traces : ℕ → List Trace) → Fits traces self.now → result ≡ refusal_of (state_of S.told traces self.now) (Event.Reply n which) }
     {
         let refusal = self.request_refusal(n);
         if refusal.is_some() {
@@ -138,7 +138,7 @@ impl<S: Site> World<S> {
     /// Why an event is skipped: the first reason that holds.
     pub fn refusal(&self, event: &Event) -> Option<Skip>
         requires { IsFitting self.now }
-        ensures { (tales : ℕ → List Tale) → Fits tales self.now → result ≡ refusal_of (state_of S.told tales self.now) event.now }
+        ensures { (traces : ℕ → List Trace) → Fits traces self.now → result ≡ refusal_of (state_of S.told traces self.now) event.now }
     {
         match event {
             Event::OpenSession => None,
@@ -152,7 +152,7 @@ impl<S: Site> World<S> {
 
     /// Why a request isn't delivered, where it isn't.
     fn deliver_refusal(&self, n: u32) -> Option<Skip>
-        ensures { (tales : ℕ → List Tale) → result ≡ refusal_of (state_of S.told tales self.now) (Event.Deliver n) }
+        ensures { (traces : ℕ → List Trace) → result ≡ refusal_of (state_of S.told traces self.now) (Event.Deliver n) }
     {
         match self.request(n) {
             Some(_) => None,
@@ -163,7 +163,7 @@ impl<S: Site> World<S> {
     /// The session that an event names, or whose request it names, where there is one.
     pub fn session_of(&self, event: &Event) -> Option<Session>
         requires { length self.now.clients.items < 2 ^ 32 - 1 }
-        ensures { (tales : ℕ → List Tale) → result ≡ session_of (state_of S.told tales self.now) event.now }
+        ensures { (traces : ℕ → List Trace) → result ≡ session_of (state_of S.told traces self.now) event.now }
     {
         match event {
             Event::OpenSession => Some(Session(self.clients.len() as u32 + 1)),

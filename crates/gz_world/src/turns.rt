@@ -3,10 +3,10 @@ ghost use Rattle.std.specs.Prelude.{min, ◌≡◌, ℕ, ◌+◌, ◌-◌, ◌^�
 ghost use Rattle.std.specs.Option.{ForSome, option_map_or};
 ghost use Rattle.gz_core.specs.declared.requests.Turn.{Turn};
 ghost use Rattle.gz_core.specs.declared.requests.Reply.{Reply};
-ghost use Rattle.gz_round.specs.History.{Tale, Asked, Moment, Handed, GaveUp};
+ghost use Rattle.gz_round.specs.History.{Trace, Asked, Action, Handed, GaveUp};
 ghost use Rattle.gz_client.specs.declared.client.Client.{Client};
 ghost use Rattle.gz_round.specs.Starting.{IsWithin};
-ghost use Rattle.gz_client.specs.Tales.{CanBegin, CanBeTold, IsSameClient, Begins, Extends};
+ghost use Rattle.gz_client.specs.Traces.{CanBegin, CanLearn, IsSameClient, Begins, Extends};
 ghost use Rattle.gz_history.specs.declared.record.CallRec.{CallRec};
 ghost use Rattle.gz_world.specs.States.{RequestAt, numbered, request_of, with_handed, with_given_up, sent_requests, end_at};
 ghost use Rattle.gz_world.specs.Steps.{sent_pair, answered};
@@ -14,7 +14,7 @@ ghost use Rattle.gz_world.specs.Weights.{capped, call_bytes, outs_weight};
 ghost use Rattle.gz_world.specs.Fits.{Fits, IsFitting};
 ghost use Rattle.gz_world.specs.declared.world.Member.{Member};
 ghost use Rattle.gz_world.specs.declared.requests.Request.{Request};
-ghost use Rattle.gz_world.specs.Turns.{IsSmall, IsUntouched, IsSameWorld, effect_of, IsNumber, HasCall, IsTellable, Started, Began, WasHanded, WasGivenUp, WentOn};
+ghost use Rattle.gz_world.specs.Turns.{IsSmall, IsUntouched, IsSameWorld, effect_of, IsNumber, HasCall, CanBeNotified, Started, Began, WasHanded, WasGivenUp, WentOn};
 
 use crate::calls::{copy_of_answer, copy_of_call, end_at, end_call};
 use crate::events::{Effect, Outcome};
@@ -28,7 +28,7 @@ use gz_history::CallRec;
 use gz_site::Site;
 use std::alloc::{AllocError, Global};
 
-/// A turn of a session's client: the client after it, the turn, and what is told of it.
+/// A turn of a session's client: the client after it, the turn, and what is reported of it.
 struct Moved {
     client: Client,
     turn: Turn,
@@ -46,7 +46,7 @@ impl Drop for Moved {
 }
 
 impl Moved {
-    /// A client's turn, of which is told what requests it sends from `first` on, and its answer.
+    /// A client's turn, of which the requests are reported that it sends from `first` on, and its answer.
     fn new(session: Session, first: u32, client: Client, turn: Turn) -> Result<Moved, AllocError>
         ensures { IfOk result (λ moved. moved ≡ record { client = client; turn = turn; effect = effect_of first session turn }) }
     {
@@ -64,7 +64,7 @@ impl Moved {
         })
     }
 
-    /// The client, the turn, and what is told of it.
+    /// The client, the turn, and what is reported of it.
     fn into_parts(self) -> (Client, Turn, Effect)
         ensures client { result.0 ≡ self.client }
         ensures turn { result.1 ≡ self.turn }
@@ -129,7 +129,7 @@ fn handed(
     reply: &Reply,
     first: u32,
 ) -> Result<Moved, AllocError>
-    requires told { CanBeTold client.now n first }
+    requires told { CanLearn client.now n first }
     requires first { first < 2 ^ 31 }
     ensures holds { IfOk result (λ moved. Extends client.now moved.client n first (λ a. Handed a reply.now) moved.turn) }
     ensures same { IfOk result (λ moved. IsSameClient client.now moved.client) }
@@ -139,7 +139,7 @@ fn handed(
     Moved::new(session, first, client, turn)
 }
 
-/// The turn of a client that is told that a request won't be answered.
+/// The turn of a client that learns that a request won't be answered.
 fn given_up(
     alloc: Global,
     session: Session,
@@ -147,7 +147,7 @@ fn given_up(
     n: u32,
     first: u32,
 ) -> Result<Moved, AllocError>
-    requires told { CanBeTold client.now n first }
+    requires told { CanLearn client.now n first }
     requires first { first < 2 ^ 31 }
     ensures holds { IfOk result (λ moved. Extends client.now moved.client n first (λ a. GaveUp a) moved.turn) }
     ensures same { IfOk result (λ moved. IsSameClient client.now moved.client) }
@@ -269,8 +269,8 @@ impl<S: Site> World<S> {
         send_all(self.alloc, &mut self.net, name, tick, send);
     }
 
-    /// Goes on with the running call of a session, after its client's turn, and gives what is told of it. Takes no memory.
-    fn go_on(&mut self, session: Session, tick: u32, moved: Moved) -> Effect
+    /// Goes on with the running call of a session, after its client's turn, and gives what is reported of it. Takes no memory.
+    fn after_turn(&mut self, session: Session, tick: u32, moved: Moved) -> Effect
         requires opened { session ≤ length self.old.clients.items }
         requires running { (m : Member) → slice_get self.old.clients.items (session - 1) ≡ Some m → HasCall self.old.calls.items m }
         requires room { vec_len self.old.net + length moved.turn.send ≤ vec_capacity self.old.net }
@@ -322,7 +322,7 @@ impl<S: Site> World<S> {
         requires fits { IsFitting self.now }
         requires small { IsSmall self.now }
         requires opened { session ≤ length self.now.clients.items }
-        ensures { (tales : ℕ → List Tale) → Fits tales self.now → result ≡ record { session = session; seq = length (tales session) + 1 } }
+        ensures { (traces : ℕ → List Trace) → Fits traces self.now → result ≡ record { session = session; seq = length (traces session) + 1 } }
     {
         let member = self.member_of(session);
         PutName {
@@ -361,7 +361,7 @@ impl<S: Site> World<S> {
         Ok(self.start(session, name, tick, call, moved))
     }
 
-    /// Goes on with a call that begins, after its client's first turn, and gives what is told of it. Takes no memory.
+    /// Goes on with a call that begins, after its client's first turn, and gives what is reported of it. Takes no memory.
     fn start(
         &mut self,
         session: Session,
@@ -396,7 +396,7 @@ impl<S: Site> World<S> {
     pub fn hand(&mut self, n: u32, which: u32) -> Result<Effect, AllocError>
         requires small { IsSmall self.old }
         requires number { IsNumber n (length self.old.net.items) }
-        requires told { (r : Request) → slice_get self.old.net.items (n - 1) ≡ Some r → IsTellable self.old n r }
+        requires told { (r : Request) → slice_get self.old.net.items (n - 1) ≡ Some r → CanBeNotified self.old n r }
         requires reply { (r : Request) → slice_get self.old.net.items (n - 1) ≡ Some r → IsNumber which (length r.replies.items) }
         ensures ok { IfOk result (λ effect. WasHanded self.old self.new n which effect) }
         ensures err { OnErr result (IsSameWorld self.old self.new) }
@@ -410,14 +410,14 @@ impl<S: Site> World<S> {
         let moved = handed(self.alloc, session, client, n, &reply.1, first)?;
         self.make_room(moved.turn.send.len())?;
         hand_at(&mut self.net, n as usize - 1, tick, which);
-        Ok(self.go_on(session, tick, moved))
+        Ok(self.after_turn(session, tick, moved))
     }
 
-    /// Tells the client of a request that it won't be answered.
+    /// Notifies the client of a request that it won't be answered.
     pub fn give_up(&mut self, n: u32) -> Result<Effect, AllocError>
         requires small { IsSmall self.old }
         requires number { IsNumber n (length self.old.net.items) }
-        requires told { (r : Request) → slice_get self.old.net.items (n - 1) ≡ Some r → IsTellable self.old n r }
+        requires told { (r : Request) → slice_get self.old.net.items (n - 1) ≡ Some r → CanBeNotified self.old n r }
         ensures ok { IfOk result (λ effect. WasGivenUp self.old self.new n effect) }
         ensures err { OnErr result (IsSameWorld self.old self.new) }
     {
@@ -429,6 +429,6 @@ impl<S: Site> World<S> {
         let moved = given_up(self.alloc, session, client, n, first)?;
         self.make_room(moved.turn.send.len())?;
         give_up_at(&mut self.net, n as usize - 1, tick);
-        Ok(self.go_on(session, tick, moved))
+        Ok(self.after_turn(session, tick, moved))
     }
 }

@@ -29,7 +29,7 @@ impl Drop for Member {
 
 /// The world. Request n stands at place n of `net`, session n at place n of `clients`, and the event of tick n at
 /// place n of `journal`, each counted from 1. `calls` stand in the order of their beginning. `held` counts the bytes
-/// that the world holds, and `spent` tells that memory ran out. Sites past the n-th are kept unused.
+/// that the world holds, and `spent` shows that memory ran out. Sites past the n-th are kept unused.
 #[derive(Drop)]
 pub struct World<S: Site> {
     pub cfg: Config,

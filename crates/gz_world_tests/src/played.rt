@@ -1,6 +1,6 @@
 //! Schedules that are played over sites in memory, and the logs of their worlds.
 ghost use Rattle.std.specs.Prelude.{IfSome, All};
-ghost use Rattle.gz_lines.specs.Schedule.{IsBounded};
+ghost use Rattle.gz_lines.specs.Schedule.{IsBoundedLine};
 ghost use Rattle.gz_world.specs.Fits.{IsFitting};
 
 use crate::opened::opened;
@@ -15,7 +15,7 @@ use std::test::Fail;
 
 /// The lines of a short text.
 fn lines(alloc: Global, text: &str) -> Option<Vec<Line>>
-    ensures { IfSome result (λ lines. All IsBounded lines.items) }
+    ensures { IfSome result (λ lines. All IsBoundedLine lines.items) }
 {
     if text.len() >= 200 {
         return None;
@@ -47,7 +47,7 @@ fn log_of(world: &World<MemSite>) -> Option<Vec<u8>> {
 /// The log of a world after lines are played in it.
 fn log_after(world: &mut World<MemSite>, lines: &[Line]) -> Option<Vec<u8>>
     requires fits { IsFitting world.old }
-    requires bounded { All IsBounded lines.now }
+    requires bounded { All IsBoundedLine lines.now }
 {
     play(lines, world).ok()?;
     log_of(world)

@@ -18,7 +18,7 @@ fn refused_over_two(alloc: Global) -> Option<(OpenWhy, usize)> {
     }
 }
 
-/// Crashes a session that isn't there so many times, and tells why it can't be done once more.
+/// Crashes a session that isn't there so many times, and returns why it can't be done once more.
 fn crash_often(world: &mut World<MemSite>, session: Session, count: u32) -> Option<ApplyError>
     requires { IsFitting world.old }
 {
@@ -73,7 +73,7 @@ fn key(alloc: Global) -> Option<Key> {
     Key::new(Vec::from_slice(alloc, b"a").ok()?)
 }
 
-/// What is told of an event: its tick and outcome, the session and its last call, its lowest live request, the requests
+/// What is reported of an event: its tick and outcome, the session and its last call, its lowest live request, the requests
 /// that were sent, and of an answer for want of sites how many were heard.
 type Told = (
     (u32, Outcome),
@@ -105,7 +105,7 @@ fn told_of(applied: &Applied) -> Told {
     )
 }
 
-/// Takes a step, and gives what is told of it.
+/// Takes a step, and gives what is reported of it.
 fn told(world: &mut World<MemSite>, step: Step) -> Option<Told>
     requires { IsFitting world.old }
     ensures { IsFitting world.new }
@@ -115,7 +115,7 @@ fn told(world: &mut World<MemSite>, step: Step) -> Option<Told>
     Some(told_of(&applied))
 }
 
-/// Whether each step is told of as it is to be.
+/// Whether each step is reported as it is to be.
 fn happen(world: &mut World<MemSite>, steps: &[(Step, Told)]) -> bool
     requires { IsFitting world.old }
     ensures { IsFitting world.new }

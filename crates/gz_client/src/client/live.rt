@@ -1,9 +1,9 @@
 //! Which requests a client awaits.
 ghost use Rattle.std.specs.Prelude.{◌≡◌, ℕ, ◌==◌, List, nat_lt};
 ghost use Rattle.std.specs.List.{list_any};
-ghost use Rattle.gz_round.specs.History.{Tale};
+ghost use Rattle.gz_round.specs.History.{Trace};
 ghost use Rattle.gz_round.specs.Awaiting.{has_number};
-ghost use Rattle.gz_client.specs.Tales.{Holds, live};
+ghost use Rattle.gz_client.specs.Traces.{Holds, live};
 ghost use Rattle.gz_client.specs.Lowest.{IsLowestLive};
 
 use super::Client;
@@ -12,7 +12,7 @@ use gz_round::Mark;
 impl Client {
     /// Whether the running call awaits request `n`. Takes no memory.
     pub fn awaits(&self, n: u32) -> bool
-        ensures { (next : ℕ) (ts : List Tale) → Holds self.now next ts → result ≡ nat_lt 0 (live self.now.config (λ m. m == n) ts) }
+        ensures { (next : ℕ) (ts : List Trace) → Holds self.now next ts → result ≡ nat_lt 0 (live self.now.config (λ m. m == n) ts) }
     {
         match &self.run {
             Some(run) => any_awaits(run.marks.as_slice(), n),
@@ -22,7 +22,7 @@ impl Client {
 
     /// The lowest number of a request that the running call awaits. Takes no memory.
     pub fn lowest_live(&self) -> Option<u32>
-        ensures { (next : ℕ) (ts : List Tale) → Holds self.now next ts → IsLowestLive self.now.config ts result }
+        ensures { (next : ℕ) (ts : List Trace) → Holds self.now next ts → IsLowestLive self.now.config ts result }
     {
         self.live_at(0)
     }

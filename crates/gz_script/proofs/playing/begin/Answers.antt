@@ -14,5 +14,5 @@ returns-in-Ok-clause-err g c =
     let old = c.args.world.now in
     let new = c.happen.new.world in
     if_err_map c.happen.result (λ e. ChangesBy told (StopsAt e (events.Begin c.args.session c.in-Ok.call)) old new) (λ e. ChangesBy told (HappenInPart e (events.Begin c.args.session c.args.call.now ∷ [])) old new)
-    (λ e. first_stops told (λ s. events.Begin c.args.session c.args.call.now ∷ []) e (events.Begin c.args.session c.in-Ok.call) old new (λ tales. ap (λ call. Some (events.Begin c.args.session call)) (sym c.in-Ok.ensures)))
+    (λ e. first_stops told (λ s. events.Begin c.args.session c.args.call.now ∷ []) e (events.Begin c.args.session c.in-Ok.call) old new (λ traces. ap (λ call. Some (events.Begin c.args.session call)) (sym c.in-Ok.ensures)))
     c.happen.ensures.err

@@ -1,6 +1,6 @@
 use Rattle.std.proofs.Common.{subst, sym}
 use Rattle.gz_core.specs.declared.calls.Call.{Call}
-use Rattle.gz_client.specs.Tales.{Begins}
+use Rattle.gz_client.specs.Traces.{Begins}
 use Rattle.gz_world.specs.declared.turns.Moved.{Moved}
 use Rattle.gz_world.proofs.Results.{if_ok_map}
 use Rattle.gz_world.proofs.turns.begun.Goals as goal

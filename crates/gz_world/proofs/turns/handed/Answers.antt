@@ -1,6 +1,6 @@
 use Rattle.std.proofs.Common.{subst, sym}
 use Rattle.gz_round.specs.History.{Handed}
-use Rattle.gz_client.specs.Tales.{Extends}
+use Rattle.gz_client.specs.Traces.{Extends}
 use Rattle.gz_world.specs.declared.turns.Moved.{Moved}
 use Rattle.gz_world.proofs.Results.{if_ok_map}
 use Rattle.gz_world.proofs.turns.handed.Goals as goal

@@ -1,7 +1,7 @@
 use Rattle.std.proofs.Common.{◌∙◌, ap, subst}
 use Rattle.std.specs.List.{list_any}
 use Rattle.gz_round.specs.Awaiting.{has_number}
-use Rattle.gz_client.specs.Tales.{HoldsRun}
+use Rattle.gz_client.specs.Traces.{HoldsRun}
 use Rattle.gz_client.proofs.LiveRequests.{awaits_running, awaits_idle}
 use Rattle.gz_client.proofs.client.Client.awaits.Goals as goal
 

@@ -2,14 +2,14 @@ use Rattle.std.proofs.Common.{[], ◌∷◌, ◌+◌, length, None, refl, sym, a
 use Rattle.gz_core.specs.Names.{Name}
 use Rattle.gz_round.specs.History.{Caller, begun}
 use Rattle.gz_client.specs.declared.client.Client.{Client}
-use Rattle.gz_client.specs.Tales.{Holds}
-use Rattle.gz_client.proofs.Holding.{begun_holds, tale_of, tale_round}
+use Rattle.gz_client.specs.Traces.{Holds}
+use Rattle.gz_client.proofs.Holding.{begun_holds, trace_of, trace_round}
 use Rattle.gz_client.proofs.client.Client.begun.Goals as goal
 
 pub open-requires-clause-opens : goal.open-requires-clause-opens
 open-requires-clause-opens c =
     let w : Caller = record { name = record { session = c.args.self.now.session; seq = c.args.self.now.calls + 1 }; call = c.args.call } in
-    (w, tale_of w c.args.self.now.round ∷ [], c.in_ok-run.ensures.ready w (tale_of w c.args.self.now.round ∷ []) refl refl (tale_round w c.args.self.now.round))
+    (w, trace_of w c.args.self.now.round ∷ [], c.in_ok-run.ensures.ready w (trace_of w c.args.self.now.round ∷ []) refl refl (trace_round w c.args.self.now.round))
 
 pub returns-clause-ok : goal.returns-clause-ok
 returns-clause-ok c = λ next ts h l.

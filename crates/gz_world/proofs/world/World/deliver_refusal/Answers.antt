@@ -6,7 +6,7 @@ use Rattle.gz_world.proofs.Members.{mapped_there, mapped_none}
 use Rattle.gz_world.proofs.world.World.deliver_refusal.Goals as goal
 
 pub returns-in-Some : goal.returns-in-Some
-returns-in-Some g c = λ tales. ap (λ o. if is_none o then Some skips.NoRequest else None) (mapped_there request_of c.args.self.now.net.items c.args.n c.in-Some.field-0.now c.in-Some.ensures)
+returns-in-Some g c = λ traces. ap (λ o. if is_none o then Some skips.NoRequest else None) (mapped_there request_of c.args.self.now.net.items c.args.n c.in-Some.field-0.now c.in-Some.ensures)
 
 pub returns-in-None : goal.returns-in-None
-returns-in-None g c = λ tales. ap (λ o. if is_none o then Some skips.NoRequest else None) (mapped_none request_of c.args.self.now.net.items c.args.n c.in-None.ensures)
+returns-in-None g c = λ traces. ap (λ o. if is_none o then Some skips.NoRequest else None) (mapped_none request_of c.args.self.now.net.items c.args.n c.in-None.ensures)

@@ -2,7 +2,7 @@ use Rattle.std.proofs.Common.{◌≡◌, ◌+◌, ◌-◌, ◌<◌, ◌≤◌, �
 use Rattle.std.specs.Prelude.{slice_get, slice_set, option_map}
 use Rattle.std.proofs.lemmas.Option.{slice_get-map}
 use Rattle.std.proofs.lemmas.List.{length-map}
-use Rattle.gz_client.specs.Tales.{CanBeTold}
+use Rattle.gz_client.specs.Traces.{CanLearn}
 use Rattle.gz_round.specs.History.{Handed}
 use Rattle.gz_world.specs.States.{RequestAt, request_of, with_handed}
 use Rattle.gz_world.specs.Turns.{HasCall, WentOn, effect_of}
@@ -20,7 +20,7 @@ pub handed-requires-clause-told : goal.handed-requires-clause-told
 handed-requires-clause-told g c =
     let told = c.requires.told c.request_at-request.result.now c.request_at-request.ensures in
     let m = c.member_of.result.now in
-    subst (CanBeTold m.client c.args.n) (sym c.next_number-first.ensures.same)
+    subst (CanLearn m.client c.args.n) (sym c.next_number-first.ensures.same)
     (told.tells m (subst (λ s. slice_get c.args.self.now.clients.items (s - 1) ≡ Some m) c.asker-session.ensures c.member_of.ensures.there))
 
 pub hand_at-requires : goal.hand_at-requires
@@ -32,13 +32,13 @@ hand_at-requires g c =
     let mid : slice_get (map request_of room.net.items) (c.args.n - 1) ≡ Some r = subst (λ xs. slice_get xs (c.args.n - 1) ≡ Some r) (sym c.make_room.ensures.same.net) at in
     subst (λ k. c.args.n - 1 < k) (length-map room.net.items request_of) (get_below (map request_of room.net.items) (c.args.n - 1) r mid)
 
-pub go_on-requires-clause-opened : goal.go_on-requires-clause-opened
-go_on-requires-clause-opened g c =
+pub after_turn-requires-clause-opened : goal.after_turn-requires-clause-opened
+after_turn-requires-clause-opened g c =
     let told = c.requires.told c.request_at-request.result.now c.request_at-request.ensures in
     subst (λ v. c.asker-session.result ≤ length v.items) (sym c.make_room.ensures.clients) (subst (λ s. s ≤ length c.args.self.now.clients.items) (sym c.asker-session.ensures) told.opened)
 
-pub go_on-requires-clause-running : goal.go_on-requires-clause-running
-go_on-requires-clause-running g c =
+pub after_turn-requires-clause-running : goal.after_turn-requires-clause-running
+after_turn-requires-clause-running g c =
     let request = c.request_at-request.result.now in
     let told = c.requires.told request c.request_at-request.ensures in
     λ m there. subst (λ v. HasCall v.items m) (sym c.make_room.ensures.calls)
@@ -61,10 +61,10 @@ returns-clause-ok g c =
     let tick = c.next_tick-tick.result in
     let at : slice_get (map request_of old.net.items) (c.args.n - 1) ≡ Some r = slice_get-map request_of old.net.items (c.args.n - 1) ∙ ap (option_map request_of) c.request_at-request.ensures in
     let mid : slice_get (map request_of room.net.items) (c.args.n - 1) ≡ Some r = subst (λ xs. slice_get xs (c.args.n - 1) ≡ Some r) (sym c.make_room.ensures.same.net) at in
-    let went = subst (λ s. WentOn (record room { net = c.hand_at.new.net }) c.go_on.new.self s tick m call.last rec.0 moved.client moved.turn) own
-    (c.go_on.ensures.went m call.last rec.0 (subst (λ v. slice_get v.items (c.asker-session.result - 1) ≡ Some m) (sym c.make_room.ensures.clients) c.member_of.ensures.there) call.is (subst (λ v. slice_get v.items call.last ≡ Some rec.0) (sym c.make_room.ensures.calls) rec.1)) in
-    let effect = c.go_on.ensures.told ∙ c.in_ok-moved.ensures.told ∙ ap (λ s. effect_of first s moved.turn) own in
-    let whole = told_parts old room (record room { net = c.hand_at.new.net }) c.go_on.new.self c.args.n r (with_handed (length old.journal.items + 1) c.args.which r) (λ a. Handed a c.reply_of-reply.result.now.1) m call.last rec.0 moved.client moved.turn first tick c.go_on.result
+    let went = subst (λ s. WentOn (record room { net = c.hand_at.new.net }) c.after_turn.new.self s tick m call.last rec.0 moved.client moved.turn) own
+    (c.after_turn.ensures.went m call.last rec.0 (subst (λ v. slice_get v.items (c.asker-session.result - 1) ≡ Some m) (sym c.make_room.ensures.clients) c.member_of.ensures.there) call.is (subst (λ v. slice_get v.items call.last ≡ Some rec.0) (sym c.make_room.ensures.calls) rec.1)) in
+    let effect = c.after_turn.ensures.told ∙ c.in_ok-moved.ensures.told ∙ ap (λ s. effect_of first s moved.turn) own in
+    let whole = told_parts old room (record room { net = c.hand_at.new.net }) c.after_turn.new.self c.args.n r (with_handed (length old.journal.items + 1) c.args.which r) (λ a. Handed a c.reply_of-reply.result.now.1) m call.last rec.0 moved.client moved.turn first tick c.after_turn.result
     c.make_room.ensures.same
     (record {
       cfg = refl;

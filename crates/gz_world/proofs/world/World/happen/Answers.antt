@@ -16,8 +16,8 @@ open_session-requires g c = record { fits = c.requires.fits; small = c.requires.
 
 pub begin-requires : goal.begin-requires
 begin-requires g c =
-    let tales = c.requires.fits.0 in
-    let ready = begin_ready g.S.Site.told c.args.self.now tales c.in-Begin.session c.in-Begin.call c.requires.fits.1 c.requires.small (subst (λ e. refusal_of (state_of g.S.Site.told tales c.args.self.now) e ≡ None) c.in-Begin.is (c.requires.happens tales c.requires.fits.1)) in
+    let traces = c.requires.fits.0 in
+    let ready = begin_ready g.S.Site.told c.args.self.now traces c.in-Begin.session c.in-Begin.call c.requires.fits.1 c.requires.small (subst (λ e. refusal_of (state_of g.S.Site.told traces c.args.self.now) e ≡ None) c.in-Begin.is (c.requires.happens traces c.requires.fits.1)) in
     record { fits = c.requires.fits; small = c.requires.small; within = rw c.in-Begin.is at c.requires.bounded; opened = ready.0; idle = ready.1 }
 
 pub deliver-requires : goal.deliver-requires
@@ -29,15 +29,15 @@ deliver-requires g c = record {
 
 pub hand-requires : goal.hand-requires
 hand-requires g c =
-    let tales = c.requires.fits.0 in
-    let reply = reply_ready g.S.Site.told c.args.self.now tales c.in-Reply.n c.in-Reply.which c.requires.fits.1 (subst (λ e. refusal_of (state_of g.S.Site.told tales c.args.self.now) e ≡ None) c.in-Reply.is (c.requires.happens tales c.requires.fits.1)) in
-    let ready = tell_ready g.S.Site.told c.args.self.now tales c.in-Reply.n c.requires.fits.1 reply.0 in
+    let traces = c.requires.fits.0 in
+    let reply = reply_ready g.S.Site.told c.args.self.now traces c.in-Reply.n c.in-Reply.which c.requires.fits.1 (subst (λ e. refusal_of (state_of g.S.Site.told traces c.args.self.now) e ≡ None) c.in-Reply.is (c.requires.happens traces c.requires.fits.1)) in
+    let ready = tell_ready g.S.Site.told c.args.self.now traces c.in-Reply.n c.requires.fits.1 reply.0 in
     record { small = c.requires.small; number = ready.0; told = ready.1; reply = λ r there. reply.1 r ready.0.positive there }
 
 pub give_up-requires : goal.give_up-requires
 give_up-requires g c =
-    let tales = c.requires.fits.0 in
-    let ready = tell_ready g.S.Site.told c.args.self.now tales c.in-GiveUp.n c.requires.fits.1 (subst (λ e. refusal_of (state_of g.S.Site.told tales c.args.self.now) e ≡ None) c.in-GiveUp.is (c.requires.happens tales c.requires.fits.1)) in
+    let traces = c.requires.fits.0 in
+    let ready = tell_ready g.S.Site.told c.args.self.now traces c.in-GiveUp.n c.requires.fits.1 (subst (λ e. refusal_of (state_of g.S.Site.told traces c.args.self.now) e ≡ None) c.in-GiveUp.is (c.requires.happens traces c.requires.fits.1)) in
     record { small = c.requires.small; number = ready.0; told = ready.1 }
 
 pub crash-requires : goal.crash-requires
@@ -64,7 +64,7 @@ returns-in-Begin g c =
     let new = c.begin.new.self in
     record {
       acts = if_ok_map c.begin.result (λ effect. Began old new c.in-Begin.session c.in-Begin.call effect) (λ effect. ActsBy told old c.args.event.now new effect)
-          (λ effect h. subst (λ e. ActsBy told old e new effect) (sym c.in-Begin.is) (begin_acts told old new c.in-Begin.session c.in-Begin.call effect c.requires.small (λ tales fits. subst (λ e. refusal_of (state_of told tales old) e ≡ None) c.in-Begin.is (c.requires.happens tales fits)) h)) c.begin.ensures.ok;
+          (λ effect h. subst (λ e. ActsBy told old e new effect) (sym c.in-Begin.is) (begin_acts told old new c.in-Begin.session c.in-Begin.call effect c.requires.small (λ traces fits. subst (λ e. refusal_of (state_of told traces old) e ≡ None) c.in-Begin.is (c.requires.happens traces fits)) h)) c.begin.ensures.ok;
       err = on_err_map c.begin.result (IsSameWorld old new) (StaysBy told old new) (stays_same told old new) c.begin.ensures.err;
       journal = both_keep c.begin.result (λ effect. Began old new c.in-Begin.session c.in-Begin.call effect) (IsSameWorld old new) (new.journal ≡ old.journal) c.begin.ensures.ok c.begin.ensures.err (λ effect h. h.1.1.1.1.rest.journal) (λ s. s.rest.journal);
       fault = if_ok_any c.begin.result (λ effect. IsCountedAfter g.S.Site.faults old c.args.event.now new) (λ effect. other_counts g.S.Site.faults old new c.args.event.now (events.Begin c.in-Begin.session c.in-Begin.call) c.in-Begin.is refl);
@@ -78,7 +78,7 @@ returns-in-Deliver g c =
     let new = c.deliver.new.self in
     record {
       acts = if_ok_map c.deliver.result (λ effect. WasDelivered told old new c.in-Deliver.n effect) (λ effect. ActsBy told old c.args.event.now new effect)
-          (λ effect h. subst (λ e. ActsBy told old e new effect) (sym c.in-Deliver.is) (deliver_acts told old new c.in-Deliver.n effect c.requires.small (λ tales fits. subst (λ e. refusal_of (state_of told tales old) e ≡ None) c.in-Deliver.is (c.requires.happens tales fits)) h)) c.deliver.ensures.ok;
+          (λ effect h. subst (λ e. ActsBy told old e new effect) (sym c.in-Deliver.is) (deliver_acts told old new c.in-Deliver.n effect c.requires.small (λ traces fits. subst (λ e. refusal_of (state_of told traces old) e ≡ None) c.in-Deliver.is (c.requires.happens traces fits)) h)) c.deliver.ensures.ok;
       err = on_err_map c.deliver.result (IsSameTold told old new) (StaysBy told old new) (stays_told told old new) c.deliver.ensures.err;
       journal = both_keep c.deliver.result (λ effect. WasDelivered told old new c.in-Deliver.n effect) (IsSameTold told old new) (new.journal ≡ old.journal) c.deliver.ensures.ok c.deliver.ensures.err (λ effect h. h.1.1.rest.journal) (λ s. s.journal);
       fault = if_ok_map c.deliver.result (λ effect. IsCountedFor g.S.Site.faults old c.in-Deliver.n new) (λ effect. IsCountedAfter g.S.Site.faults old c.args.event.now new) (λ effect h. delivery_counts g.S.Site.faults old new c.args.event.now c.in-Deliver.n c.in-Deliver.is h) c.deliver.ensures.fault;
@@ -93,7 +93,7 @@ returns-in-Reply g c =
     let new = c.hand.new.self in
     record {
       acts = if_ok_map c.hand.result (λ effect. WasHanded old new c.in-Reply.n c.in-Reply.which effect) (λ effect. ActsBy told old c.args.event.now new effect)
-          (λ effect h. subst (λ e. ActsBy told old e new effect) (sym c.in-Reply.is) (hand_acts told old new c.in-Reply.n c.in-Reply.which effect c.requires.small (λ tales fits. subst (λ e. refusal_of (state_of told tales old) e ≡ None) c.in-Reply.is (c.requires.happens tales fits)) h)) c.hand.ensures.ok;
+          (λ effect h. subst (λ e. ActsBy told old e new effect) (sym c.in-Reply.is) (hand_acts told old new c.in-Reply.n c.in-Reply.which effect c.requires.small (λ traces fits. subst (λ e. refusal_of (state_of told traces old) e ≡ None) c.in-Reply.is (c.requires.happens traces fits)) h)) c.hand.ensures.ok;
       err = on_err_map c.hand.result (IsSameWorld old new) (StaysBy told old new) (stays_same told old new) c.hand.ensures.err;
       journal = both_keep c.hand.result (λ effect. WasHanded old new c.in-Reply.n c.in-Reply.which effect) (IsSameWorld old new) (new.journal ≡ old.journal) c.hand.ensures.ok c.hand.ensures.err (λ effect h. h.1.1.1.1.1.1.1.1.rest.journal) (λ s. s.rest.journal);
       fault = if_ok_any c.hand.result (λ effect. IsCountedAfter g.S.Site.faults old c.args.event.now new) (λ effect. other_counts g.S.Site.faults old new c.args.event.now (events.Reply c.in-Reply.n c.in-Reply.which) c.in-Reply.is refl);
@@ -107,7 +107,7 @@ returns-in-GiveUp g c =
     let new = c.give_up.new.self in
     record {
       acts = if_ok_map c.give_up.result (λ effect. WasGivenUp old new c.in-GiveUp.n effect) (λ effect. ActsBy told old c.args.event.now new effect)
-          (λ effect h. subst (λ e. ActsBy told old e new effect) (sym c.in-GiveUp.is) (give_up_acts told old new c.in-GiveUp.n effect c.requires.small (λ tales fits. subst (λ e. refusal_of (state_of told tales old) e ≡ None) c.in-GiveUp.is (c.requires.happens tales fits)) h)) c.give_up.ensures.ok;
+          (λ effect h. subst (λ e. ActsBy told old e new effect) (sym c.in-GiveUp.is) (give_up_acts told old new c.in-GiveUp.n effect c.requires.small (λ traces fits. subst (λ e. refusal_of (state_of told traces old) e ≡ None) c.in-GiveUp.is (c.requires.happens traces fits)) h)) c.give_up.ensures.ok;
       err = on_err_map c.give_up.result (IsSameWorld old new) (StaysBy told old new) (stays_same told old new) c.give_up.ensures.err;
       journal = both_keep c.give_up.result (λ effect. WasGivenUp old new c.in-GiveUp.n effect) (IsSameWorld old new) (new.journal ≡ old.journal) c.give_up.ensures.ok c.give_up.ensures.err (λ effect h. h.1.1.1.1.1.1.rest.journal) (λ s. s.rest.journal);
       fault = if_ok_any c.give_up.result (λ effect. IsCountedAfter g.S.Site.faults old c.args.event.now new) (λ effect. other_counts g.S.Site.faults old new c.args.event.now (events.GiveUp c.in-GiveUp.n) c.in-GiveUp.is refl);
@@ -120,7 +120,7 @@ returns-in-Crash g c =
     let old = c.args.self.now in
     let new = c.crash.new.self in
     record {
-      acts = subst (λ e. ActsBy told old e new c.crash.result) (sym c.in-Crash.is) (crash_acts told old new c.in-Crash.session c.crash.result c.requires.small (λ tales fits. subst (λ e. refusal_of (state_of told tales old) e ≡ None) c.in-Crash.is (c.requires.happens tales fits)) c.crash.ensures);
+      acts = subst (λ e. ActsBy told old e new c.crash.result) (sym c.in-Crash.is) (crash_acts told old new c.in-Crash.session c.crash.result c.requires.small (λ traces fits. subst (λ e. refusal_of (state_of told traces old) e ≡ None) c.in-Crash.is (c.requires.happens traces fits)) c.crash.ensures);
       err = tt;
       journal = c.crash.ensures.1.rest.journal;
       fault = other_counts g.S.Site.faults old new c.args.event.now (events.Crash c.in-Crash.session) c.in-Crash.is refl;

@@ -12,25 +12,25 @@ returns-in_err-reserve-clause-err g c =
     let v = record c.args.self.now { journal = c.reserve.new.self } in
     on_err_any c.from_residual.result (StaysBy g.S.Site.told c.args.self.now v) (stays_reserved g.S.Site.told c.args.self.now v (record { cfg = refl; sites = refl; net = refl; clients = refl; calls = refl; casts = refl; held = refl; journal = c.reserve.ensures.items }))
 
-pub act-requires-clause-fits : goal.act-requires-clause-fits
-act-requires-clause-fits g c = (c.requires.fits.0, fits_kept_by c.requires.fits.0 c.args.self.now (record c.args.self.now { journal = c.reserve.new.self }) (record { cfg = refl; sites = refl; net = refl; clients = refl; calls = refl; casts = refl; held = refl; journal = c.reserve.ensures.items }) c.requires.fits.1)
+pub do_event-requires-clause-fits : goal.do_event-requires-clause-fits
+do_event-requires-clause-fits g c = (c.requires.fits.0, fits_kept_by c.requires.fits.0 c.args.self.now (record c.args.self.now { journal = c.reserve.new.self }) (record { cfg = refl; sites = refl; net = refl; clients = refl; calls = refl; casts = refl; held = refl; journal = c.reserve.ensures.items }) c.requires.fits.1)
 
 pub returns-in_err-effect-clause-err : goal.returns-in_err-effect-clause-err
 returns-in_err-effect-clause-err g c =
     let v = record c.args.self.now { journal = c.reserve.new.self } in
-    on_err_any c.from_residual-in_err-effect.result (StaysBy g.S.Site.told c.args.self.now c.act.new.self)
-    (stays_then g.S.Site.told c.args.self.now v c.act.new.self
+    on_err_any c.from_residual-in_err-effect.result (StaysBy g.S.Site.told c.args.self.now c.do_event.new.self)
+    (stays_then g.S.Site.told c.args.self.now v c.do_event.new.self
     (stays_reserved g.S.Site.told c.args.self.now v (record { cfg = refl; sites = refl; net = refl; clients = refl; calls = refl; casts = refl; held = refl; journal = c.reserve.ensures.items }))
     c.in_err-effect.ensures.err)
 
 pub returns-clause-step : goal.returns-clause-step
 returns-clause-step g c =
-    steps_of g.S.Site.told c.args.self.now (record c.args.self.now { journal = c.reserve.new.self }) c.act.new.self c.enter.new.self c.args.event c.in_ok-effect.effect c.enter.ensures.told.0 c.enter.result
+    steps_of g.S.Site.told c.args.self.now (record c.args.self.now { journal = c.reserve.new.self }) c.do_event.new.self c.enter.new.self c.args.event c.in_ok-effect.effect c.enter.ensures.told.0 c.enter.result
     (record { cfg = refl; sites = refl; net = refl; clients = refl; calls = refl; casts = refl; held = refl; journal = c.reserve.ensures.items })
-    c.in_ok-effect.ensures.acts c.act.ensures.journal c.enter.ensures.told.1.0 c.enter.ensures.told.1.1
+    c.in_ok-effect.ensures.acts c.do_event.ensures.journal c.enter.ensures.told.1.0 c.enter.ensures.told.1.1
 
 pub returns-clause-fault : goal.returns-clause-fault
-returns-clause-fault g c = λ n e. counted_then g.S.Site.faults c.args.self.now c.act.new.self c.enter.new.self n c.enter.ensures.net c.enter.ensures.sites (c.in_ok-effect.ensures.fault n e)
+returns-clause-fault g c = λ n e. counted_then g.S.Site.faults c.args.self.now c.do_event.new.self c.enter.new.self n c.enter.ensures.net c.enter.ensures.sites (c.in_ok-effect.ensures.fault n e)
 
 pub returns-clause-sites : goal.returns-clause-sites
 returns-clause-sites g c = λ l. c.enter.ensures.sites ∙ c.in_ok-effect.ensures.sites (subst (λ (o : Outcome). LeavesSites c.args.event o) c.enter.ensures.outcome l)

@@ -3,7 +3,7 @@ use Rattle.std.proofs.lemmas.Option.{slice_get_within}
 use Rattle.std.proofs.lemmas.Result.{IfOk-weaker}
 use Rattle.gz_round.specs.Acting.{CanFollow}
 use Rattle.gz_round.proofs.Arms.{votes_acts, learnt_has, learnt_cause}
-use Rattle.gz_round.proofs.run.Run.follow.Goals as goal
+use Rattle.gz_round.proofs.run.Run.turn_by_rows.Goals as goal
 
 pub next-requires-clause-config : goal.next-requires-clause-config
 next-requires-clause-config c = c.requires.config
@@ -13,25 +13,25 @@ next-requires-clause-ready c =
     let k : CanFollow c.args.config.now c.args.self.now = c.requires.follows in
     (k.0, k.1, k.2, k.3)
 
-pub go_on-requires-clause-config : goal.go_on-requires-clause-config
-go_on-requires-clause-config c = c.requires.config
+pub propose_or_step-requires-clause-config : goal.propose_or_step-requires-clause-config
+propose_or_step-requires-clause-config c = c.requires.config
 
-pub go_on-requires-clause-first : goal.go_on-requires-clause-first
-go_on-requires-clause-first c = c.requires.first
+pub propose_or_step-requires-clause-first : goal.propose_or_step-requires-clause-first
+propose_or_step-requires-clause-first c = c.requires.first
 
-pub go_on-requires-clause-acts : goal.go_on-requires-clause-acts
-go_on-requires-clause-acts c =
+pub propose_or_step-requires-clause-acts : goal.propose_or_step-requires-clause-acts
+propose_or_step-requires-clause-acts c =
     let k : CanFollow c.args.config.now c.args.self.now = c.requires.follows in
     (k.0, k.1, k.2, record { ready = k.3; going = k.4; unmet = c.in-Wait.ensures k.0 k.1 k.2 k.3 })
 
-pub go_on-requires-in-Vote-clause-config : goal.go_on-requires-in-Vote-clause-config
-go_on-requires-in-Vote-clause-config c = c.requires.config
+pub propose_or_step-requires-in-Vote-clause-config : goal.propose_or_step-requires-in-Vote-clause-config
+propose_or_step-requires-in-Vote-clause-config c = c.requires.config
 
-pub go_on-requires-in-Vote-clause-first : goal.go_on-requires-in-Vote-clause-first
-go_on-requires-in-Vote-clause-first c = c.requires.first
+pub propose_or_step-requires-in-Vote-clause-first : goal.propose_or_step-requires-in-Vote-clause-first
+propose_or_step-requires-in-Vote-clause-first c = c.requires.first
 
-pub go_on-requires-in-Vote-clause-acts : goal.go_on-requires-in-Vote-clause-acts
-go_on-requires-in-Vote-clause-acts c =
+pub propose_or_step-requires-in-Vote-clause-acts : goal.propose_or_step-requires-in-Vote-clause-acts
+propose_or_step-requires-in-Vote-clause-acts c =
     let k : CanFollow c.args.config.now c.args.self.now = c.requires.follows in
     (k.0, k.1, k.2, votes_acts c.args.config.now k.0 k.1 c.args.self.now k.2 c.in-Vote.version k.3 k.4 (c.in-Vote.ensures k.0 k.1 k.2 k.3))
 
@@ -81,12 +81,12 @@ close-requires-in-Absent-clause-kept c =
     (k.0, k.1, k.2, k.3.stands)
 
 pub returns-in-Wait : goal.returns-in-Wait
-returns-in-Wait c = IfOk-weaker c.go_on.result _ _ (λ turn p. λ w past ms r going. p w past ms (record { ready = r; going = going; unmet = c.in-Wait.ensures w past ms r })) c.go_on.ensures
+returns-in-Wait c = IfOk-weaker c.propose_or_step.result _ _ (λ turn p. λ w past ms r going. p w past ms (record { ready = r; going = going; unmet = c.in-Wait.ensures w past ms r })) c.propose_or_step.ensures
 
 pub returns-in-Vote : goal.returns-in-Vote
 returns-in-Vote c =
-    IfOk-weaker c.go_on-in-Vote.result _ _ (λ turn p. λ w past ms r going.
-    p w past ms (votes_acts c.args.config.now w past c.args.self.now ms c.in-Vote.version r going (c.in-Vote.ensures w past ms r))) c.go_on-in-Vote.ensures
+    IfOk-weaker c.propose_or_step-in-Vote.result _ _ (λ turn p. λ w past ms r going.
+    p w past ms (votes_acts c.args.config.now w past c.args.self.now ms c.in-Vote.version r going (c.in-Vote.ensures w past ms r))) c.propose_or_step-in-Vote.ensures
 
 pub returns-in_ok-answer-in-Learnt : goal.returns-in_ok-answer-in-Learnt
 returns-in_ok-answer-in-Learnt c =
@@ -105,8 +105,8 @@ returns-in-Absent c =
     IfOk-weaker c.close-in-Absent.result _ _ (λ turn p. λ w past ms r going.
     ([], inl refl, p w past ms r.stands ((going, c.in-Absent.ensures w past ms r), tt))) c.close-in-Absent.ensures
 
-pub go_on-requires-clause-round : goal.go_on-requires-clause-round
-go_on-requires-clause-round c = c.requires.round
+pub propose_or_step-requires-clause-round : goal.propose_or_step-requires-clause-round
+propose_or_step-requires-clause-round c = c.requires.round
 
-pub go_on-requires-in-Vote-clause-round : goal.go_on-requires-in-Vote-clause-round
-go_on-requires-in-Vote-clause-round c = c.requires.round
+pub propose_or_step-requires-in-Vote-clause-round : goal.propose_or_step-requires-in-Vote-clause-round
+propose_or_step-requires-in-Vote-clause-round c = c.requires.round

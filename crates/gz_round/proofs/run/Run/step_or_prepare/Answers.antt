@@ -4,7 +4,7 @@ use Rattle.std.proofs.lemmas.Result.{IfOk-weaker}
 use Rattle.gz_round.specs.History.{sent_from}
 use Rattle.gz_round.specs.Acting.{CanCarry, Prepares}
 use Rattle.gz_round.proofs.Prepares.{overtaken_prepares}
-use Rattle.gz_round.proofs.run.Run.carry_on.Goals as goal
+use Rattle.gz_round.proofs.run.Run.step_or_prepare.Goals as goal
 
 pub prepare-requires-clause-prepares : goal.prepare-requires-clause-prepares
 prepare-requires-clause-prepares c =

@@ -1,6 +1,6 @@
 use Rattle.std.proofs.Common.{[], refl, inl}
 use Rattle.std.proofs.lemmas.Result.{IfOk-weaker}
-use Rattle.gz_round.proofs.run.Run.act.Goals as goal
+use Rattle.gz_round.proofs.run.Run.take_turn.Goals as goal
 
 pub returns-in-Some : goal.returns-in-Some
 returns-in-Some c =

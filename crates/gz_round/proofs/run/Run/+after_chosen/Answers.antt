@@ -7,7 +7,7 @@ use Rattle.gz_round.specs.Standing.{IsUnpromised}
 use Rattle.gz_round.specs.Evidence.{NoneEvident}
 use Rattle.gz_round.proofs.Known.{known_low, none_evident}
 use Rattle.gz_round.proofs.Follows.{evident_highest, chosen_means, other_means, own_of, pass_from}
-use Rattle.gz_round.proofs.run.Run.+pass.Goals as goal
+use Rattle.gz_round.proofs.run.Run.+after_chosen.Goals as goal
 
 pub returns-then-is_own : goal.returns-then-is_own
 returns-then-is_own t c = λ w past ms h m. chosen_means c.args.config.now w past c.args.self.now ms c.args.version c.args.site h c.requires.own m c.requires.evident ((c.is_own.ensures c.requires.evident.row c.requires.evident.known).0 c.if-is_own.true)
@@ -18,8 +18,8 @@ next-next-requires t c =
     let low = known_low c.args.config.now c.args.self.now c.requires.kept.2 c.requires.kept.3.knows in
     omega arith
 
-pub pass-requires : goal.pass-requires
-pass-requires t c =
+pub after_chosen-requires : goal.after_chosen-requires
+after_chosen-requires t c =
     let seen : c.args.version ≤ highest_of c.args.self.now.rows = evident_highest c.args.config.now c.args.self.now.rows c.args.version c.args.site c.requires.evident in
     search rules
 
@@ -31,4 +31,4 @@ returns-in-None t c = λ w past ms h m.
 pub returns-in-Some : goal.returns-in-Some
 returns-in-Some t c = λ w past ms h m.
     let other = other_means c.args.config.now w past c.args.self.now ms c.args.version c.args.site h m c.requires.evident (λ k. both_ways _ c.if-is_own.false ((c.is_own.ensures c.requires.evident.row c.requires.evident.known).1 k)) in
-    c.pass.ensures w past ms h (subst (MayPass c.args.config.now w ms) (sym c.next-next.ensures) (pass_from c.args.config.now w ms (c.args.version + 1) other m.later))
+    c.after_chosen.ensures w past ms h (subst (MayPass c.args.config.now w ms) (sym c.next-next.ensures) (pass_from c.args.config.now w ms (c.args.version + 1) other m.later))

@@ -4,8 +4,8 @@ use Rattle.gz_field.specs.Field.{product}
 use Rattle.gz_field.proofs.Algebra.{product-one}
 use Rattle.gz_lanes.specs.Combination.{sum_below}
 use Rattle.gz_lanes.specs.Lanes.{HasLanes}
-use Rattle.gz_lanes.proofs.rows.Row.times_total.Goals as goal
-use Rattle.gz_lanes.proofs.rows.Row.times_total.Goals.{then-self-eq1, else-self-eq1}
+use Rattle.gz_lanes.proofs.rows.CoefficientRow.times_total.Goals as goal
+use Rattle.gz_lanes.proofs.rows.CoefficientRow.times_total.Goals.{then-self-eq1, else-self-eq1}
 
 pub returns : goal.returns
 returns c =

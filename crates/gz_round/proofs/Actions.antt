@@ -1,10 +1,10 @@
--- What one more moment makes of the sites.
+-- What one more action makes of the sites.
 use Rattle.std.proofs.Common.{◌≡◌, ◌≢◌, ℕ, ◌+◌, true, false, List, [], ◌∷◌, ◌++◌, length, refl, sym, ap, ◌∙◌, subst, inl, inr, arith}
 use Rattle.std.proofs.lemmas.Bool.{cases_Bool, cond-true, cond-false, ne_eqb, eq-eqb}
 use Rattle.gz_core.specs.declared.requests.Op.{Op}
 use Rattle.gz_core.specs.declared.requests.Op.TheVariants.{ReadRow, WriteRow}
 use Rattle.gz_core.specs.declared.requests.Out.{Out}
-use Rattle.gz_round.specs.History.{Asked, Moment, Sent, is_row_request, asked_of, sent_from}
+use Rattle.gz_round.specs.History.{Asked, Action, Sent, is_row_request, asked_of, sent_from}
 use Rattle.gz_round.specs.Sites.{SiteNow, site_now, after, concerns, is_to}
 
 -- every request so far is about a row
@@ -19,22 +19,22 @@ is_to_same a s e = rw (row_request a.op) (eq-eqb a.site s e)
 pub is_to_other : (a : Asked) (s : ℕ) → s ≢ a.site → is_to a s ≡ false
 is_to_other a s n = rw (row_request a.op) (ne_eqb a.site s (λ (e : a.site ≡ s). n (sym e)))
 
--- the site that a moment concerns
-pub now_here : (m : Moment) (ms : List Moment) (s : ℕ) → concerns m s ≡ true → site_now (m ∷ ms) s ≡ after m (site_now ms s)
+-- the site that an action concerns
+pub now_here : (m : Action) (ms : List Action) (s : ℕ) → concerns m s ≡ true → site_now (m ∷ ms) s ≡ after m (site_now ms s)
 now_here m ms s h = cond-true (concerns m s) (after m (site_now ms s)) (site_now ms s) h
 
 -- the others stay
-pub now_other : (m : Moment) (ms : List Moment) (s : ℕ) → concerns m s ≡ false → site_now (m ∷ ms) s ≡ site_now ms s
+pub now_other : (m : Action) (ms : List Action) (s : ℕ) → concerns m s ≡ false → site_now (m ∷ ms) s ≡ site_now ms s
 now_other m ms s h = cond-false (concerns m s) (after m (site_now ms s)) (site_now ms s) h
 
 -- one more request of an event comes last
-pub sent_append : (first : ℕ) (outs : List Out) (out : Out) (ms : List Moment) → sent_from first (outs ++ (out ∷ [])) ms ≡ Sent (asked_of (first + length outs) out) ∷ sent_from first outs ms
+pub sent_append : (first : ℕ) (outs : List Out) (out : Out) (ms : List Action) → sent_from first (outs ++ (out ∷ [])) ms ≡ Sent (asked_of (first + length outs) out) ∷ sent_from first outs ms
 sent_append first [] out ms = ap (λ k. Sent (asked_of k out) ∷ ms) (omega arith)
 sent_append first (o ∷ os) out ms =
     sent_append (first + 1) os out (Sent (asked_of first o) ∷ ms) ∙ ap (λ k. Sent (asked_of k out) ∷ sent_from (first + 1) os (Sent (asked_of first o) ∷ ms)) (omega arith)
 
--- a fact of a site after a moment, from the two cases
-pub each_site : (P : SiteNow → Type 0) (m : Moment) (ms : List Moment) (s : ℕ) → (concerns m s ≡ true → P (after m (site_now ms s))) → (concerns m s ≡ false → P (site_now ms s)) → P (site_now (m ∷ ms) s)
+-- a fact of a site after an action, from the two cases
+pub each_site : (P : SiteNow → Type 0) (m : Action) (ms : List Action) (s : ℕ) → (concerns m s ≡ true → P (after m (site_now ms s))) → (concerns m s ≡ false → P (site_now ms s)) → P (site_now (m ∷ ms) s)
 each_site P m ms s here other =
     elim (cases_Bool (concerns m s)) [
       | inl e ↦ subst P (sym (now_here m ms s e)) (here e)
