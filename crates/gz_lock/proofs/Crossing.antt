@@ -31,16 +31,16 @@ table_sync S W K P A g a send free_send free_sync frees = let fields : AllSync (
 snapshot_send : (Y : RattleType) → IsSend (snapshot.the_row Y)
 snapshot_send Y = record { owned = λ d vs. ((λ vss. (tt, ((λ uss. (tt, tt)), tt))), tt); leaving = λ k f vs. tt }
 
-slot_send : (V E R : RattleType) → IsSend V → IsSend (option.the_row (held.the_row V E R))
-slot_send V E R send = search (sendable, snapshot_send) depth 30
+cell_send : (V E R : RattleType) → IsSend V → IsSend (option.the_row (held.the_row V E R))
+cell_send V E R send = search (sendable, snapshot_send) depth 30
 
 pub lock_sync : (V E R : RattleType) (g : Ghosts V.Denot E.Denot R.Denot) → IsSend V → IsSync (the_row V E R g)
 lock_sync V E R g send = let table_is = table_sync (option.the_row (held.the_row V E R)) (view.the_row E R) u32 (history.the_row V) global.the_row (rule_impl.ghosts V E R g rule_impl.no_dict rule_impl.no_dict rule_impl.no_dict rule_impl.no_dict) global_impl.ghosts
-    (slot_send V E R send) heap.send heap.sync heap.frees in
+    (cell_send V E R send) heap.send heap.sync heap.frees in
     let fields : AllSync (shape (the_type V E R g)).fields = (table_is, tt) in recorded_sync _ _ _ (the_type V E R g).to_one (struct_sync (shape (the_type V E R g)) fields)
 
 pub seat_send : (V E R : RattleType) → IsSend V → IsSend (seat.the_row (option.the_row (held.the_row V E R)) (view.the_row E R))
-seat_send V E R send = seated.the_send (option.the_row (held.the_row V E R)) (view.the_row E R) (slot_send V E R send)
+seat_send V E R send = seated.the_send (option.the_row (held.the_row V E R)) (view.the_row E R) (cell_send V E R send)
 
 -- for `search`
 pub ruleset lock_crosses = (lock_sync, seat_send)

@@ -1,8 +1,8 @@
 -- Prefixes of one list.
-use Rattle.std.proofs.Common.{◌≡◌, ℕ, zero, suc, ◌+◌, ◌<◌, ◌≤◌, ◌⊎◌, inl, inr, ⊎_elim, List, [], ◌∷◌, ◌++◌, length, drop, All, refl, sym, ap, ◌∙◌, subst, append_assoc, length-append, arith}
+use Rattle.std.proofs.Common.{◌≡◌, ◌+◌, ◌⊎◌, inl, inr, ⊎_elim, List, [], ◌∷◌, ◌++◌, length, drop, All, refl, sym, ap, ◌∙◌, subst, append_assoc, length-append, arith}
 use Rattle.std.proofs.Math.ListN.{drop_of_length-le}
 use Rattle.std.proofs.Math.Seq.{drop-append_seam}
-use Rattle.std.proofs.lemmas.List.{append-nil, append_cancel_left, nil_from_length}
+use Rattle.std.proofs.lemmas.List.{append-nil, nil_from_length}
 use Rattle.std.proofs.lemmas.List.Elements.{All-nil, All-cons, All-head, All-tail}
 use Rattle.gz_lock.specs.Histories.{IsPrefix, longer}
 
@@ -68,3 +68,6 @@ module _ {A : Type 0} where
 
   pub all_one : (P : A → Type 0) (x : A) → P x → All P (x ∷ [])
   all_one P x p = All-cons P x [] p (All-nil P)
+
+  pub all_last : (P : A → Type 0) (xs : List A) (x : A) → All P (xs ++ x ∷ []) → P x
+  all_last P xs x all = All-head P x [] (all_after P xs (x ∷ []) all)

@@ -1,12 +1,12 @@
 -- The views of all seats, when one seat takes a step.
-use Rattle.std.proofs.Common.{◌≡◌, ◌≢◌, ℕ, zero, suc, ◌+◌, ◌<◌, ◌≤◌, ⊎_elim, Bool, cond, true, false, List, [], ◌∷◌, ◌++◌, length, set, get_or, sum_by, refl, sym, ap, ◌∙◌, subst, length-set, arith}
+use Rattle.std.proofs.Common.{◌≡◌, ◌≢◌, ℕ, zero, suc, ◌+◌, ◌<◌, ⊎_elim, Bool, cond, true, List, [], ◌∷◌, length, set, get_or, sum_by, sym, ap, ◌∙◌, subst, length-set, arith}
 use Rattle.std.proofs.lemmas.List.Sums.{sum_by-set}
 use mathlib.Core.Logic.{dite}
 use mathlib.Core.Option.{some, some-injective, some-ne-none}
 use native.Mathlib.Decide.{ℕ_discrete}
 use lib.ListN.{get_elem?}
 use Rattle.atomic_table.proofs.Lists.{at_set, set_here, set_else}
-use Rattle.gz_lock.specs.Rule.{Phase, home, Board, SeatOk, SeatsOk, SomeSeat, IsAtTurn, part_of}
+use Rattle.gz_lock.specs.Rule.{home, Board, SeatOk, SeatsOk, SomeSeat, IsAtTurn, part_of}
 use Rattle.gz_lock.specs.declared.views.SeatView.{SeatView}
 
 module _ {A : Type 0} where
@@ -35,14 +35,15 @@ module _ {E R : Type 0} where
       omega arith
 
   -- One live seat steps, and the others' facts stay.
-  pub moved : (seats : ℕ) (b b' : Board E R) (ks : List (SeatView E R)) (me : ℕ) (k w : SeatView E R) → SeatsOk seats b ks → get_elem? ks me ≡ some k → k.live ≡ true → w.live ≡ true → w.parts ≡ k.parts → b'.splits ≡ b.splits
+  pub moved : (seats : ℕ) (b b' : Board E R) (ks : List (SeatView E R)) (me : ℕ) (k w : SeatView E R) → SeatsOk seats b ks → get_elem? ks me ≡ some k → k.live ≡ true → w.live ≡ true → w.parts ≡ k.parts → w.number ≡ k.number → b'.splits ≡ b.splits
       → SeatOk b' me w → ((j : ℕ) (x : SeatView E R) → j ≢ me → SeatOk b j x → SeatOk b' j x)
-      → SomeSeat (set ks me w) (λ x. x.seen ≡ b'.history) → (b'.phase ≢ home → SomeSeat (set ks me w) (λ x. IsAtTurn x.stage)) → SeatsOk seats b' (set ks me w)
-  moved seats b b' ks me k w ok at live live' same_parts same_splits mine others whole at_turn = record {
+      → SomeSeat (set ks me w) (λ x. x.seen ≡ b'.history) → (b'.lock ≢ home → SomeSeat (set ks me w) (λ x. IsAtTurn x.state)) → SeatsOk seats b' (set ks me w)
+  moved seats b b' ks me k w ok at live live' same_parts same_number same_splits mine others whole at_turn = record {
     each = λ j x e alive. ⊎_elim
         (λ (t : (j ≡ me) × (w ≡ x)). subst (λ (z : ℕ × SeatView E R). SeatOk b' z.0 z.1) (λ i. (sym t.0 i, t.1 i)) mine)
         (λ (t : (j ≢ me) × (get_elem? ks j ≡ some x)). others j x t.0 (ok.each j x t.1 alive)) (at_set ks me j w x e);
     given = length-set ks me w ∙ (ok.given ∙ ap (λ n. n + 1) (sym same_splits));
+    has_first = some_seat_stays ks me k w (λ x. x.number ≡ 0) (λ x. x.number ≡ 0) at live' (λ e. same_number ∙ e) (λ _ x _ e. e) ok.has_first;
     all_parts = parts_stay ks me k w at live live' same_parts ∙ ok.all_parts;
     whole = whole;
     at_turn = at_turn;

@@ -1,27 +1,25 @@
 -- A split and a join of seats keep the rule.
-use Rattle.std.proofs.Common.{◌≡◌, ◌≢◌, ◌⊎◌, inl, inr, ⊎_elim, ℕ, zero, suc, ◌+◌, ◌-◌, ◌<◌, ◌≤◌, Bool, cond, true, false, List, [], ◌∷◌, ◌++◌, length, set, get_or, sum_by, All, Option, Some, None, refl, sym, ap, ◌∙◌, subst, length-append, length-set, arith}
+use Rattle.std.proofs.Common.{◌≡◌, ◌≢◌, ◌⊎◌, inl, inr, ⊎_elim, ℕ, zero, suc, ◌+◌, ◌-◌, ◌≤◌, Bool, cond, true, false, List, [], ◌∷◌, ◌++◌, length, set, sum_by, Option, refl, sym, ap, ◌∙◌, subst, length-append, length-set, arith}
 use Rattle.std.proofs.lemmas.List.Sums.{sum_by-set, sum_by-append}
 use Rattle.std.proofs.lemmas.List.Elements.{All-append}
 use mathlib.Core.Logic.{dite}
-use mathlib.Core.Option.{none, some, some-injective, some-ne-none}
+use mathlib.Core.Option.{some, some-injective, some-ne-none}
 use native.Mathlib.Decide.{ℕ_discrete}
 use lib.ListN.{get_elem?}
 use Rattle.atomic_table.specs.Table.{State, Splits, Joins}
-use Rattle.atomic_table.proofs.Lists.{at_set, set_here, set_else, at_longer, at_last}
+use Rattle.atomic_table.proofs.Lists.{at_set, set_here, set_else, at_longer}
 use Rattle.gz_lock.specs.Operations.{Operation}
-use Rattle.gz_lock.specs.Histories.{IsPrefix, HasOwnTurns, longer}
+use Rattle.gz_lock.specs.Histories.{IsPrefix, HasOwnTurns}
 use Rattle.gz_lock.specs.Seats.{gave, given, took_in, spent}
-use Rattle.gz_lock.specs.Rule.{Phase, home, Board, StageOk, IsAtTurn, SeatOk, JoinedOk, BoardOk, SeatsOk, SomeSeat, part_of, SlotOk, Ruled}
-use Rattle.gz_lock.specs.declared.views.Turn.{Turn}
-use Rattle.gz_lock.specs.declared.views.Stage.{Stage}
-use Rattle.gz_lock.specs.declared.views.Stage.TheVariants.{Idle}
+use Rattle.gz_lock.specs.Rule.{Board, StateOk, IsAtTurn, SeatOk, JoinedOk, BoardOk, SeatsOk, SomeSeat, part_of, Ruled}
+use Rattle.gz_lock.specs.declared.views.SeatState.TheVariants.{Idle}
 use Rattle.gz_lock.specs.declared.views.Joined.{Joined}
 use Rattle.gz_lock.specs.declared.views.SeatView.{SeatView}
 use Rattle.gz_lock.specs.declared.views.Held.{Held}
-use Rattle.gz_lock.proofs.Prefixes.{prefix_trans, prefixes_same, longer_above, longer_covers, longer_within, all_map, all_one}
-use Rattle.gz_lock.proofs.OwnTurns.{prefix_of_own, own_beyond, own_of_new}
+use Rattle.gz_lock.proofs.Prefixes.{prefix_trans, prefixes_same, longer_above, longer_covers, longer_within, all_one}
+use Rattle.gz_lock.proofs.OwnTurns.{prefix_of_own, own_between, own_beyond, own_of_new}
 use Rattle.gz_lock.proofs.SeatFacts.{index_within, read_at, some_seat_stays}
-use Rattle.gz_lock.proofs.TurnSteps.{slot_stays}
+use Rattle.gz_lock.proofs.TurnSteps.{cell_stays}
 
 module _ {A : Type 0} where
   at_end : (l : List A) (a b : A) (j : ℕ) → get_elem? (l ++ a ∷ []) j ≡ some b → (get_elem? l j ≡ some b) ⊎ ((j ≡ length l) × (a ≡ b))
@@ -54,7 +52,7 @@ module _ {E R : Type 0} where
         let mine' : SeatOk n id w = record {
           number = mine.number;
           seen = mine.seen;
-          stage = mine.stage;
+          state = mine.state;
           some_part = omega arith;
           counts = λ _. (ap (λ x. x + 1) same_splits, counts.1, counts.2);
           not_joined = mine.not_joined;
@@ -62,7 +60,7 @@ module _ {E R : Type 0} where
         let new' : SeatOk n (b.splits + 1) o = record {
           number = ap (λ x. x + 1) same_splits;
           seen = own_of_new b.splits id (b.splits + 1) v.seen b.history (omega arith) board.given_numbers mine.seen;
-          stage = tt;
+          state = tt;
           some_part = omega arith;
           counts = λ e. absurd (omega arith);
           not_joined = λ i d h. (λ e. let low = (board.joined i d h).is_given in absurd (omega (arith, low, e)));
@@ -70,7 +68,7 @@ module _ {E R : Type 0} where
         let old' : (j : ℕ) (x : SeatView E R) → j ≢ id → SeatOk b j x → SeatOk n j x = λ j x other y. record {
           number = y.number;
           seen = y.seen;
-          stage = y.stage;
+          state = y.state;
           some_part = y.some_part;
           counts = λ e. absurd (other (e ∙ sym zero_id));
           not_joined = y.not_joined;
@@ -85,33 +83,34 @@ module _ {E R : Type 0} where
               (λ (t : (j ≡ length mid) × (o ≡ x)). subst (λ (z : ℕ × SeatView E R). SeatOk n z.0 z.1) (λ i. (sym (t.0 ∙ long) i, t.1 i)) new')
               (at_end mid o x j e);
           given = length-append mid (o ∷ []) ∙ ap (λ x. x + 1) long;
+          has_first = more (λ x. x.number ≡ 0) (λ x. x.number ≡ 0) (λ e. e) (λ x e. e) ok.has_first;
           all_parts = sum_by-append part_of mid (o ∷ []) ∙ (total ∙ ok.all_parts);
           whole = more (λ x. x.seen ≡ b.history) (λ x. x.seen ≡ b.history) (λ e. e) (λ x e. e) ok.whole;
-          at_turn = λ away. more (λ x. IsAtTurn x.stage) (λ x. IsAtTurn x.stage) (λ e. e) (λ x e. e) (ok.at_turn away);
+          at_turn = λ away. more (λ x. IsAtTurn x.state) (λ x. IsAtTurn x.state) (λ e. e) (λ x e. e) (ok.at_turn away);
         }
 
     pub splits : (id : ℕ) (v : SeatView E R) → v.live ≡ true → v.number ≡ 0 → 2 ≤ v.parts → Splits Rule id v (gave v) (given v)
     splits id v live first two s r at = let b = r.board in let b' : Board E R = record b { splits = b.splits + 1 } in record {
       board = b';
-      slot = r.slot;
+      cell = r.cell;
       words = r.words;
       homes = r.homes;
-      slot_ok = slot_stays past stands kept seats b b' r.slot refl refl r.slot_ok;
+      cell_ok = cell_stays past stands kept seats b b' r.cell refl refl r.cell_ok;
       board_ok = record {
         counted = r.board_ok.counted;
         uncounted = r.board_ok.uncounted;
         order = r.board_ok.order;
         small = r.board_ok.small;
         given_numbers = λ i d h. (let low = r.board_ok.given_numbers i d h in omega (arith, low));
-        joined = λ i d h. let y = r.board_ok.joined i d h in record { is_given = (let low = y.is_given in omega (arith, low)); not_first = y.not_first; turns = y.turns };
+        joined = λ i d h. let y = r.board_ok.joined i d h in record { is_given = (let low = y.is_given in omega (arith, low)); not_first = y.not_first; turns = y.turns; adds_none = y.adds_none };
       };
       seats_ok = seats_after_split b b' s.views id v r.seats_ok r.board_ok at live first two refl;
     }
 
     module _ (b : Board E R) (ks : List (SeatView E R)) (ok : SeatsOk seats b ks) (board : BoardOk b) (id other : ℕ) (v w : SeatView E R) (at : get_elem? ks id ≡ some v) (there : get_elem? ks other ≡ some w) (apart : other ≢ id)
-        (live : v.live ≡ true) (live' : w.live ≡ true) (idle : v.stage ≡ Idle) (idle' : w.stage ≡ Idle) (first : v.number ≡ 0) (second : w.number ≢ 0) where
+        (live : v.live ≡ true) (live' : w.live ≡ true) (idle : v.state ≡ Idle) (idle' : w.state ≡ Idle) (first : v.number ≡ 0) (second : w.number ≢ 0) where
       abbrev item : Joined E R
-      item = record { number = w.number; seen = w.seen }
+      item = record { number = w.number; seen = w.seen; first = v.seen }
 
       abbrev now : Board E R
       now = record b { joined = b.joined ++ item ∷ [] }
@@ -149,6 +148,7 @@ module _ {E R : Type 0} where
           is_given = (let inside = index_within ks other w there in let long = ok.given in let same = theirs.number in omega arith);
           not_first = second;
           turns = subst (λ n. HasOwnTurns n w.seen b.history) (sym theirs.number) theirs.seen;
+          adds_none = subst (λ n. HasOwnTurns n v.seen both.seen) first_index (own_between id v.seen both.seen b.history mine.seen (longer_above v.seen w.seen) within_history);
         });
       }
 
@@ -156,7 +156,7 @@ module _ {E R : Type 0} where
       first_after_join = record {
         number = mine.number;
         seen = own_beyond id v.seen both.seen b.history mine.seen (longer_above v.seen w.seen) within_history;
-        stage = subst (λ x. StageOk b.history both.seen b.ticket b.serving b.phase b.owner id x) (sym idle) tt;
+        state = subst (λ x. StateOk b.history both.seen b.ticket b.serving b.lock b.owner id x) (sym idle) tt;
         some_part = (let some = mine.some_part in omega arith);
         counts = λ e. let counts = mine.counts e in (
           counts.0,
@@ -171,7 +171,7 @@ module _ {E R : Type 0} where
       others_after_join j x not_first not_other y = record {
         number = y.number;
         seen = y.seen;
-        stage = y.stage;
+        state = y.state;
         some_part = y.some_part;
         counts = λ e. absurd (not_first (e ∙ sym first_index));
         not_joined = All-append (λ z. z.number ≢ j) b.joined (item ∷ []) y.not_joined (all_one (λ z. z.number ≢ j) item (λ e. not_other (sym e ∙ theirs.number)));
@@ -202,22 +202,23 @@ module _ {E R : Type 0} where
                 (at_set ks id j both x t.1))
                 (at_set mid other j spent x e);
             given = length-set mid other spent ∙ (length-set ks id both ∙ ok.given);
+            has_first = stays_after_join (λ x. x.number ≡ 0) (λ x. x.number ≡ 0) (λ e. e) (λ _. first) (λ x e. e) ok.has_first;
             all_parts = total ∙ ok.all_parts;
             whole = stays_after_join (λ x. x.seen ≡ b.history) (λ x. x.seen ≡ b.history)
                 (λ e. prefixes_same both.seen b.history within_history (subst (λ l. IsPrefix l both.seen) e (longer_above v.seen w.seen)))
                 (λ e. prefixes_same both.seen b.history within_history (subst (λ l. IsPrefix l both.seen) e (longer_covers v.seen w.seen b.history before before')))
                 (λ x e. e) ok.whole;
-            at_turn = λ away. stays_after_join (λ x. IsAtTurn x.stage) (λ x. IsAtTurn x.stage) (λ t. absurd (subst IsAtTurn idle t)) (λ t. absurd (subst IsAtTurn idle' t)) (λ x t. t) (ok.at_turn away);
+            at_turn = λ away. stays_after_join (λ x. IsAtTurn x.state) (λ x. IsAtTurn x.state) (λ t. absurd (subst IsAtTurn idle t)) (λ t. absurd (subst IsAtTurn idle' t)) (λ x t. t) (ok.at_turn away);
           }
 
-    pub joins : (id other : ℕ) (v w : SeatView E R) → v.live ≡ true → w.live ≡ true → v.stage ≡ Idle → w.stage ≡ Idle → v.number ≡ 0 → w.number ≢ 0 → Joins Rule id v other w (took_in v w) spent
+    pub joins : (id other : ℕ) (v w : SeatView E R) → v.live ≡ true → w.live ≡ true → v.state ≡ Idle → w.state ≡ Idle → v.number ≡ 0 → w.number ≢ 0 → Joins Rule id v other w (took_in v w) spent
     joins id other v w live live' idle idle' first second s r at apart there' = let b = r.board in
         let there : get_elem? s.views other ≡ some w = sym (set_else s.views id other (took_in v w) apart) ∙ there' in record {
           board = now b s.views r.seats_ok r.board_ok id other v w at there apart live live' idle idle' first second;
-          slot = r.slot;
+          cell = r.cell;
           words = r.words;
           homes = r.homes;
-          slot_ok = slot_stays past stands kept seats b (now b s.views r.seats_ok r.board_ok id other v w at there apart live live' idle idle' first second) r.slot refl refl r.slot_ok;
+          cell_ok = cell_stays past stands kept seats b (now b s.views r.seats_ok r.board_ok id other v w at there apart live live' idle idle' first second) r.cell refl refl r.cell_ok;
           board_ok = board_after_join b s.views r.seats_ok r.board_ok id other v w at there apart live live' idle idle' first second;
           seats_ok = seats_after_join b s.views r.seats_ok r.board_ok id other v w at there apart live live' idle idle' first second;
         }

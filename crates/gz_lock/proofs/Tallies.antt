@@ -1,5 +1,5 @@
 -- A tally, after one turn more.
-use Rattle.std.proofs.Common.{◌≡◌, ℕ, ◌+◌, true, List, [], ◌∷◌, ◌++◌, map, length, refl, sym, ap, ◌∙◌, length-append, arith}
+use Rattle.std.proofs.Common.{◌≡◌, ℕ, ◌+◌, true, List, [], ◌∷◌, ◌++◌, length, refl, sym, ap, ◌∙◌, arith}
 use Rattle.std.proofs.lemmas.List.{map-append, length-map}
 use Rattle.gz_lock.specs.Operations.{Operation, operation}
 use Rattle.gz_lock.specs.Counted.{AreRepliesFrom, entry_of, IsTally}

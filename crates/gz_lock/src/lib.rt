@@ -12,4 +12,4 @@ mod views;
 pub use lock::{Lock, NewRefused, Seat};
 pub use tally::Tally;
 pub use turned::Turned;
-pub use views::{Joined, SeatView, Stage, Turn};
+pub use views::{Joined, SeatState, SeatView, TakenTurn};

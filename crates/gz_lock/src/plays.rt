@@ -22,7 +22,7 @@ impl<S, E, R> Play<S, SeatView<E, R>> for Take {
     ghost then = { took_ticket };
 }
 
-/// Whether the seat is served; where it is, the whole history, and the slot.
+/// Whether the seat is served; where it is, the whole history, and the cell.
 pub(crate) struct Look<V> {
     value: PhantomData<V>,
 }
@@ -32,7 +32,7 @@ impl<V: Turned> Play<Option<Held<V, V::Entry, V::Reply>>, SeatView<V::Entry, V::
     ghost then = { looked V.past V.stands V.kept };
 }
 
-/// The turn that the slot tells of is in the history.
+/// The turn that the cell tells of is in the history.
 pub(crate) struct Count<V> {
     value: PhantomData<V>,
 }
@@ -42,7 +42,7 @@ impl<V: Turned> Play<Option<Held<V, V::Entry, V::Reply>>, SeatView<V::Entry, V::
     ghost then = { counted V.past V.stands V.kept };
 }
 
-/// The slot is back, and what the first seat knows.
+/// The cell is back, and what the first seat knows.
 pub(crate) struct Release;
 
 impl<S, E, R> Play<S, SeatView<E, R>> for Release {

@@ -1,4 +1,4 @@
-//! The table that threads share: three words, and one slot with the value.
+//! The table that threads share: three words, and one cell with the value.
 use crate::turned::Turned;
 use crate::views::{Held, SeatView};
 use atomic_table::{Shared, Table, TableRule};
@@ -14,7 +14,7 @@ pub(crate) const TICKET: usize = 1;
 /// The ticket that is served.
 pub(crate) const SERVING: usize = 2;
 
-pub(crate) const SLOT: usize = 0;
+pub(crate) const CELL: usize = 0;
 
 /// Of a lock that was made with so many seats.
 pub struct History<V> {
@@ -31,10 +31,10 @@ impl<V: Turned> TableRule<Option<Held<V, V::Entry, V::Reply>>, SeatView<V::Entry
     ghost first = { λ seats. newcomer seats };
 }
 
-pub type Slot<V> = Option<Held<V, <V as Turned>::Entry, <V as Turned>::Reply>>;
+pub type Cell<V> = Option<Held<V, <V as Turned>::Entry, <V as Turned>::Reply>>;
 
 pub type View<V> = SeatView<<V as Turned>::Entry, <V as Turned>::Reply>;
 
-pub type Steps<V> = Shared<Slot<V>, View<V>, u32, History<V>>;
+pub type Steps<V> = Shared<Cell<V>, View<V>, u32, History<V>>;
 
-pub type Home<V> = Table<Slot<V>, View<V>, u32, History<V>, Global>;
+pub type Home<V> = Table<Cell<V>, View<V>, u32, History<V>, Global>;

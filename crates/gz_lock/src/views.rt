@@ -1,9 +1,9 @@
-//! What a seat knows, and what lies in the lock's slot. Of all but `Held` no value is made: they stand in clauses alone.
+//! What a seat knows, and what lies in the lock's cell. Of all but `Held` no value is made: they stand in clauses alone.
 use std::collections::LinkedList;
 use std::snapshot::Snapshot;
 
 /// A turn of the history.
-pub struct Turn<E, R> {
+pub struct TakenTurn<E, R> {
     /// The number of the seat that took it.
     pub seat: u64,
     pub entry: E,
@@ -13,11 +13,11 @@ pub struct Turn<E, R> {
 }
 
 /// Where a seat stands, with the ticket that it holds.
-pub enum Stage {
+pub enum SeatState {
     Idle,
     /// It waits to be served.
     Waits(u64),
-    /// It is served, and holds the slot.
+    /// It is served, and holds the cell.
     Served(u64),
     /// The same, and its turn is counted.
     Counted(u64),
@@ -27,7 +27,9 @@ pub enum Stage {
 pub struct Joined<E, R> {
     pub number: u64,
     /// What it had seen.
-    pub seen: LinkedList<Turn<E, R>>,
+    pub seen: LinkedList<TakenTurn<E, R>>,
+    /// What the first seat had seen.
+    pub first: LinkedList<TakenTurn<E, R>>,
 }
 
 /// What a seat knows.
@@ -39,14 +41,14 @@ pub struct SeatView<E, R> {
     pub parts: u64,
     /// How many seats had been split from the first one: of the first one by now, of another when it was made.
     pub splits: u64,
-    pub stage: Stage,
+    pub state: SeatState,
     /// The beginning of the history that it has seen.
-    pub seen: LinkedList<Turn<E, R>>,
+    pub seen: LinkedList<TakenTurn<E, R>>,
     /// The seats that were joined into it.
     pub joined: LinkedList<Joined<E, R>>,
 }
 
-/// What lies in the slot: the value, and what its last turn was told and replied, which the step that counts the turn reads.
+/// What lies in the cell: the value, and what its last turn was told and replied, which the step that counts the turn reads.
 #[derive(Drop)]
 pub struct Held<V, E, R> {
     pub value: V,

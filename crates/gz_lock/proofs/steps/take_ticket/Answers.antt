@@ -11,5 +11,5 @@ compare_exchange-requires g c = let table = c.args.table.now in let seat = c.loa
   search rules,
   search rules,
   takes_ticket g.V.Turned.past g.V.Turned.stands g.V.Turned.kept table.key table.table_id.slots seat.id c.load-next.result seat.me (omega arith) (ap (λ m. m.0.live) same ∙ c.requires.rests.is_live)
-      (ap (λ m. m.0.stage) same ∙ c.requires.rests.is_idle),
+      (ap (λ m. m.0.state) same ∙ c.requires.rests.is_idle),
 )

@@ -1,4 +1,4 @@
-use Rattle.std.proofs.Common.{rules, [], ◌∷◌, None, Some, sym, subst, ◌∙◌}
+use Rattle.std.proofs.Common.{[], ◌∷◌, None, sym, subst, ◌∙◌}
 use Rattle.atomic_table.specs.Table.{opening}
 use Rattle.gz_lock.specs.Rule.{Ruled}
 use Rattle.gz_lock.specs.Seats.{newcomer}

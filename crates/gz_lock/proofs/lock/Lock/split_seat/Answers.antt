@@ -1,4 +1,4 @@
-use Rattle.std.proofs.Common.{rules, arith, ◌≡◌, ◌+◌, ◌≤◌, [], sym, subst, ap, ◌∙◌}
+use Rattle.std.proofs.Common.{rules, arith, ◌≡◌, ◌+◌, [], sym, subst, ap, ◌∙◌}
 use Rattle.gz_lock.specs.Histories.{turns_of}
 use Rattle.gz_lock.specs.Seats.{given, KnowsJoined}
 use Rattle.gz_lock.proofs.OwnTurns.{none_above}
@@ -19,5 +19,5 @@ split_seat-requires g c = let seat = c.load.new.seat in let same : seat.me ≡ c
 )
 
 pub returns-clause-none_own : goal.returns-clause-none_own
-returns-clause-none_own g c = let k = c.args.seat.now.me.0 in let known : KnowsJoined k = c.load.ensures.2.1 c.requires.first.0 in
+returns-clause-none_own g c = let k = c.args.seat.now.me.0 in let known : KnowsJoined k = (c.load.ensures.2.1 c.requires.first.0).0 in
     let is : c.split_seat.result.me.0 ≡ given k = search rules in subst (λ x. turns_of x.number x.seen ≡ []) (sym is) (none_above k.splits (k.splits + 1) k.seen (omega arith) known.given_numbers)

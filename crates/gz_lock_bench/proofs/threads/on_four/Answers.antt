@@ -1,0 +1,7 @@
+use denote.Param.Send.{sendable}
+use Rattle.std.proofs.Crossing.{crosses}
+use Rattle.gz_lock.proofs.Crossing.{lock_crosses}
+use Rattle.gz_lock_bench.proofs.threads.on_four.Goals as goal
+
+pub join-requires-send-F : goal.join-requires-send-F
+join-requires-send-F g c κs within = search (sendable, crosses, lock_crosses) depth 30 fits 20000
