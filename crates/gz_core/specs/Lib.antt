@@ -3,6 +3,7 @@ pub mod Calls
 pub mod Causes
 pub mod Configurations
 pub mod Counts
+pub mod History
 pub mod Keys
 pub mod Names
 pub mod Puts

@@ -4,6 +4,7 @@
 
 pub mod blobs;
 pub mod calls;
+pub mod fates;
 pub mod keys;
 pub mod lists;
 pub mod names;
@@ -14,7 +15,8 @@ pub mod texts;
 pub mod values;
 
 pub use blobs::BlobName;
-pub use calls::{Answer, Call, Phase, UnsureWhy};
+pub use calls::{Answer, Call, HeldWhy, Phase, UnsureWhy};
+pub use fates::{Fate, Fates};
 pub use gz_config::{Config, ConfigError, Order};
 pub use keys::Key;
 pub use lists::Items;

@@ -1,4 +1,5 @@
 //! What a client asks of sites, and what it is answered.
+use crate::blobs::BlobName;
 use crate::calls::Answer;
 use crate::keys::Key;
 use crate::lists::Items;
@@ -76,6 +77,19 @@ pub enum Op {
         step: RowStep,
         row: Row,
     },
+    /// Stores the record of a fragment.
+    PutBlob {
+        name: BlobName,
+        bytes: Items<u8>,
+    },
+    /// Reads the record of a fragment.
+    GetBlob {
+        name: BlobName,
+    },
+    /// Removes the record of a fragment.
+    DropBlob {
+        name: BlobName,
+    },
 }
 
 impl Drop for Op {
@@ -88,6 +102,9 @@ impl Drop for Op {
                 step: _,
                 row: _,
             } => {},
+            Op::PutBlob { name: _, bytes: _ } => {},
+            Op::GetBlob { name: _ } => {},
+            Op::DropBlob { name: _ } => {},
         }
     }
 }
@@ -107,6 +124,10 @@ pub enum Reply {
     NoRow,
     Written { etag: Etag },
     Changed,
+    Stored,
+    Blob { bytes: Items<u8> },
+    NoBlob,
+    Dropped,
     Failed,
 }
 
@@ -117,6 +138,10 @@ impl Drop for Reply {
             Reply::NoRow => {},
             Reply::Written { etag: _ } => {},
             Reply::Changed => {},
+            Reply::Stored => {},
+            Reply::Blob { bytes: _ } => {},
+            Reply::NoBlob => {},
+            Reply::Dropped => {},
             Reply::Failed => {},
         }
     }

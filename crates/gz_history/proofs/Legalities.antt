@@ -3,8 +3,8 @@ use Rattle.std.proofs.Common.{◌≡◌, ℕ, ◌<◌, ◌≤◌, List, Option, 
 use Rattle.std.specs.Prelude.{Result, Ok, Err, IfOk}
 use Rattle.std.proofs.lemmas.Bool.{cases_lt}
 use Rattle.std.proofs.lemmas.Option.{same_Some, slice_get_read, slice_get_within}
-use Rattle.gz_history.specs.Legal.{IsLegal, EachTwo, Agree, TakeEffectOnce, KeepOrder, IsBefore, ReturnWritten, ReadsAWrite}
-use Rattle.gz_history.specs.Broken.{IsHistory, KeptBefore, HaveSources, ReturnedBefore}
+use Rattle.gz_history.specs.Legal.{IsLegal, EachTwo, Agree, TakeEffectOnce, KeepOrder, IsBefore, ReturnWritten, ReadsAWrite, KeepsAsked}
+use Rattle.gz_history.specs.Broken.{IsHistory, KeptBefore, HaveSources, ReturnedBefore, KeptAsked}
 use Rattle.gz_history.specs.declared.legality.Broken.{Broken}
 use Rattle.gz_history.specs.declared.record.CallRec.{CallRec}
 
@@ -70,16 +70,20 @@ returned_from calls kept a b (i, l, p) (j, m, q) k =
 sources_from : (calls : List CallRec) → HaveSources calls (length calls) → (a : CallRec) → Contains calls a → ReadsAWrite calls a
 sources_from calls kept a (i, l, p) = kept i a l (slice_get_read calls (length calls) i a refl l (sym p))
 
-pub legal_from : (calls : List CallRec) → IsHistory calls → KeptBefore Agree calls (length calls) → KeptBefore TakeEffectOnce calls (length calls) → KeptBefore KeepOrder calls (length calls) → HaveSources calls (length calls) → ReturnedBefore calls (length calls) → IsLegal calls
-legal_from calls h agreement once order sources values = record {
+asked_from : (calls : List CallRec) → KeptAsked calls (length calls) → (a : CallRec) → Contains calls a → KeepsAsked a
+asked_from calls kept a (i, l, p) = kept i a l (slice_get_read calls (length calls) i a refl l (sym p))
+
+pub legal_from : (calls : List CallRec) → IsHistory calls → KeptBefore Agree calls (length calls) → KeptBefore TakeEffectOnce calls (length calls) → KeptBefore KeepOrder calls (length calls) → HaveSources calls (length calls) → ReturnedBefore calls (length calls) → KeptAsked calls (length calls) → IsLegal calls
+legal_from calls h agreement once order sources values asked = record {
   agreement = each_two_both Agree calls agree_turned agree_same agreement;
   once = each_two_both TakeEffectOnce calls once_turned once_same once;
   order = order_from calls h order;
   sources = sources_from calls sources;
   values = returned_from calls values;
+  asked = asked_from calls asked;
 }
 
 -- the same, where the last rule was tried last
-pub legal_if : (calls : List CallRec) (r : Result (Unit {0}) Broken) → IsHistory calls → KeptBefore Agree calls (length calls) → KeptBefore TakeEffectOnce calls (length calls) → KeptBefore KeepOrder calls (length calls) → HaveSources calls (length calls) → IfOk r (λ _. ReturnedBefore calls (length calls)) → IfOk r (λ _. IsLegal calls)
-legal_if calls (Ok u) h agreement once order sources values = legal_from calls h agreement once order sources values
-legal_if calls (Err broken) h agreement once order sources values = tt
+pub legal_if : (calls : List CallRec) (r : Result (Unit {0}) Broken) → IsHistory calls → KeptBefore Agree calls (length calls) → KeptBefore TakeEffectOnce calls (length calls) → KeptBefore KeepOrder calls (length calls) → HaveSources calls (length calls) → ReturnedBefore calls (length calls) → IfOk r (λ _. KeptAsked calls (length calls)) → IfOk r (λ _. IsLegal calls)
+legal_if calls (Ok u) h agreement once order sources values asked = legal_from calls h agreement once order sources values asked
+legal_if calls (Err broken) h agreement once order sources values asked = tt

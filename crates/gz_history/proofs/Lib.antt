@@ -1,3 +1,3 @@
 mod Breaking
 mod Legalities
-mod Searching
+pub mod Searching

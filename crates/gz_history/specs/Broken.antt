@@ -3,7 +3,7 @@ use Rattle.std.specs.Prelude.{ℕ, ◌≡◌, ◌<◌, ◌⊎◌, List, Some, le
 use Rattle.gz_core.specs.Names.{Name}
 use Rattle.gz_core.specs.Calls.{key_of}
 use Rattle.gz_history.specs.Answers.{shows, names, read_from}
-use Rattle.gz_history.specs.Legal.{Agree, TakeEffectOnce, KeepOrder, IsSource, ReadsAWrite, ReturnWritten}
+use Rattle.gz_history.specs.Legal.{Agree, TakeEffectOnce, KeepOrder, IsSource, ReadsAWrite, ReturnWritten, KeepsAsked}
 use Rattle.gz_history.specs.declared.record.CallRec.{CallRec}
 use Rattle.gz_history.specs.declared.legality.Broken.{Broken}
 use Rattle.gz_history.specs.declared.legality.Rule.{Rule}
@@ -124,6 +124,19 @@ ReturnsOther calls i broken = (j : ℕ) × (ReturnedUpTo calls i j × AreBroken 
 abbrev pub ReturnsOtherFirst : List CallRec → Broken → Type 0
 ReturnsOtherFirst calls broken = (i : ℕ) × (ReturnedBefore calls i × ReturnsOther calls i broken)
 
+-- each of the first calls is answered about the version that it asked for
+abbrev pub KeptAsked : List CallRec → ℕ → Type 0
+KeptAsked calls end = (i : ℕ) (a : CallRec) → i < end → slice_get calls i ≡ Some a → KeepsAsked a
+
+-- the first call that is answered about another version than it asked for
+pub record StraysFirst (calls : List CallRec) (broken : Broken) : Type 0 where
+  pub i : ℕ
+  pub a : CallRec
+  pub reader : slice_get calls i ≡ Some a
+  pub strays : KeepsAsked a → ⊥
+  pub before : KeptAsked calls i
+  pub told : broken ≡ record { clause = 6; a = a.name; b = a.name }
+
 -- a rule that all calls keep
 abbrev pub IsRuleKept : Rule → List CallRec → Type 0
 IsRuleKept rule calls = KeptBefore (relation_of rule) calls (length calls)
@@ -136,3 +149,4 @@ IsFirstBroken calls broken =
     ⊎ (IsRuleKept Agreement calls × IsRuleKept Once calls × BreaksFirst KeepOrder 3 calls broken)
     ⊎ (IsRuleKept Agreement calls × IsRuleKept Once calls × IsRuleKept Order calls × LacksSource calls broken)
     ⊎ (IsRuleKept Agreement calls × IsRuleKept Once calls × IsRuleKept Order calls × HaveSources calls (length calls) × ReturnsOtherFirst calls broken)
+    ⊎ (IsRuleKept Agreement calls × IsRuleKept Once calls × IsRuleKept Order calls × HaveSources calls (length calls) × ReturnedBefore calls (length calls) × StraysFirst calls broken)

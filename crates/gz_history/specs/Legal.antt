@@ -5,7 +5,7 @@
 use Rattle.std.specs.Prelude.{ℕ, ◌≡◌, ◌<◌, ◌≤◌, List, Option, Some, None, Contains}
 use Rattle.gz_core.specs.Names.{Name}
 use Rattle.gz_core.specs.Calls.{key_of}
-use Rattle.gz_history.specs.Answers.{shows, stands, names, read_from, bytes_read, bytes_written, IsWrite, Writes, MayTakeEffect}
+use Rattle.gz_history.specs.Answers.{shows, stands, names, read_from, bytes_read, bytes_written, IsWrite, Writes, MayTakeEffect, AnswersAsked}
 use Rattle.gz_history.specs.declared.record.CallRec.{CallRec}
 
 -- a tick stands before another
@@ -34,7 +34,7 @@ TakeEffectOnce a b = (x : Name) (v w : ℕ) → names a.name a.answer ≡ Some x
 abbrev pub KeepOrder : CallRec → CallRec → Type 0
 KeepOrder a b = (v w : ℕ) → IsBefore a.end b.begin → shows a.answer ≡ Some v → stands b.call b.answer ≡ Some w → (v ≤ w) × (IsWrite b.call → v < w)
 
--- the call that a read names: it writes what was read, a put for bytes and a delete where the object is gone, to the same object;
+-- the call that a read names: it writes what was read, a put for bytes and a delete where the version is a tombstone, to the same object;
 -- it began before the read ended, and may have taken effect
 pub record IsSource (a : CallRec) (x : Name) (b : CallRec) : Type 0 where
   pub name : b.name ≡ x
@@ -51,6 +51,10 @@ ReadsAWrite calls a = (x : Name) → read_from a.answer ≡ Some x → (b : Call
 abbrev pub ReturnWritten : CallRec → CallRec → Type 0
 ReturnWritten a b = (bytes : List ℕ) → read_from a.answer ≡ Some b.name → bytes_read a.answer ≡ Some bytes → bytes_written b.call ≡ Some bytes
 
+-- versions asked for: a read of a version by its number answers about that version
+abbrev pub KeepsAsked : CallRec → Type 0
+KeepsAsked a = AnswersAsked a.call a.answer
+
 -- a legal history
 pub record IsLegal (calls : List CallRec) : Type 0 where
   pub agreement : EachTwo Agree calls
@@ -58,3 +62,4 @@ pub record IsLegal (calls : List CallRec) : Type 0 where
   pub order : EachTwo KeepOrder calls
   pub sources : (a : CallRec) → Contains calls a → ReadsAWrite calls a
   pub values : EachTwo ReturnWritten calls
+  pub asked : (a : CallRec) → Contains calls a → KeepsAsked a

@@ -1,16 +1,16 @@
 //! Whether a history is legal, and where it first isn't.
-ghost use Rattle.std.specs.Prelude.{◌≡◌, ◌<◌, true, false, IfOk, IfErr, MatchOption, length, Contains};
+ghost use Rattle.std.specs.Prelude.{◌≡◌, ◌<◌, ◌≤◌, true, false, IfOk, IfErr, MatchOption, length, Contains};
 ghost use Rattle.gz_history.specs.declared.record.CallRec.{CallRec as CallOf};
-ghost use Rattle.gz_history.specs.Answers.{shows, names, read_from, bytes_written, IsWrite, IsPut, IsDelete, Writes, MayTakeEffect};
-ghost use Rattle.gz_history.specs.Legal.{IsLegal, Agree, TakeEffectOnce, KeepOrder, IsBefore, IsBeforeEnd, IsSource, ReadsAWrite, ReturnWritten};
-ghost use Rattle.gz_history.specs.Broken.{IsHistory, Precedes, EndsLater, AllPrecede, IsFirstBroken, relation_of, clause_of, NameOneWrite, ShowOneVersion, OfOneObject, Broke, KeptWith, KeptBefore, BreaksWith, BreaksFirst, IsMissing, HaveSources, LacksSource, ReturnedUpTo, ReturnedBefore, ReturnsOther, ReturnsOtherFirst};
+ghost use Rattle.gz_history.specs.Answers.{shows, stands, latest_told, names, read_from, bytes_written, IsWrite, IsPut, IsDelete, Writes, MayTakeEffect, IsOfVersion, AnswersAsked};
+ghost use Rattle.gz_history.specs.Legal.{IsLegal, Agree, TakeEffectOnce, KeepOrder, IsBefore, IsBeforeEnd, IsSource, ReadsAWrite, ReturnWritten, KeepsAsked};
+ghost use Rattle.gz_history.specs.Broken.{IsHistory, Precedes, EndsLater, AllPrecede, IsFirstBroken, relation_of, clause_of, NameOneWrite, ShowOneVersion, OfOneObject, Broke, KeptWith, KeptBefore, BreaksWith, BreaksFirst, IsMissing, HaveSources, LacksSource, ReturnedUpTo, ReturnedBefore, ReturnsOther, ReturnsOtherFirst, KeptAsked, StraysFirst};
 
 use crate::record::CallRec;
 use gz_core::{Answer, Call, Items, PutName, Version};
 
 /// The first rule of a legal history that does not hold, with the first two calls that break it: 1, agreement; 2, effect at
-/// most once; 3, real-time order; 4, reads from writes; 5, values. In 1 to 3 `a` began before `b`; in 4 and 5 `a` reads
-/// and `b` is the call that it names.
+/// most once; 3, real-time order; 4, reads from writes; 5, values; 6, versions asked for. In 1 to 3 `a` began before `b`; in
+/// 4 and 5 `a` reads and `b` is the call that it names; in 6 both are the call that asked.
 #[derive(Clone, Copy, Debug, PartialEq, Eq)]
 pub struct Broken {
     pub clause: u8,
@@ -38,7 +38,8 @@ pub fn legal(calls: &[CallRec]) -> Result<(), Broken>
     each_two(Rule::Once, calls)?;
     each_two(Rule::Order, calls)?;
     each_source(calls)?;
-    each_return(calls)
+    each_return(calls)?;
+    each_asked(calls)
 }
 
 /// Whether the calls are those of a run: in the order in which they began, each with a name of its own and an end, if it
@@ -199,7 +200,7 @@ fn keep_order(a: &CallRec, b: &CallRec) -> bool
     ensures kept { result ≡ true → KeepOrder a.now b.now }
     ensures broken { result ≡ false → KeepOrder a.now b.now → ⊥ }
 {
-    match (shown(a), shown(b)) {
+    match (shown(a), standing(b)) {
         (Some(v), Some(w)) => !is_before(a.end, b.begin) || v < w || (v == w && !is_write(&b.call)),
         _ => true,
     }
@@ -210,22 +211,46 @@ fn named(a: &CallRec) -> Option<PutName>
     ensures { result ≡ names a.now.name a.now.answer }
 {
     match &a.answer {
-        Some(Answer::Ok { .. }) => Some(a.name),
-        Some(Answer::Bytes { name, .. }) => Some(*name),
-        Some(Answer::Gone { name, .. }) => Some(*name),
+        Some(Answer::Ok { .. } | Answer::Thin { .. }) => Some(a.name),
+        _ => read(a),
+    }
+}
+
+/// The version that the call's answer shows to exist, 0 where it says that there is none.
+fn shown(a: &CallRec) -> Option<u64>
+    ensures { result ≡ shows a.now.answer }
+{
+    match &a.answer {
+        Some(
+            Answer::Ok { version }
+            | Answer::Thin { version, .. }
+            | Answer::Bytes { version, .. }
+            | Answer::Incomplete { version, .. }
+            | Answer::Gone { version, .. },
+        ) => Some(version.number()),
+        Some(Answer::Absent) => Some(0),
+        Some(Answer::Unborn { latest }) => Some(latest.number()),
+        Some(Answer::Collected { floor } | Answer::Swept { floor, .. }) => Some(floor.number() + 1),
         _ => None,
     }
 }
 
-/// The version that the call's answer shows to exist.
-fn shown(a: &CallRec) -> Option<Version>
-    ensures { result ≡ shows a.now.answer }
+/// The version that the call's answer shows as the latest one.
+fn standing(a: &CallRec) -> Option<u64>
+    ensures { result ≡ stands a.now.call a.now.answer }
 {
-    match &a.answer {
-        Some(Answer::Ok { version }) => Some(*version),
-        Some(Answer::Bytes { version, .. }) => Some(*version),
-        Some(Answer::Gone { version, .. }) => Some(*version),
-        Some(Answer::Absent) => Some(Version::none()),
+    match &a.call {
+        Call::Put { .. } | Call::Delete { .. } | Call::Get { .. } => shown(a),
+        Call::GetAt { .. } | Call::Collect { .. } => told_latest(&a.answer),
+    }
+}
+
+/// The version that the answer calls the latest one, where the one that was asked for has not begun.
+fn told_latest(answer: &Option<Answer>) -> Option<u64>
+    ensures { result ≡ latest_told answer.now }
+{
+    match answer {
+        Some(Answer::Unborn { latest }) => Some(latest.number()),
         _ => None,
     }
 }
@@ -247,7 +272,7 @@ fn is_write(call: &Call) -> bool
 {
     match call {
         Call::Put { .. } | Call::Delete { .. } => true,
-        Call::Get { .. } => false,
+        Call::Get { .. } | Call::GetAt { .. } | Call::Collect { .. } => false,
     }
 }
 
@@ -285,8 +310,11 @@ fn read(a: &CallRec) -> Option<PutName>
     ensures { result ≡ read_from a.now.answer }
 {
     match &a.answer {
-        Some(Answer::Bytes { name, .. }) => Some(*name),
-        Some(Answer::Gone { name, .. }) => Some(*name),
+        Some(
+            Answer::Bytes { name, .. }
+            | Answer::Incomplete { name, .. }
+            | Answer::Gone { name, .. },
+        ) => Some(*name),
         _ => None,
     }
 }
@@ -316,13 +344,13 @@ fn is_source(a: &CallRec, x: PutName, b: &CallRec) -> bool
         && may_take_effect(&b.answer)
 }
 
-/// Whether the call writes what the answer reads: a put bytes, a delete the tombstone by which an object is gone.
+/// Whether the call writes what the answer reads: a put bytes, a delete a tombstone.
 fn is_of_kind(answer: &Option<Answer>, call: &Call) -> bool
     ensures yes { result ≡ true → Writes answer.now call.now }
     ensures no { result ≡ false → Writes answer.now call.now → ⊥ }
 {
     match answer {
-        Some(Answer::Bytes { .. }) => is_put(call),
+        Some(Answer::Bytes { .. } | Answer::Incomplete { .. }) => is_put(call),
         Some(Answer::Gone { .. }) => is_delete(call),
         _ => false,
     }
@@ -334,7 +362,7 @@ fn is_put(call: &Call) -> bool
 {
     match call {
         Call::Put { .. } => true,
-        Call::Delete { .. } | Call::Get { .. } => false,
+        _ => false,
     }
 }
 
@@ -344,7 +372,7 @@ fn is_delete(call: &Call) -> bool
 {
     match call {
         Call::Delete { .. } => true,
-        Call::Put { .. } | Call::Get { .. } => false,
+        _ => false,
     }
 }
 
@@ -405,7 +433,7 @@ fn writes(call: &Call, bytes: &Items<u8>) -> bool
 {
     match call {
         Call::Put { bytes: written, .. } => written == bytes,
-        Call::Delete { .. } | Call::Get { .. } => false,
+        _ => false,
     }
 }
 
@@ -426,7 +454,52 @@ fn may_take_effect(answer: &Option<Answer>) -> bool
     ensures no { result ≡ false → MayTakeEffect answer.now → ⊥ }
 {
     match answer {
-        Some(Answer::NoQuorum { .. } | Answer::Contended { .. }) => false,
+        Some(Answer::NoQuorum { .. } | Answer::Contended { .. } | Answer::Short { .. }) => false,
+        _ => true,
+    }
+}
+
+/// Tries whether each call that asked for a version is answered about it.
+fn each_asked(calls: &[CallRec]) -> Result<(), Broken>
+    ensures kept { IfOk result (λ _. KeptAsked calls.now (length calls.now)) }
+    ensures broken { IfErr result (λ broken. StraysFirst calls.now broken) }
+{
+    for a in calls {
+        if !answers_asked(a) {
+            return Err(Broken {
+                clause: 6,
+                a: a.name,
+                b: a.name,
+            });
+        }
+    }
+    Ok(())
+}
+
+/// Whether a call that asked for a version is answered about it.
+fn answers_asked(a: &CallRec) -> bool
+    ensures kept { result ≡ true → KeepsAsked a.now }
+    ensures broken { result ≡ false → KeepsAsked a.now → ⊥ }
+{
+    match &a.call {
+        Call::GetAt { version, .. } => is_of_version(*version, &a.answer),
+        _ => true,
+    }
+}
+
+/// Whether an answer is about the version that was asked for.
+fn is_of_version(asked: Version, answer: &Option<Answer>) -> bool
+    ensures yes { result ≡ true → IsOfVersion asked answer.now }
+    ensures no { result ≡ false → IsOfVersion asked answer.now → ⊥ }
+{
+    match answer {
+        Some(
+            Answer::Bytes { version, .. }
+            | Answer::Incomplete { version, .. }
+            | Answer::Gone { version, .. },
+        ) => *version == asked,
+        Some(Answer::Unborn { latest }) => *latest < asked,
+        Some(Answer::Collected { floor }) => asked <= *floor,
         _ => true,
     }
 }

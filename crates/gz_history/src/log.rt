@@ -1,10 +1,10 @@
 //! The text of a log.
 ghost use Rattle.std.specs.Prelude.{◌≡◌, ◌++◌, IfOk, OnOk, codes, decimal, flat_map};
-ghost use Rattle.gz_history.specs.Log.{name_text, asked_text, found_text, gone_text, kind_text, argument_text, tick_text, phase_text, unsure_text, answer_text, line_text, end_text, log_of};
+ghost use Rattle.gz_history.specs.Log.{name_text, bytes_text, asked_text, versioned_text, kind_text, argument_text, tick_text, phase_text, no_quorum_text, unsure_text, fate_text, fates_text, held_text, told_text, answer_text, line_text, end_text, log_of};
 
 use crate::record::CallRec;
 use crate::text::Text;
-use gz_core::{Answer, Call, Phase, PutName, UnsureWhy};
+use gz_core::{Answer, Call, Fate, Fates, HeldWhy, Phase, PutName, UnsureWhy, Version};
 use std::alloc::{AllocError, Global};
 
 /// The log of these calls, of which there were so many events, and so many of them skipped.
@@ -85,6 +85,8 @@ fn kind(call: &Call) -> &'static [u8]
         Call::Put { .. } => b"put",
         Call::Delete { .. } => b"delete",
         Call::Get { .. } => b"get",
+        Call::GetAt { .. } => b"getat",
+        Call::Collect { .. } => b"collect",
     }
 }
 
@@ -94,6 +96,8 @@ fn put_argument(alloc: Global, text: &mut Text, call: &Call) -> Result<(), Alloc
     match call {
         Call::Put { bytes, .. } => text.bytes(alloc, bytes.as_slice()),
         Call::Delete { .. } | Call::Get { .. } => text.put(b"-"),
+        Call::GetAt { version, .. } => text.number(alloc, version.number()),
+        Call::Collect { keep, .. } => text.number(alloc, *keep as u64),
     }
 }
 
@@ -112,69 +116,132 @@ fn put_answer(alloc: Global, text: &mut Text, answer: &Option<Answer>) -> Result
 {
     match answer {
         None => text.put(b"open"),
-        Some(Answer::Ok { version }) => text.counted(alloc, b"ok ", version.number()),
-        Some(
-            Answer::Bytes {
-                version,
-                name,
-                bytes,
-            },
-        ) => put_found(alloc, text, version.number(), *name, bytes.as_slice()),
-        Some(Answer::Gone { version, name }) => put_gone(alloc, text, version.number(), *name),
-        Some(Answer::Absent) => text.put(b"absent"),
-        Some(Answer::NoQuorum { phase, heard }) => {
-            put_in_phase(alloc, text, b"noquorum ", *phase, *heard)
-        }
-        Some(Answer::Contended { met }) => text.counted(alloc, b"contended ", *met as u64),
-        Some(Answer::Unsure { why }) => put_unsure(alloc, text, *why),
+        Some(answer) => put_told(alloc, text, answer),
+    }
+}
+
+fn put_told(alloc: Global, text: &mut Text, answer: &Answer) -> Result<(), AllocError>
+    ensures { OnOk result (text.new ≡ text.old ++ told_text answer.now) }
+{
+    match answer {
+        Answer::Ok { version } => text.counted(alloc, b"ok ", version.number()),
+        Answer::Thin { version, stored } => text.counts(alloc, b"thin ", version.number(), *stored),
+        Answer::Short { stored } => text.counted(alloc, b"short ", *stored as u64),
+        Answer::Bytes {
+            version,
+            name,
+            bytes,
+        } => put_found(alloc, text, *version, *name, bytes.as_slice()),
+        Answer::Incomplete {
+            version,
+            name,
+            fates,
+        } => put_incomplete(alloc, text, *version, *name, fates),
+        Answer::Gone { version, name } => put_versioned(alloc, text, b"gone ", *version, *name),
+        Answer::Absent => text.put(b"absent"),
+        Answer::Unborn { latest } => text.counted(alloc, b"unborn ", latest.number()),
+        Answer::Collected { floor } => text.counted(alloc, b"collected ", floor.number()),
+        Answer::Swept { floor, dropped } => text.counts(alloc, b"swept ", floor.number(), *dropped),
+        Answer::Held { why } => put_held(text, why),
+        Answer::NoQuorum { phase, heard } => put_no_quorum(alloc, text, *phase, *heard),
+        Answer::Contended { met } => text.counted(alloc, b"contended ", *met as u64),
+        Answer::Unsure { why } => put_unsure(alloc, text, *why),
     }
 }
 
 fn put_found(
     alloc: Global,
     text: &mut Text,
-    version: u64,
+    version: Version,
     name: PutName,
     bytes: &[u8],
 ) -> Result<(), AllocError>
-    ensures { OnOk result (text.new ≡ text.old ++ found_text version name bytes.now) }
+    ensures { OnOk result (text.new ≡ text.old ++ (versioned_text (codes "bytes ") version name ++ codes " " ++ bytes_text bytes.now)) }
 {
-    text.counted(alloc, b"bytes ", version)?;
-    text.put(b" ")?;
-    put_name(alloc, text, name)?;
+    put_versioned(alloc, text, b"bytes ", version, name)?;
     text.put(b" ")?;
     text.bytes(alloc, bytes)
 }
 
-fn put_gone(alloc: Global, text: &mut Text, version: u64, name: PutName) -> Result<(), AllocError>
-    ensures { OnOk result (text.new ≡ text.old ++ gone_text version name) }
+fn put_incomplete(
+    alloc: Global,
+    text: &mut Text,
+    version: Version,
+    name: PutName,
+    fates: &Fates,
+) -> Result<(), AllocError>
+    ensures { OnOk result (text.new ≡ text.old ++ (versioned_text (codes "incomplete ") version name ++ codes " " ++ fates_text fates.now)) }
 {
-    text.counted(alloc, b"gone ", version)?;
+    put_versioned(alloc, text, b"incomplete ", version, name)?;
+    text.put(b" ")?;
+    put_fates(text, fates)
+}
+
+/// A word, a version and a name.
+fn put_versioned(
+    alloc: Global,
+    text: &mut Text,
+    word: &[u8],
+    version: Version,
+    name: PutName,
+) -> Result<(), AllocError>
+    ensures { OnOk result (text.new ≡ text.old ++ versioned_text word.now version name) }
+{
+    text.counted(alloc, word, version.number())?;
     text.put(b" ")?;
     put_name(alloc, text, name)
 }
 
-fn put_unsure(alloc: Global, text: &mut Text, why: UnsureWhy) -> Result<(), AllocError>
-    ensures { OnOk result (text.new ≡ text.old ++ unsure_text why) }
+/// A letter for each fate.
+fn put_fates(text: &mut Text, fates: &Fates) -> Result<(), AllocError>
+    ensures { OnOk result (text.new ≡ text.old ++ fates_text fates.now) }
 {
-    match why {
-        UnsureWhy::NoQuorum { phase, heard } => {
-            put_in_phase(alloc, text, b"unsure noquorum ", phase, heard)
-        }
-        UnsureWhy::Contended { met } => text.counted(alloc, b"unsure contended ", met as u64),
+    for fate in fates.as_slice() {
+        text.put(fate_letter(*fate))?;
+    }
+    Ok(())
+}
+
+fn fate_letter(fate: Fate) -> &'static [u8]
+    ensures { result.now ≡ fate_text fate }
+{
+    match fate {
+        Fate::Whole => b"W",
+        Fate::Damaged => b"D",
+        Fate::Missing => b"M",
+        Fate::GivenUp => b"G",
+        Fate::Failed => b"F",
     }
 }
 
-fn put_in_phase(
-    alloc: Global,
-    text: &mut Text,
-    word: &[u8],
-    phase: Phase,
-    heard: u32,
-) -> Result<(), AllocError>
-    ensures { OnOk result (text.new ≡ text.old ++ (word.now ++ phase_text phase ++ codes " " ++ decimal heard)) }
+fn put_unsure(alloc: Global, text: &mut Text, why: UnsureWhy) -> Result<(), AllocError>
+    ensures { OnOk result (text.new ≡ text.old ++ (codes "unsure " ++ unsure_text why)) }
 {
-    text.put(word)?;
+    text.put(b"unsure ")?;
+    match why {
+        UnsureWhy::NoQuorum { phase, heard } => put_no_quorum(alloc, text, phase, heard),
+        UnsureWhy::Contended { met } => text.counted(alloc, b"contended ", met as u64),
+        UnsureWhy::Trimmed { floor } => text.counted(alloc, b"trimmed ", floor.number()),
+    }
+}
+
+fn put_held(text: &mut Text, why: &HeldWhy) -> Result<(), AllocError>
+    ensures { OnOk result (text.new ≡ text.old ++ (codes "held " ++ held_text why.now)) }
+{
+    text.put(b"held ")?;
+    match why {
+        HeldWhy::NoOlder => text.put(b"noolder"),
+        HeldWhy::NotWhole { fates } => {
+            text.put(b"notwhole ")?;
+            put_fates(text, fates)
+        }
+    }
+}
+
+fn put_no_quorum(alloc: Global, text: &mut Text, phase: Phase, heard: u32) -> Result<(), AllocError>
+    ensures { OnOk result (text.new ≡ text.old ++ no_quorum_text phase heard) }
+{
+    text.put(b"noquorum ")?;
     text.put(phase_word(phase))?;
     text.counted(alloc, b" ", heard as u64)
 }

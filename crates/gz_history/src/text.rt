@@ -55,6 +55,20 @@ impl Text {
         self.number(alloc, n)
     }
 
+    /// A word, a number, a space and a count.
+    pub fn counts(
+        &mut self,
+        alloc: Global,
+        word: &[u8],
+        n: u64,
+        count: u32,
+    ) -> Result<(), AllocError>
+        ensures { OnOk result (self.new ≡ self.old ++ (word.now ++ decimal n ++ codes " " ++ decimal count)) }
+    {
+        self.counted(alloc, word, n)?;
+        self.counted(alloc, b" ", count as u64)
+    }
+
     /// A space and a word after it.
     pub fn word(&mut self, word: &[u8]) -> Result<(), AllocError>
         ensures { OnOk result (self.new ≡ self.old ++ (codes " " ++ word.now)) }

@@ -15,8 +15,7 @@ use Rattle.gz_lines.specs.declared.line.Reading.{Reading}
 use Rattle.gz_lines.specs.declared.line.Reading.TheVariants.{Skipped, Faulty, Is}
 use Rattle.gz_lines.specs.Faults.{error_at}
 use Rattle.gz_lines.specs.Grammar.{read_line}
-use Rattle.gz_lines.specs.Schedule.{fault_of, fault_at, line_of, readings, AreFaultless, IsFirstFault, Reads}
-use Rattle.gz_lines.specs.Texts.{lines}
+use Rattle.gz_lines.specs.Schedule.{fault_of, fault_at, line_of, readings, AreFaultless, IsFirstFault, told_number, Reads}
 use Rattle.gz_lines.proofs.CutLemmas.{length_readings}
 use Rattle.gz_lines.proofs.ReadLemmas.{lent_more, filter_map-some, filter_map-none}
 
@@ -73,9 +72,9 @@ skipped_more texts i d h same =
     ∙ filter_map-none line_of (all_of (take i texts)) (read_line (get_or texts i d).now) (ap line_of (sym same))
 
 -- the error of that fault
-pub reads_fault : (all : List Reading) (line : ℕ) (fault : Fault) (error : TextError) → error ≡ error_at line fault → IsFirstFault all line fault → Reads all (Err error)
-reads_fault all line (Bad why) error same first = subst (λ (e : TextError). Reads all (Err e)) (sym same) first
-reads_fault all line TooLong error same first = subst (λ (e : TextError). Reads all (Err e)) (sym same) first
+pub reads_fault : (all : List Reading) (line told : ℕ) (fault : Fault) (error : TextError) → told ≡ told_number line → error ≡ error_at told fault → IsFirstFault all line fault → Reads all (Err error)
+reads_fault all line told (Bad why) error number same first = subst (λ (e : TextError). Reads all (Err e)) (sym same) (line, number, first)
+reads_fault all line told TooLong error number same first = subst (λ (e : TextError). Reads all (Err e)) (sym same) (line, number, first)
 
 -- all lines were read
 pub reads_all : (texts : List (Bor (List ℕ))) (i : ℕ) (found : Vec Line Global) → i ≡ length texts → AreFaultless (all_of texts) i → found.items ≡ filter_map line_of (all_of (take i texts)) → Reads (all_of texts) (Ok found)
@@ -84,15 +83,6 @@ reads_all texts i found end faultless exact =
     let whole : i ≡ length (all_of texts) = omega arith in
     let taken : take i texts ≡ texts = rw end (take-length texts) in
     (subst (λ (n : ℕ). AreFaultless (all_of texts) n) whole faultless, exact ∙ ap (λ (ts : List (Bor (List ℕ))). filter_map line_of (all_of ts)) taken)
-
--- a text has at most one line more than bytes
-pub texts_few : (texts : List (Bor (List ℕ))) (text : List ℕ) → map (λ x. x.now) texts ≡ lines text → length texts ≤ length text + 1
-texts_few texts text same =
-    let seen : length (map (λ (x : Bor (List ℕ)). x.now) texts) ≡ length texts = length-map texts (λ (x : Bor (List ℕ)). x.now) in
-    let cut : length (map (λ (x : Bor (List ℕ)). x.now) texts) ≡ length (lines text) = ap length same in
-    let read : length (readings text) ≡ length (lines text) = length-map (lines text) read_line in
-    let few = length_readings text in
-    omega arith
 
 length-filter_map : (rs : List Reading) → length (filter_map line_of rs) ≤ length rs
 length-filter_map [] = omega arith

@@ -1,5 +1,5 @@
 -- Which texts are schedules, and the first line of a text that keeps it from being one.
-use Rattle.std.specs.Prelude.{ℕ, ◌≡◌, ◌-◌, ◌<◌, ◌≤◌, Vec, List, length, map, filter_map, Option, Some, None, option_and_then, Result, Ok, Err, slice_get}
+use Rattle.std.specs.Prelude.{ℕ, ◌≡◌, ◌-◌, ◌<◌, ◌≤◌, ◌^◌, min, Vec, List, length, map, filter_map, Option, Some, None, option_and_then, Result, Ok, Err, slice_get}
 use Rattle.std.specs.declared.alloc.Global.{Global}
 use Rattle.gz_core.specs.declared.texts.TextError.{TextError}
 use Rattle.gz_core.specs.declared.texts.TextError.TheVariants.{Bad, TooLong, NoMemory}
@@ -56,9 +56,17 @@ pub record IsFirstFault (all : List Reading) (line : ℕ) (fault : Fault) : Type
   pub above : AreFaultless all (line - 1)
   pub found : fault_at all (line - 1) ≡ Some fault
 
+-- the number that is told of a line: its own, or the greatest of 32 bits where it is above that
+abbrev pub told_number : ℕ → ℕ
+told_number line = min line (2 ^ 32 - 1)
+
+-- a line of which this number is told is the first with a fault, and has this one
+abbrev pub IsFaultTold : List Reading → ℕ → Fault → Type 0
+IsFaultTold all told fault = (line : ℕ) × (told ≡ told_number line) × IsFirstFault all line fault
+
 -- what lines read as: they are taken exactly where none has a fault; else the first one with a fault is told, with it
 abbrev pub Reads : List Reading → Result (Vec Line Global) TextError → Type 0
 Reads all (Ok found) = AreFaultless all (length all) × (found.items ≡ filter_map line_of all)
-Reads all (Err (Bad line why)) = IsFirstFault all line (faults.Bad why)
-Reads all (Err (TooLong line)) = IsFirstFault all line faults.TooLong
+Reads all (Err (Bad line why)) = IsFaultTold all line (faults.Bad why)
+Reads all (Err (TooLong line)) = IsFaultTold all line faults.TooLong
 Reads all (Err NoMemory) = Unit {0}

@@ -1,7 +1,7 @@
 //! A schedule: the lines that the program plays.
-ghost use Rattle.std.specs.Prelude.{◌≡◌, ◌<◌, ◌≤◌, ◌+◌, ◌-◌, ◌^◌, length, map, filter_map, IfOk, All};
+ghost use Rattle.std.specs.Prelude.{◌≡◌, ◌≤◌, ◌+◌, length, map, filter_map, IfOk, All};
 ghost use Rattle.gz_lines.specs.Grammar.{read_line};
-ghost use Rattle.gz_lines.specs.Schedule.{readings, IsBoundedLine, Reads};
+ghost use Rattle.gz_lines.specs.Schedule.{readings, IsBoundedLine, Reads, told_number};
 
 use crate::cut;
 use crate::grammar::read_line;
@@ -11,7 +11,6 @@ use std::alloc::{AllocError, Global};
 
 /// The lines of a schedule, or the first line with a fault, counted from 1. Time and memory grow linearly with the text.
 pub fn read_schedule(alloc: Global, bytes: &[u8]) -> Result<Vec<Line>, TextError>
-    requires { length bytes.now < 2 ^ 32 - 1 }
     ensures exact { Reads (readings bytes.now) result }
     ensures few { IfOk result (λ lines. length lines.items ≤ length bytes.now + 1) }
     ensures bounded { IfOk result (λ lines. All IsBoundedLine lines.items) }
@@ -24,7 +23,6 @@ pub fn read_schedule(alloc: Global, bytes: &[u8]) -> Result<Vec<Line>, TextError
 
 /// The same; want of memory stands outside.
 fn read(alloc: Global, bytes: &[u8]) -> Result<Result<Vec<Line>, TextError>, AllocError>
-    requires { length bytes.now < 2 ^ 32 - 1 }
     ensures { IfOk result (Reads (readings bytes.now)) }
 {
     let texts = cut::lines(alloc, bytes)?;
@@ -33,7 +31,6 @@ fn read(alloc: Global, bytes: &[u8]) -> Result<Result<Vec<Line>, TextError>, All
 
 /// What lines read as, up to the first one with a fault.
 fn lines_read(alloc: Global, texts: &[&[u8]]) -> Result<Result<Vec<Line>, TextError>, AllocError>
-    requires { length texts.now < 2 ^ 32 }
     ensures { IfOk result (Reads (map read_line (map (λ text. text.now) texts.now))) }
 {
     let mut lines = Vec::new(alloc);
@@ -41,9 +38,20 @@ fn lines_read(alloc: Global, texts: &[&[u8]]) -> Result<Result<Vec<Line>, TextEr
         let reading = read_line(alloc, texts[i])?;
         match reading {
             Reading::Skipped => {},
-            Reading::Faulty(fault) => return Ok(Err(fault.at(i as u32 + 1))),
+            Reading::Faulty(fault) => return Ok(Err(fault.at(number_at(i)))),
             Reading::Is(line) => lines.push(line)?,
         }
     }
     Ok(Ok(lines))
+}
+
+/// The number that is told of the line at a place.
+fn number_at(place: usize) -> u32
+    ensures { result ≡ told_number (place + 1) }
+{
+    if place < u32::MAX as usize {
+        place as u32 + 1
+    } else {
+        u32::MAX
+    }
 }

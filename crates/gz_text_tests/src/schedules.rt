@@ -41,6 +41,8 @@ fn brief_of_call(session: u32, call: &Call) -> Brief {
         Call::Put { bytes, .. } => ("put", session, key, number_of(bytes.as_slice())),
         Call::Delete { .. } => ("delete", session, key, 1),
         Call::Get { .. } => ("get", session, key, 1),
+        Call::GetAt { version, .. } => ("getat", session, key, version.number()),
+        Call::Collect { keep, .. } => ("collect", session, key, *keep as u64),
     }
 }
 
@@ -74,11 +76,8 @@ fn are(lines: &[Line], briefs: &[Brief]) -> bool {
     lines.len() == briefs.len()
 }
 
-/// Whether a short text has these lines.
+/// Whether a text has these lines.
 fn is_read(alloc: Global, text: &str, briefs: &[Brief]) -> bool {
-    if text.len() >= 200 {
-        return false;
-    }
     match read_schedule(alloc, text.as_bytes()) {
         Err(_) => false,
         Ok(lines) => are(lines.as_slice(), briefs),
@@ -153,9 +152,6 @@ fn schedules_are_read(rt: HostRuntime) {
 
 /// What a text is refused with, if it is.
 fn refusal_of(alloc: Global, text: &str) -> Option<TextError> {
-    if text.len() >= 100 {
-        return None;
-    }
     match read_schedule(alloc, text.as_bytes()) {
         Err(error) => Some(error),
         Ok(_) => None,
@@ -240,11 +236,8 @@ fn too_many_bytes_are_told(rt: HostRuntime) {
     }
 }
 
-/// The number of bytes of the one put of a short text, and the last of them.
+/// The number of bytes of the one put of a text, and the last of them.
 fn put_in(alloc: Global, text: &str) -> Option<(usize, u8)> {
-    if text.len() >= 100 {
-        return None;
-    }
     let lines = read_schedule(alloc, text.as_bytes()).ok()?;
     match lines.as_slice() {
         [

@@ -10,7 +10,7 @@ returns-in-Faulty c =
     let texts = c.args.texts.now in
     let i = c.loop-i.i in
     let first = first_fault texts i none c.in-Faulty.fault c.loop-i-test.true (sym c.in-Faulty.is ∙ c.in_ok-reading.ensures) c.loop-i.invariant.faultless in
-    reads_fault (all_of texts) (i + 1) c.in-Faulty.fault c.at.result c.at.ensures first
+    reads_fault (all_of texts) (i + 1) c.number_at.result c.in-Faulty.fault c.at.result c.number_at.ensures c.at.ensures first
 
 pub loop-i-preserved : goal.loop-i-preserved
 loop-i-preserved c =
