@@ -1,5 +1,7 @@
 mod CodeLemmas
+mod LoadLemmas
 mod PlayLemmas
 mod RunLemmas
 mod TellLemmas
+mod TextLemmas
 mod WorldLemmas

@@ -37,7 +37,7 @@ deliver_tell old new n r reply effect d i h = elim (cases_eq i r.site) [
 
 does_tell : (old new : State) (event : Event) (effect : Effect) → Does old event effect new → StillTell old new
 does_tell old new events.OpenSession effect d = record { sites = stay_tell old new d.sites; config = d.frame.cfg }
-does_tell old new (events.Begin session call) effect d = record { sites = stay_tell old new d.1.sites; config = d.1.frame.cfg }
+does_tell old new (events.Begin session call) effect d = record { sites = stay_tell old new d.1.1.sites; config = d.1.1.frame.cfg }
 does_tell old new (events.Deliver n) effect d = record { sites = deliver_tell old new n d.0 d.1.0 effect d.1.1; config = d.1.1.frame.cfg }
 does_tell old new (events.Reply n which) effect d = record { sites = stay_tell old new d.1.1.1.1.sites; config = d.1.1.1.1.frame.cfg }
 does_tell old new (events.GiveUp n) effect d = record { sites = stay_tell old new d.1.1.sites; config = d.1.1.frame.cfg }

@@ -3,7 +3,7 @@ use Rattle.std.proofs.Common.{ℕ, zero, suc, ◌≡◌, ◌≤◌, ◌<◌, Lis
 use Rattle.std.specs.Prelude.{Option, IfSome, IsSome, option_map, unwrap_or}
 use Rattle.gz_core.specs.Configurations.{IsConfig}
 use Rattle.gz_config.specs.declared.Config.{Config}
-use Rattle.gz_round.specs.History.{Trace}
+use Rattle.gz_core.specs.History.{Trace}
 use Rattle.gz_site.specs.Told.{Told, IsEmpty, nothing}
 use Rattle.gz_site.specs.Memory.{memory}
 use Rattle.gz_site.specs.declared.memory.MemSite.{MemSite}

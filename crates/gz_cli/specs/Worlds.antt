@@ -2,7 +2,7 @@
 use Rattle.std.specs.Prelude.{ℕ, ◌≡◌, ◌≤◌, ◌<◌, ◌⊎◌, Bool, true, false, List, length, count_by, Option, Some, IsSome}
 use Rattle.gz_config.specs.declared.Config.{Config}
 use Rattle.gz_config.specs.declared.Order.TheVariants.{Parallel}
-use Rattle.gz_round.specs.History.{Trace}
+use Rattle.gz_core.specs.History.{Trace}
 use Rattle.gz_site.specs.Told.{Told}
 use Rattle.gz_site.specs.Many.{told_at}
 use Rattle.gz_history.specs.Log.{log_of}

@@ -5,9 +5,9 @@ use Rattle.std.proofs.lemmas.Option.{same_Some, none-some}
 use Rattle.gz_core.specs.declared.calls.Answer.{Answer}
 use Rattle.gz_core.specs.declared.calls.Answer.TheVariants.{Ok, Bytes, Gone, Absent, NoQuorum, Contended, Unsure}
 use Rattle.gz_core.specs.declared.calls.UnsureWhy.{UnsureWhy}
-use Rattle.gz_core.specs.declared.calls.UnsureWhy.TheVariants.{NoQuorum as UnsureNoQuorum, Contended as UnsureContended}
+use Rattle.gz_core.specs.declared.calls.UnsureWhy.TheVariants.{NoQuorum as UnsureNoQuorum, Contended as UnsureContended, Trimmed as UnsureTrimmed}
 use Rattle.gz_config.specs.declared.Config.{Config}
-use Rattle.gz_round.specs.History.{Action, Caller, Trace}
+use Rattle.gz_core.specs.History.{Action, Caller, Trace}
 use Rattle.gz_round.specs.Sent.{met, voted, phase_of}
 use Rattle.gz_round.specs.Counting.{outs, IsGoing}
 use Rattle.gz_round.specs.Causes.{HasCause, UnsureCause}
@@ -16,25 +16,15 @@ use Rattle.gz_client.specs.Endings.{LacksSites, lacking, contending, EndsExactly
 
 -- an answer for want of sites
 is_lack : Answer → Bool
-is_lack (Ok v) = false
-is_lack (Bytes v x bytes) = false
-is_lack (Gone v x) = false
-is_lack Absent = false
 is_lack (NoQuorum phase heard) = true
-is_lack (Contended m) = false
 is_lack (Unsure (UnsureNoQuorum phase heard)) = true
-is_lack (Unsure (UnsureContended m)) = false
+is_lack answer = false
 
 -- an answer of a call that was overtaken too often
 is_contended : Answer → Bool
-is_contended (Ok v) = false
-is_contended (Bytes v x bytes) = false
-is_contended (Gone v x) = false
-is_contended Absent = false
-is_contended (NoQuorum phase heard) = false
 is_contended (Contended m) = true
-is_contended (Unsure (UnsureNoQuorum phase heard)) = false
 is_contended (Unsure (UnsureContended m)) = true
+is_contended answer = false
 
 lacking_lacks : (c : Config) (ms : List Action) (b : Bool) → is_lack (lacking c ms b) ≡ true
 unfolding is_lack
@@ -66,6 +56,7 @@ unfolding is_lack is_contended
 unsure_ending c w ms (UnsureNoQuorum phase heard) v h = lacks h.few h.lost
     (ap (λ p. Some (Unsure (UnsureNoQuorum p heard))) h.phase_is ∙ (ap (λ n. Some (Unsure (UnsureNoQuorum (phase_of ms) n))) h.heard_is ∙ ap (λ b. Some (lacking c ms b)) (sym v))) (not_contending ms (Unsure (UnsureNoQuorum phase heard)) refl)
 unsure_ending c w ms (UnsureContended m) v h = contends h.0 (ap (λ n. Some (Unsure (UnsureContended n))) h.1 ∙ ap (λ b. Some (contending ms b)) (sym v)) (not_lacking c ms (Unsure (UnsureContended m)) refl)
+unsure_ending c w ms (UnsureTrimmed floor) v h = absurd h
 
 ending_of : (c : Config) (w : Caller) (ms : List Action) (answer : Answer) → HasCause c w ms answer → Ending c w ms (Some answer)
 unfolding is_lack is_contended
@@ -77,6 +68,7 @@ ending_of c w ms (NoQuorum phase heard) h = lacks h.1.few h.1.lost
     (ap (λ p. Some (NoQuorum p heard)) h.1.phase_is ∙ (ap (λ n. Some (NoQuorum (phase_of ms) n)) h.1.heard_is ∙ ap (λ b. Some (lacking c ms b)) (sym h.0))) (not_contending ms (NoQuorum phase heard) refl)
 ending_of c w ms (Contended m) h = contends h.1.0 (ap (λ n. Some (Contended n)) h.1.1 ∙ ap (λ b. Some (contending ms b)) (sym h.0)) (not_lacking c ms (Contended m) refl)
 ending_of c w ms (Unsure why) h = unsure_ending c w ms why h.0 h.1
+ending_of c w ms answer h = absurd h
 
 told_ending : (c : Config) (t : Trace) (answer : Option Answer) → IsAnswered c t answer → Ending c t.caller t.actions answer
 told_ending c t None h = goes h.0.few h.0.enough (λ b e. none-some _ e) (λ b e. none-some _ e)

@@ -4,7 +4,9 @@ use Rattle.std.proofs.lemmas.Bool.{eqb-true, eq-eqb, false≢true}
 use Rattle.std.proofs.lemmas.Option.{same_Some, none-some, slice_get_within}
 use Rattle.gz_core.specs.Configurations.{IsConfig}
 use Rattle.gz_core.specs.declared.calls.Answer.{Answer}
+use Rattle.gz_core.specs.Calls.{IsOwn}
 use Rattle.gz_core.specs.declared.calls.Call.{Call}
+use Rattle.gz_core.specs.declared.values.Value.{Value}
 use Rattle.gz_config.specs.declared.Config.{Config}
 use Rattle.gz_core.specs.Rows.{empty_row}
 use Rattle.gz_core.specs.declared.requests.RowStep.TheVariants.{Promise}
@@ -13,7 +15,7 @@ use Rattle.gz_core.specs.declared.requests.Out.{Out}
 use Rattle.gz_core.specs.declared.requests.Turn.{Turn}
 use Rattle.gz_round.specs.declared.run.Mark.{Mark}
 use Rattle.gz_round.specs.declared.run.Run.{Run}
-use Rattle.gz_round.specs.History.{Asked, Action, Sent, Caller, Trace, IsClosing, begun, turned, sent_from}
+use Rattle.gz_core.specs.History.{Asked, Action, Sent, Caller, Trace, IsClosing, begun, turned, sent_from}
 use Rattle.gz_round.specs.Sites.{site_now}
 use Rattle.gz_round.specs.Standing.{Knows, Runs, mark_of, awaited_of}
 use Rattle.gz_round.specs.Numbering.{AreNumbered}
@@ -30,22 +32,22 @@ rounds_newest : (round past now : ℕ) → round ≡ max past now → round ≡ 
 rounds_newest round past now e = omega (arith, e)
 
 -- after an event of the newest call
-pub turned_holds : (c : Config) (session : ℕ) (w : Caller) (ts : List Trace) (run : Run) (ms : List Action) (answer : Option Answer) (calls next : ℕ) → IsConfig c → calls ≡ length ts + 1 → w.name ≡ record { session = session; seq = length ts + 1 } → AllKeepRules c session ts → AreOver ts →
+pub turned_holds : (c : Config) (session : ℕ) (w : Caller) (ts : List Trace) (run : Run) (ms : List Action) (answer : Option Answer) (calls next : ℕ) → IsConfig c → calls ≡ length ts + 1 → w.name ≡ record { session = session; seq = length ts + 1 } → IsOwn w.name w.call w.own → AllKeepRules c session ts → AreOver ts →
     AreNumbered c ms next → rounds_used ts ms < 2 ^ 31 + next → Turned c w ts run ms answer → Holds (record { config = c; session = session; calls = calls; round = run.round; run = going_on run answer }) next (record { caller = w; actions = ms; answer = answer } ∷ ts)
-turned_holds c session w ts run ms None calls next sizes count named told over numbered low runs = record {
+turned_holds c session w ts run ms None calls next sizes count named own told over numbered low runs = record {
   sizes = sizes;
   calls_are = count ∙ omega arith;
   round_is = rounds_newest run.round (top_rounds ts) (top_round ms) runs.stands.round_is;
   round_low = let used = runs.stands.round_is in omega arith;
-  told = (record { allowed = runs.stands.allowed; answered = (runs.going, runs.waits) }, named, told);
+  told = (record { own = own; allowed = runs.stands.allowed; answered = (runs.going, runs.waits) }, named, told);
   run_is = (refl, runs, numbered, over);
 }
-turned_holds c session w ts run ms (Some answer) calls next sizes count named told over numbered low ended = record {
+turned_holds c session w ts run ms (Some answer) calls next sizes count named own told over numbered low ended = record {
   sizes = sizes;
   calls_are = count ∙ omega arith;
   round_is = rounds_newest run.round (top_rounds ts) (top_round ms) ended.2;
   round_low = let used = ended.2 in omega arith;
-  told = (record { allowed = ended.0; answered = ended.1 }, named, told);
+  told = (record { own = own; allowed = ended.0; answered = ended.1 }, named, told);
   run_is = ((answer, refl), over);
 }
 
@@ -53,17 +55,18 @@ pub idle_over : (c : Config) (next : ℕ) (run : Option Run) (ts : List Trace) �
 idle_over c next run ts e h = subst (λ r. HoldsRun c next r ts) e h
 
 -- a call that begins
-pub begun_holds : (client : Client) (call : Call) (first : ℕ) (send : List Out) (next : ℕ) (ts : List Trace) (run : Run) → Holds client next ts → next ≤ first → client.run ≡ None →
-    Runs client.config (record { name = record { session = client.session; seq = length ts + 1 }; call = call }) ts run (sent_from first send []) →
-    Holds (record { config = client.config; session = client.session; calls = client.calls + 1; round = run.round; run = Some run }) (first + length send) (begun client.session call first (record { send = send; answer = None }) ts ∷ ts)
-begun_holds client call first send next ts run h l idle runs =
+pub begun_holds : (client : Client) (call : Call) (own : Option Value) (first : ℕ) (send : List Out) (next : ℕ) (ts : List Trace) (run : Run) → Holds client next ts → next ≤ first → client.run ≡ None → IsOwn (record { session = client.session; seq = client.calls + 1 }) call own →
+    Runs client.config (record { name = record { session = client.session; seq = length ts + 1 }; call = call; own = own }) ts run (sent_from first send []) →
+    Holds (record { config = client.config; session = client.session; calls = client.calls + 1; round = run.round; run = Some run }) (first + length send) (begun client.session call own first (record { send = send; answer = None }) ts ∷ ts)
+begun_holds client call own first send next ts run h l idle is_own runs =
     let over : AreOver ts = idle_over client.config next client.run ts idle h.run_is in
     let numbered : AreNumbered client.config (sent_from first send []) (first + length send) = numbered_sent client.config first send [] (numbered_none client.config first) in
-    let w : Caller = record { name = record { session = client.session; seq = length ts + 1 }; call = call } in
+    let w : Caller = record { name = record { session = client.session; seq = length ts + 1 }; call = call; own = own } in
+    let named : IsOwn w.name call own = subst (λ (n : ℕ). IsOwn (record { session = client.session; seq = n + 1 }) call own) h.calls_are is_own in
     let round = h.round_is in
     let used : rounds_used ts [] < 2 ^ 31 + first = omega (arith, h.round_low) in
     let low : rounds_used ts (sent_from first send []) < 2 ^ 31 + (first + length send) = turned_below client.config w ts run [] first send [] None (inl refl) used runs in
-    turned_holds client.config client.session w ts run (sent_from first send []) None (client.calls + 1) (first + length send) h.sizes (ap (λ n. n + 1) h.calls_are) refl h.told over numbered low runs
+    turned_holds client.config client.session w ts run (sent_from first send []) None (client.calls + 1) (first + length send) h.sizes (ap (λ n. n + 1) h.calls_are) refl named h.told over numbered low runs
 
 -- what is held of the running call
 pub record HasRun (client : Client) (next : ℕ) (t : Trace) (ts : List Trace) (run : Run) : Type 0 where
@@ -131,7 +134,7 @@ acted_extends client after run told first turn action next t ts e acted h l same
       ended.0,
       ended.1,
       subst (λ (new : Client). Holds new (first + length turn.send) (turned first turn action ended.0 t ∷ ts)) (sym acted.1)
-          (turned_holds client.config client.session t.caller ts acted.0 (ended.0 ++ sent_from first turn.send (action ∷ t.actions)) turn.answer client.calls (first + length turn.send) h.sizes (omega arith) tells.1 tells.2 k.over later low ended.2),
+          (turned_holds client.config client.session t.caller ts acted.0 (ended.0 ++ sent_from first turn.send (action ∷ t.actions)) turn.answer client.calls (first + length turn.send) h.sizes (omega arith) tells.1 tells.0.own tells.2 k.over later low ended.2),
     )
 
 -- a client that may learn of a request has a call that runs, which awaits it from a site

@@ -10,7 +10,7 @@ use Rattle.gz_core.specs.declared.calls.Answer.{Answer}
 use Rattle.gz_config.specs.declared.Config.{Config}
 use Rattle.gz_core.proofs.Counting.{count_found}
 use Rattle.gz_round.specs.declared.run.Run.{Run}
-use Rattle.gz_round.specs.History.{Asked, Action, Trace}
+use Rattle.gz_core.specs.History.{Asked, Action, Trace}
 use Rattle.gz_round.specs.Sites.{site_now}
 use Rattle.gz_round.specs.Standing.{Knows, awaited_of, mark_of}
 use Rattle.gz_round.specs.Numbering.{awaits_number, live_where}

@@ -4,7 +4,7 @@ use Rattle.gz_core.specs.declared.calls.Answer.{Answer}
 use Rattle.gz_core.specs.declared.calls.Answer.TheVariants.{NoQuorum, Contended, Unsure}
 use Rattle.gz_core.specs.declared.calls.UnsureWhy.TheVariants.{NoQuorum as UnsureNoQuorum, Contended as UnsureContended}
 use Rattle.gz_config.specs.declared.Config.{Config}
-use Rattle.gz_round.specs.History.{Action, Trace}
+use Rattle.gz_core.specs.History.{Action, Trace}
 use Rattle.gz_round.specs.Sent.{met, voted, phase_of}
 use Rattle.gz_round.specs.Counting.{outs, known_count}
 use Rattle.gz_client.specs.Traces.{KeepsRules}

@@ -1,7 +1,7 @@
 -- The lowest request that a session's running call awaits.
 use Rattle.std.specs.Prelude.{ℕ, ◌≡◌, ◌≤◌, true, List, Option, Some, None}
 use Rattle.gz_config.specs.declared.Config.{Config}
-use Rattle.gz_round.specs.History.{Trace}
+use Rattle.gz_core.specs.History.{Trace}
 pub use Rattle.gz_round.specs.Numbering.{awaits_number}
 pub use Rattle.gz_client.specs.Traces.{live, live_in, IsLive}
 

@@ -4,9 +4,11 @@ use Rattle.gz_core.specs.Configurations.{IsConfig}
 use Rattle.gz_core.specs.declared.requests.Turn.{Turn}
 use Rattle.gz_core.specs.declared.calls.Answer.{Answer}
 use Rattle.gz_core.specs.declared.calls.Call.{Call}
+use Rattle.gz_core.specs.declared.values.Value.{Value}
+use Rattle.gz_core.specs.Calls.{IsOwn}
 use Rattle.gz_config.specs.declared.Config.{Config}
 use Rattle.gz_round.specs.declared.run.Run.{Run}
-use Rattle.gz_round.specs.History.{Asked, Action, Caller, Trace, IsClosing, begun, turned, sent_from}
+use Rattle.gz_core.specs.History.{Asked, Action, Caller, Trace, IsClosing, begun, turned, sent_from}
 use Rattle.gz_round.specs.Sites.{site_now}
 use Rattle.gz_round.specs.Rounds.{top_rounds}
 use Rattle.gz_round.specs.Sending.{AreAllowed}
@@ -29,8 +31,9 @@ abbrev pub IsAnswered : Config → Trace → Option Answer → Type 0
 IsAnswered c t None = IsGoing c t.actions × IsWaiting c t.actions
 IsAnswered c t (Some answer) = HasCause c t.caller t.actions answer
 
--- each action of a call was allowed when it came, and its answer has its cause
+-- the call writes its own value, each action of it was allowed when it came, and its answer has its cause
 pub record KeepsRules (c : Config) (past : List Trace) (t : Trace) : Type 0 where
+  pub own : IsOwn t.caller.name t.caller.call t.caller.own
   pub allowed : AreAllowed c t.caller past t.actions
   pub answered : IsAnswered c t t.answer
 
@@ -111,7 +114,7 @@ pub record IsSameClient (old new : Client) : Type 0 where
 -- the client stands for one more trace, of a call that begins
 abbrev pub Begins : Client → Client → ℕ → Call → Turn → Type 0
 Begins old new first call turn =
-    (next : ℕ) (ts : List Trace) → Holds old next ts → next ≤ first → Holds new (first + length turn.send) (begun old.session call first turn ts ∷ ts)
+    (next : ℕ) (ts : List Trace) → Holds old next ts → next ≤ first → (own : Option Value) × Holds new (first + length turn.send) (begun old.session call own first turn ts ∷ ts)
 
 -- the client stands for the same traces, with one more action of the running call
 abbrev pub Extends : Client → Client → ℕ → ℕ → (Asked → Action) → Turn → Type 0

@@ -1,7 +1,8 @@
 //! A session's client.
 ghost use Rattle.std.specs.Prelude.{◌≡◌, ℕ, ◌<◌, ◌+◌, ◌^◌, ◌↔◌, List, [], true, IsTrue, Some, IsSome, IfOk, OnErr};
 ghost use Rattle.gz_core.specs.Configurations.{IsConfig};
-ghost use Rattle.gz_round.specs.History.{Trace, Handed, GaveUp};
+ghost use Rattle.gz_core.specs.History.{Trace, Handed, GaveUp};
+ghost use Rattle.gz_round.specs.Sites.{as_heard, written_by};
 ghost use Rattle.gz_round.specs.Starting.{IsWithin};
 ghost use Rattle.gz_round.specs.Following.{IsReady};
 ghost use Rattle.gz_client.specs.Traces.{Holds, CanBegin, CanLearn, IsSameClient, HasActed, IsRunning, Begins, Extends, going_on, live_count, IsLiveAtIn};
@@ -77,7 +78,7 @@ impl Client {
         requires told { CanLearn self.old n first }
         requires first { first < 2 ^ 31 }
 
-        ensures ok { IfOk result (λ turn. Extends self.old self.new n first (λ a. Handed a answer.now) turn) }
+        ensures ok { IfOk result (λ turn. Extends self.old self.new n first (λ a. Handed a (as_heard (written_by a.op) answer.now)) turn) }
         ensures same { IsSameClient self.old self.new }
         ensures err { OnErr result (self.new ≡ self.old) }
     {
@@ -132,7 +133,7 @@ impl Client {
         requires told { CanLearn self.now n first }
         requires first { first < 2 ^ 31 }
 
-        ensures ok { IfOk result (λ after. Extends self.now after.0 n first (λ a. Handed a answer.now) after.1) }
+        ensures ok { IfOk result (λ after. Extends self.now after.0 n first (λ a. Handed a (as_heard (written_by a.op) answer.now)) after.1) }
         ensures same { IfOk result (λ after. IsSameClient self.now after.0) }
     {
         let mut run = self.copy_run()?;

@@ -2,7 +2,7 @@
 use Rattle.std.proofs.Common.{◌≡◌, ◌==◌, ℕ, ◌+◌, Bool, true, List, ◌∷◌, length, sym, ◌∙◌, arith}
 use Rattle.std.specs.Prelude.{nat_lt}
 use Rattle.gz_core.specs.declared.requests.Turn.{Turn}
-use Rattle.gz_round.specs.History.{Asked, Action, Trace, turned}
+use Rattle.gz_core.specs.History.{Asked, Action, Trace, turned}
 use Rattle.gz_client.specs.declared.client.Client.{Client}
 use Rattle.gz_client.specs.Traces.{Holds, CanLearn, Extends, live}
 use Rattle.gz_client_tests.specs.Holding.{IsHeld}

@@ -204,11 +204,12 @@ fn promise_in(stored: &mut Stored) -> Result<(), AllocError> {
     Ok(())
 }
 
-/// What a site does.
+/// What a site does: it stores rows, and fails at blobs.
 fn perform(stored: &mut Option<Stored>, op: &Op) -> Result<Reply, AllocError> {
     match op {
         Op::ReadRow { .. } => read(stored),
         Op::WriteRow { expect, row, .. } => write(stored, *expect, row),
+        _ => Ok(Reply::Failed),
     }
 }
 

@@ -4,28 +4,28 @@ use Rattle.gz_laws.proofs.Hearing.{le_means}
 use Rattle.std.proofs.lemmas.Bool.Decides.{nat_tests}
 use Rattle.std.specs.Prelude.{Option, ◌==◌, ◌&&◌, nat_le, slice_get}
 use Rattle.gz_core.specs.Names.{Name}
-use Rattle.gz_core.specs.Calls.{key_of, own_value}
+use Rattle.gz_core.specs.Calls.{key_of, IsOwn}
 use Rattle.gz_core.specs.Rows.{RowAt}
 use Rattle.gz_core.specs.Slots.{Act, act_of}
 use Rattle.gz_core.specs.declared.calls.Answer.{Answer}
-use Rattle.gz_core.specs.declared.calls.Answer.TheVariants.{Ok, Bytes, Gone, Absent, NoQuorum, Contended, Unsure}
+use Rattle.gz_core.specs.declared.calls.Answer.TheVariants.{Ok, Bytes, Gone, Absent, NoQuorum, Contended, Unsure, Unborn}
 use Rattle.gz_core.specs.declared.calls.Call.{Call}
-use Rattle.gz_core.specs.declared.calls.Call.TheVariants.{Put, Delete, Get}
 use Rattle.gz_config.specs.declared.Config.{Config}
 use Rattle.gz_core.specs.declared.values.Value.{Value}
 use Rattle.gz_core.specs.declared.values.Value.TheVariants.{Tomb, Put as PutOf}
 use Rattle.gz_core.specs.declared.requests.RowStep.{RowStep}
 use Rattle.gz_core.specs.declared.requests.RowStep.TheVariants.{FastVote, Promise, ClassicVote, Decide, Trim}
 use Rattle.gz_core.specs.declared.requests.Op.{Op}
-use Rattle.gz_core.specs.declared.requests.Op.TheVariants.{ReadRow, WriteRow}
+use Rattle.gz_core.specs.declared.requests.Op.TheVariants.{WriteRow}
 use Rattle.gz_pick.specs.Looks.{row_top}
-use Rattle.gz_round.specs.History.{Action, Sent, Handed, GaveUp, Rested, GaveIn, Caller, Trace}
+use Rattle.gz_core.specs.History.{Action, Sent, Handed, GaveUp, Rested, GaveIn, Caller, Trace}
+use Rattle.gz_core.specs.declared.calls.Call.TheVariants.{GetAt, Collect}
 use Rattle.gz_round.specs.Sites.{SiteNow, site_now}
 use Rattle.gz_round.specs.Causes.{is_blank, IsLearnt}
 use Rattle.gz_round.specs.Shown.{heard_at, IsShown}
 use Rattle.gz_round.specs.Sending.{AreAllowed, MayAsk, MayMake}
 use Rattle.gz_client.specs.Traces.{IsAnswered, AllKeepRules}
-use Rattle.gz_history.specs.Answers.{shows, stands, names, IsWrite}
+use Rattle.gz_history.specs.Answers.{shows, stands, names, IsWrite, latest_told}
 use Rattle.gz_history.specs.Legal.{IsBefore}
 use Rattle.gz_history.specs.declared.record.CallRec.{CallRec}
 use Rattle.gz_ledger.specs.Histories.{RowSeen, Write, IsIn, IsShownByRows, IsCurrentByRows, VotesFor}
@@ -42,6 +42,7 @@ use Rattle.gz_world.specs.States.{State}
 use Rattle.gz_laws.proofs.Currents.{current_heard}
 use Rattle.gz_laws.proofs.RunAnswers.{call_trace, trace_shown, IsTold, same_version}
 use Rattle.gz_laws.proofs.RunSends.{heard_in_rows}
+use Rattle.gz_laws.proofs.Owning.{own_of, no_write}
 
 -- the run of an object agrees
 pub agreed : (key : List ℕ) (s : State) (ds : List Transition) → ArePlaced s → IsRun key s ds → IsAgreed s.cfg (ledger_of (after_transitions unused ds))
@@ -67,8 +68,8 @@ step_positive c w past ms (Decide u y) v x may votes = absurd votes
 step_positive c w past ms (Trim to y) v x may votes = absurd votes
 
 op_positive : (c : Config) (w : Caller) (past : List Trace) (ms : List Action) (now : SiteNow) (op : Op) (act : Act) (v : ℕ) (x : Name) → MayAsk c w past ms now op → IsStepSent op act → VotesFor act v x → 1 ≤ v
-op_positive c w past ms now (ReadRow key) act v x may is votes = absurd is
 op_positive c w past ms now (WriteRow key expect step row) act v x may is votes = step_positive c w past ms step v x may.1.guard (subst (λ a. VotesFor a v x) (sym is) votes)
+op_positive c w past ms now op act v x may is votes = absurd is
 
 actions_positive : (c : Config) (w : Caller) (past : List Trace) (ms : List Action) (act : Act) (v : ℕ) (x : Name) → AreAllowed c w past ms → SentStep ms act → VotesFor act v x → 1 ≤ v
 actions_positive c w past [] act v x allowed h votes = absurd h
@@ -113,46 +114,46 @@ blank_low r h = zero_low (row_top r) (r.floor == 0) h
       | false ↦ λ e k. cc
     ] refl h
 
--- a call that reads is no write
-pub no_write : (name : Name) (call : Call) → own_value name call ≡ None → IsWrite call → ⊥
-no_write name (Put key bytes) e h = cc
-no_write name (Delete key) e h = cc
-no_write name (Get key) e h = h
+-- what an answer calls the latest version is one that it shows
+latest_shown : (answer : Option Answer) (w : ℕ) → latest_told answer ≡ Some w → shows answer ≡ Some w
+latest_shown (Some (Unborn latest)) w h = h
+latest_shown answer w h = cc
 
-stands_shows : (call : Call) (answer : Option Answer) → stands call answer ≡ shows answer
-stands_shows (Put key bytes) answer = refl
-stands_shows (Delete key) answer = refl
-stands_shows (Get key) answer = refl
+stands_shows : (call : Call) (answer : Option Answer) (w : ℕ) → stands call answer ≡ Some w → shows answer ≡ Some w
+stands_shows (GetAt key version) answer w h = latest_shown answer w h
+stands_shows (Collect key keep) answer w h = latest_shown answer w h
+stands_shows call answer w h = h
 
 -- the place of a call's answer in the order, after what had been shown when it began
 abbrev IsPlacedAbove : Call → ℕ → ℕ → Type 0
 IsPlacedAbove call v w = (v ≤ w) × (IsWrite call → v < w)
 
 -- what a call learnt is at the version that it shows, or above
-learnt_above : (c : Config) (t : Trace) (early late : List Transition) (v w u : ℕ) (x : Value) → HasQuorums c → AreTransitions c unused (late ++ early) → ActionsStand (after_transitions unused (late ++ early)) t.actions → ((e : RowSeen) → IsIn e (heard_of t.actions) → IsIn e (late_rows unused late early))
+learnt_above : (c : Config) (t : Trace) (early late : List Transition) (v w u : ℕ) (x : Value) → HasQuorums c → IsOwn t.caller.name t.caller.call t.caller.own → AreTransitions c unused (late ++ early) → ActionsStand (after_transitions unused (late ++ early)) t.actions → ((e : RowSeen) → IsIn e (heard_of t.actions) → IsIn e (late_rows unused late early))
     → IsShownAt c early v → IsLearnt c t.caller t.actions u x → u ≡ w → IsPlacedAbove t.caller.call v w
-learnt_above c t early late v w u x q are stands heard shown learnt at =
+learnt_above c t early late v w u x q value are stands heard shown learnt at =
     let fresh = current_heard c (after_transitions unused (late ++ early)) t.actions w (λ r. nat_le (row_top r) w) stands (λ r k. le_means (row_top r) w k) (subst (λ k. c.qc ≤ heard_at c (λ r. nat_le (row_top r) k) t.actions) at learnt.current) in
-    (read_above c early late v w q are shown (current_more c (heard_of t.actions) (late_rows unused late early) w heard fresh), λ k. absurd (no_write t.caller.name t.caller.call learnt.reads k))
+    (read_above c early late v w q are shown (current_more c (heard_of t.actions) (late_rows unused late early) w heard fresh), λ k. absurd (no_write t.caller.name t.caller.call (own_of t.caller None value learnt.reads) k))
 
-answer_above : (c : Config) (t : Trace) (early late : List Transition) (v w : ℕ) (answer : Option Answer) → HasQuorums c → AreTransitions c unused (late ++ early) → ((q : Write) → IsIn q (sent_after unused early) → q.call ≡ t.caller.name → ⊥) → AreCurrentTransitions c unused t.caller.name late early
+answer_above : (c : Config) (t : Trace) (early late : List Transition) (v w : ℕ) (answer : Option Answer) → HasQuorums c → IsOwn t.caller.name t.caller.call t.caller.own → AreTransitions c unused (late ++ early) → ((q : Write) → IsIn q (sent_after unused early) → q.call ≡ t.caller.name → ⊥) → AreCurrentTransitions c unused t.caller.name late early
     → ActionsStand (after_transitions unused (late ++ early)) t.actions → ((e : RowSeen) → IsIn e (heard_of t.actions) → IsIn e (late_rows unused late early)) → ((x : Name) → IsShownByRows c (seen_after unused (late ++ early)) w x → 1 ≤ w)
     → IsShownAt c early v → IsAnswered c t answer → shows answer ≡ Some w → IsPlacedAbove t.caller.call v w
-answer_above c t early late v w None q are unsent current stands heard positive shown h e = cc
-answer_above c t early late v w (Some (Ok u)) q are unsent current stands heard positive shown h e =
+answer_above c t early late v w None q value are unsent current stands heard positive shown h e = cc
+answer_above c t early late v w (Some (Ok u)) q value are unsent current stands heard positive shown h e =
     let now = trace_shown c (late ++ early) t.actions w t.caller.name stands (subst (λ k. IsShown c t.actions k t.caller.name) (same_version u w e) h.1.2) in
     let above = own_above c t.caller.name early late v w q are unsent current (positive t.caller.name now) shown now in
     (omega (arith, above), λ _. above)
-answer_above c t early late v w (Some (Bytes u y bytes)) q are unsent current stands heard positive shown h e = learnt_above c t early late v w u (PutOf (record { name = y; bytes = bytes })) q are stands heard shown h.1 (same_version u w e)
-answer_above c t early late v w (Some (Gone u y)) q are unsent current stands heard positive shown h e = learnt_above c t early late v w u (Tomb y) q are stands heard shown h.1 (same_version u w e)
-answer_above c t early late v w (Some Absent) q are unsent current stands heard positive shown h e =
+answer_above c t early late v w (Some (Bytes u y bytes)) q value are unsent current stands heard positive shown h e = learnt_above c t early late v w u (PutOf (record { name = y; bytes = bytes })) q value are stands heard shown h.1 (same_version u w e)
+answer_above c t early late v w (Some (Gone u y)) q value are unsent current stands heard positive shown h e = learnt_above c t early late v w u (Tomb y) q value are stands heard shown h.1 (same_version u w e)
+answer_above c t early late v w (Some Absent) q value are unsent current stands heard positive shown h e =
     let at = same_version 0 w e in
     let fresh = current_heard c (after_transitions unused (late ++ early)) t.actions 0 is_blank stands blank_low h.1.1 in
     let low = read_above c early late v 0 q are shown (current_more c (heard_of t.actions) (late_rows unused late early) 0 heard fresh) in
-    (omega (arith, low, at), λ k. absurd (no_write t.caller.name t.caller.call h.1.0 k))
-answer_above c t early late v w (Some (NoQuorum phase n)) q are unsent current stands heard positive shown h e = cc
-answer_above c t early late v w (Some (Contended met)) q are unsent current stands heard positive shown h e = cc
-answer_above c t early late v w (Some (Unsure why)) q are unsent current stands heard positive shown h e = cc
+    (omega (arith, low, at), λ k. absurd (no_write t.caller.name t.caller.call (own_of t.caller None value h.1.0) k))
+answer_above c t early late v w (Some (NoQuorum phase n)) q value are unsent current stands heard positive shown h e = cc
+answer_above c t early late v w (Some (Contended met)) q value are unsent current stands heard positive shown h e = cc
+answer_above c t early late v w (Some (Unsure why)) q value are unsent current stands heard positive shown h e = cc
+answer_above c t early late v w (Some answer) q value are unsent current stands heard positive shown h e = absurd h
 
 -- a call that began after another one had ended stands above it
 pub keeps_order : (key : List ℕ) (s : State) (ds : List Transition) (i j : ℕ) (a b : CallRec) → IsRun key s ds → AreCallsListed s → AreCarried s → ArePlaced s → slice_get s.calls i ≡ Some a → slice_get s.calls j ≡ Some b → key_of a.call ≡ key → key_of b.call ≡ key
@@ -164,14 +165,14 @@ keeps_order key s ds i j a b run listed carries placed ga gb ka kb v w before sa
     let h = call_trace key s ds j b run listed carries gb kb in
     let t = h.trace in
     let is = h.is in
-    let name : t.caller.name ≡ b.name = ap (λ (w : Caller). w.name) is.caller in
-    let call : t.caller.call ≡ b.call = ap (λ (w : Caller). w.call) is.caller in
+    let name : t.caller.name ≡ b.name = is.name_is in
+    let call : t.caller.call ≡ b.call = is.call_is in
     let told : IsAnswered s.cfg t b.answer = subst (IsAnswered s.cfg t) is.answer is.told.answered in
     let heard : (e : RowSeen) → IsIn e (heard_of t.actions) → IsIn e (late_rows unused late early)
     = heard_in_rows s.cfg key s.net t.caller h.past t.actions (late_rows unused late early) (ap key_of call ∙ kb) is.told.allowed h.carried (λ n k tick r reply at own named e. since.heard n k tick r reply at own (named ∙ name) e) in
-    let k = answer_above s.cfg t early late v w b.answer placed.config.quorums (subst (λ xs. AreTransitions s.cfg unused xs) since.split run.transitions)
+    let k = answer_above s.cfg t early late v w b.answer placed.config.quorums is.told.own (subst (λ xs. AreTransitions s.cfg unused xs) since.split run.transitions)
     (λ q found same. since.unsent q found (same ∙ name)) (subst (λ x. AreCurrentTransitions s.cfg unused x late early) (sym name) since.current)
     (subst (λ (xs : List Transition). ActionsStand (after_transitions unused xs) t.actions) since.split h.stands) heard
     (λ x shown. shown_positive key s ds w x listed placed run (subst (λ (xs : List Transition). IsShownByRows s.cfg (seen_after unused xs) w x) (sym since.split) shown))
-    (since.ended i v a ga ka before sa) told (sym (stands_shows b.call b.answer) ∙ sb) in
+    (since.ended i v a ga ka before sa) told (stands_shows b.call b.answer w sb) in
     (k.0, λ write. k.1 (subst IsWrite (sym call) write))

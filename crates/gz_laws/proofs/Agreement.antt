@@ -8,7 +8,7 @@ use Rattle.gz_core.specs.Slots.{Act, VotesClassic}
 use Rattle.gz_config.specs.declared.Config.{Config}
 use Rattle.gz_core.proofs.Ballots.{name_refl}
 use Rattle.gz_core.proofs.Counting.{count_within, count_weaker}
-use Rattle.gz_round.specs.History.{Caller, Trace}
+use Rattle.gz_core.specs.History.{Caller, Trace}
 use Rattle.gz_round.specs.Shown.{IsShown}
 use Rattle.gz_client.specs.Traces.{AllKeepRules, IsAnswered}
 use Rattle.gz_site.specs.Told.{Told}
@@ -155,7 +155,7 @@ sent_in key s ds session act (t ∷ ts) run told carried (inr h) = sent_in key s
 shown_to_call : (c : Config) (call : CallRec) (v : ℕ) (x : Name) (ts : List Trace) → IsAmong c call ts → shows call.answer ≡ Some v → names call.name call.answer ≡ Some x → IsShownToCall c call.name v x ts
 shown_to_call c call v x [] h show named = absurd h
 shown_to_call c call v x (t ∷ ts) (inl h) show named =
-    let name : t.caller.name ≡ call.name = ap (λ (w : Caller). w.name) h.caller in
+    let name : t.caller.name ≡ call.name = h.name_is in
     let own : names t.caller.name call.answer ≡ Some x = ap (λ (y : Name). names y call.answer) name ∙ named in
     elim (answer_tells c t call.answer v (subst (IsAnswered c t) h.answer h.told.answered) show) [
       | inl k ↦ absurd (no_name_of (names t.caller.name call.answer) x k.1 own)

@@ -1,6 +1,6 @@
 -- A call that begins has heard nothing yet, and so has no answer.
 use Rattle.std.proofs.Common.{◌≡◌, ℕ, zero, suc, ◌+◌, ◌≤◌, inl, inr, List, [], ◌∷◌, Some, None, Bool, true, false, refl, ap, ◌∙◌, arith}
-use Rattle.std.specs.Prelude.{cond, if◌then◌else◌}
+use Rattle.std.specs.Prelude.{cond, if◌then◌else◌, Option}
 use Rattle.gz_config.specs.declared.Config.{Config}
 use Rattle.gz_core.specs.Names.{Name, BallotAt, fast, same_ballot}
 use Rattle.gz_core.specs.Configurations.{IsConfig, need}
@@ -17,7 +17,8 @@ use Rattle.gz_core.specs.declared.requests.Turn.{Turn}
 use Rattle.gz_pick.specs.Evidences.{votes_for, decides}
 use Rattle.gz_round.specs.Causes.{HasCause, UnsureCause, IsCutOff, is_blank}
 use Rattle.gz_round.specs.Counting.{outs}
-use Rattle.gz_round.specs.History.{Asked, Action, Sent, Caller, Trace, asked_of, sent_from, begun}
+use Rattle.gz_core.specs.History.{Asked, Action, Sent, Caller, Trace, asked_of, sent_from, begun}
+use Rattle.gz_core.specs.declared.values.Value.{Value}
 use Rattle.gz_round.specs.Sent.{met}
 use Rattle.gz_round.specs.Shown.{heard_at, IsShown}
 use Rattle.gz_round.specs.Sites.{SiteNow, site_now, after_sent, is_to, some_heard}
@@ -90,6 +91,7 @@ not_overtaken c ms sizes nothing h = let z = nothing.met_is in let some = sizes.
 not_unsure : (c : Config) (ms : List Action) (why : UnsureWhy) → IsConfig c → HeardNothing c ms → UnsureCause c ms why → ⊥
 not_unsure c ms (UnsureNoQuorum phase heard) sizes nothing h = not_cut_off c ms phase heard sizes nothing h
 not_unsure c ms (UnsureContended m) sizes nothing h = not_overtaken c ms sizes nothing h.0
+not_unsure c ms why sizes nothing h = absurd h
 
 no_cause : (c : Config) (w : Caller) (ms : List Action) (answer : Answer) → IsConfig c → HeardNothing c ms → HasCause c w ms answer → ⊥
 no_cause c w ms (Ok v) sizes nothing h = none_shown c ms v w.name sizes nothing h.1.2
@@ -104,10 +106,11 @@ no_cause c w ms Absent sizes nothing h =
 no_cause c w ms (NoQuorum phase heard) sizes nothing h = not_cut_off c ms phase heard sizes nothing h.1
 no_cause c w ms (Contended m) sizes nothing h = not_overtaken c ms sizes nothing h.1.0
 no_cause c w ms (Unsure why) sizes nothing h = not_unsure c ms why sizes nothing h.1
+no_cause c w ms answer sizes nothing h = absurd h
 
-pub begun_open : (c : Config) (past : List Trace) (session : ℕ) (call : Call) (first : ℕ) (turn : Turn) (earlier : List Trace) → IsConfig c → KeepsRules c past (begun session call first turn earlier) → turn.answer ≡ None
-begun_open c past session call first turn earlier sizes told =
-    let t = begun session call first turn earlier in
+pub begun_open : (c : Config) (past : List Trace) (session : ℕ) (call : Call) (own : Option Value) (first : ℕ) (turn : Turn) (earlier : List Trace) → IsConfig c → KeepsRules c past (begun session call own first turn earlier) → turn.answer ≡ None
+begun_open c past session call own first turn earlier sizes told =
+    let t = begun session call own first turn earlier in
     elim turn.answer as (λ o. IsAnswered c t o → o ≡ None) [
       | None ↦ λ h. refl
       | Some answer ↦ λ h. absurd (no_cause c t.caller t.actions answer sizes (begun_nothing c first turn.send) h)

@@ -13,7 +13,7 @@ use Rattle.gz_core.specs.declared.values.Value.{Value}
 use Rattle.gz_core.specs.declared.requests.RowStep.{RowStep}
 use Rattle.gz_core.specs.declared.requests.RowStep.TheVariants.{FastVote, Promise, ClassicVote, Decide, Trim}
 use Rattle.gz_core.specs.declared.requests.Op.{Op}
-use Rattle.gz_core.specs.declared.requests.Op.TheVariants.{ReadRow, WriteRow}
+use Rattle.gz_core.specs.declared.requests.Op.TheVariants.{WriteRow}
 use Rattle.gz_core.specs.declared.requests.Out.{Out}
 use Rattle.gz_core.specs.declared.requests.Reply.{Reply}
 use Rattle.gz_core.specs.declared.requests.Reply.TheVariants.{Row, NoRow, Written, Changed, Failed}
@@ -23,12 +23,12 @@ use Rattle.gz_core.proofs.Counting.{count_found, count_most}
 use Rattle.gz_pick.specs.Evidences.{votes_for, decides}
 use Rattle.gz_pick.specs.Looks.{row_top}
 use Rattle.gz_round.specs.declared.hearing.Seen.{Seen}
-use Rattle.gz_round.specs.History.{Asked, Action, Sent, Handed, GaveUp, Rested, GaveIn, Caller, Trace, IsClosing, asked_of, sent_from, begun, turned}
+use Rattle.gz_core.specs.History.{Asked, Action, Sent, Handed, GaveUp, Rested, GaveIn, Caller, Trace, IsClosing, asked_of, sent_from, begun, turned}
 use Rattle.gz_round.specs.Rounds.{top_rounds, rounds_used, round_known, greatest, next_round, MayPromise}
 use Rattle.gz_round.specs.Sending.{AreAllowed, MaySend, MayAsk, MayMake, IsMade, is_awaited, rows_known}
 use Rattle.gz_round.specs.Sent.{of_step, of_sent, passes_sent, promise_by, has_promised_at, last_promise, round_after, top_round, is_notice}
 use Rattle.gz_round.specs.Shown.{heard_at, IsShown, IsNext, IsGrounded}
-use Rattle.gz_round.specs.Sites.{SiteNow, site_now, known, row_seen, can_stand, seen_under, seen_in, written_by, passes, heard_in, concerns, some_heard, WasHeard}
+use Rattle.gz_round.specs.Sites.{SiteNow, site_now, known, row_seen, seen_in, written_by, passes, heard_in, concerns, some_heard, WasHeard}
 use Rattle.gz_round.proofs.Known.{last_heard}
 use Rattle.gz_round.proofs.LookBacks.{last_promised_at}
 use Rattle.gz_client.specs.Traces.{AllKeepRules}
@@ -44,6 +44,7 @@ use Rattle.gz_laws.proofs.Growing.{allowed_base, clean_made}
 use Rattle.gz_laws.proofs.Hearing.{le_means}
 use Rattle.gz_laws.proofs.Overtaking.{row_sent}
 use Rattle.gz_laws.proofs.RowBounds.{row_wider, columns_with, top_within, vote_within, vote_above, decision_within, decision_above, round_within, greatest_within}
+use Rattle.gz_laws.proofs.AsHeard.{of_reply}
 
 -- the rows that a call heard
 abbrev IsSeenWithin : ℕ → ℕ → Option Seen → Type 0
@@ -62,19 +63,11 @@ AreHeardWithin versions rounds (GaveIn ∷ ms) = AreHeardWithin versions rounds 
 blank_within : (versions rounds : ℕ) → IsRowWithin versions rounds empty_row
 blank_within versions rounds = record { clean = record { floor = refl; rises = tt }; columns = tt }
 
-under_within : (versions rounds : ℕ) (etag : Option ℕ) (row : RowAt) → IsRowWithin versions rounds row → IsSeenWithin versions rounds (seen_under etag row)
-under_within versions rounds etag row h = elim (can_stand row) as (λ b. IsSeenWithin versions rounds (if b then Some (let k : Seen = record { etag = etag; row = row } in k) else None)) [ true ↦ h | false ↦ tt ]
-
-written_within : (versions rounds etag : ℕ) (op : Op) → IfWritten (IsRowWithin versions rounds) op → IsSeenWithin versions rounds (seen_in (written_by op) (Written etag))
-written_within versions rounds etag (ReadRow key) h = tt
-written_within versions rounds etag (WriteRow key expect step row) h = under_within versions rounds (Some etag) row h
-
 seen_within : (versions rounds : ℕ) (op : Op) (reply : Reply) → IfWritten (IsRowWithin versions rounds) op → IfShown (IsRowWithin versions rounds) reply → IsSeenWithin versions rounds (seen_in (written_by op) reply)
-seen_within versions rounds op (Row etag row) w h = under_within versions rounds (Some etag) row h
+seen_within versions rounds op (Row etag row) w h = h
 seen_within versions rounds op NoRow w h = blank_within versions rounds
-seen_within versions rounds op (Written etag) w h = written_within versions rounds etag op w
-seen_within versions rounds op Changed w h = tt
-seen_within versions rounds op Failed w h = tt
+seen_within versions rounds (WriteRow key expect step row) (Written etag) w h = w
+seen_within versions rounds op reply w h = tt
 
 pub heard_within : (versions rounds : ℕ) (s : State) (name : Name) (ms : List Action) → EachRow (IsRowWithin versions rounds) s → ActionsCarried s.net name ms → AreHeardWithin versions rounds ms
 heard_within versions rounds s name [] all h = tt
@@ -82,8 +75,9 @@ heard_within versions rounds s name (Sent a ∷ ms) all h = heard_within version
 heard_within versions rounds s name (Handed a reply ∷ ms) all h =
     let r = h.0.0 in
     let req = h.0.1.0 in
-    let has = h.0.1.1 in (
-      seen_within versions rounds a.op reply (subst (IfWritten (IsRowWithin versions rounds)) req.op_is (all.requests a.number r req.there)) (all.replies a.number has.place has.tick r reply req.there has.there),
+    let has = h.0.1.1 in
+    let shown = seen_within versions rounds r.op has.made (all.requests a.number r req.there) (all.replies a.number has.place has.tick r has.made req.there has.there) in (
+      subst (λ (op : Op). IsSeenWithin versions rounds (seen_in (written_by op) reply)) req.op_is (of_reply (IsSeenWithin versions rounds) r reply has tt shown),
       heard_within versions rounds s name ms all h.1,
     )
 heard_within versions rounds s name (GaveUp a ∷ ms) all h = heard_within versions rounds s name ms all h.1

@@ -7,9 +7,10 @@ use Rattle.gz_core.specs.declared.requests.Out.{Out}
 use Rattle.gz_core.specs.declared.calls.Call.{Call}
 use Rattle.gz_core.specs.declared.requests.Reply.{Reply}
 use Rattle.gz_core.specs.declared.requests.Turn.{Turn}
+use Rattle.gz_core.specs.declared.values.Value.{Value}
 use Rattle.gz_round.specs.declared.hearing.Seen.{Seen}
-use Rattle.gz_round.specs.History.{Asked, Action, Sent, Handed, GaveUp, Rested, GaveIn, Trace, IsClosing, asked_of, sent_from, begun, turned}
-use Rattle.gz_round.specs.Sites.{SiteNow, site_now, after, after_reply, after_sent, concerns, is_to, seen_in, written_by, is_changed}
+use Rattle.gz_core.specs.History.{Asked, Action, Sent, Handed, GaveUp, Rested, GaveIn, Trace, IsClosing, asked_of, sent_from, begun, turned}
+use Rattle.gz_round.specs.Sites.{SiteNow, site_now, after, after_reply, after_sent, concerns, is_to, as_heard, seen_in, written_by, is_changed}
 use Rattle.gz_world.specs.declared.events.Effect.{Effect}
 use Rattle.gz_world.specs.declared.events.Event.{Event}
 use Rattle.gz_world.specs.declared.events.Event.TheVariants as events
@@ -17,7 +18,7 @@ use Rattle.gz_laws.specs.Carried.{IsRequestOf, ActionCarried, ActionsCarried, Tr
 use Rattle.gz_world.specs.Reached.{IsReached, opened, stepped}
 use Rattle.gz_world.specs.Refusals.{refusal_of}
 use Rattle.gz_world.specs.States.{RequestAt, State, tick_of, next_of, numbered, with_reply, with_handed, with_given_up, sent_request, sent_requests}
-use Rattle.gz_world.specs.Steps.{SessionMoves, BeginsBy, DeliversBy, TurnBy, TakesTurn, HasEffect, Does, Skips, WorldStep}
+use Rattle.gz_world.specs.Steps.{SessionMoves, BeginsBy, DeliversBy, TurnBy, TakesTurn, hears, HasEffect, Does, Skips, WorldStep}
 use Rattle.gz_world.proofs.Members.{numbered_place, place_numbered}
 use Rattle.gz_world.proofs.Places.{get_set_same, get_set_other, get_append}
 use Rattle.gz_laws.proofs.Listing.{traces_here, traces_there}
@@ -71,7 +72,7 @@ action_later old new name (Handed a reply) grows h =
     let k = request_later old new name a h.0 grows h.1.0 in
     let has = h.1.1 in
     let later = k.1.1 in
-    (k.0, (k.1.0, record { place = has.place; tick = has.tick; there = later.replies has.place (has.tick, reply) has.there }))
+    (k.0, (k.1.0, record { place = has.place; tick = has.tick; made = has.made; there = later.replies has.place (has.tick, has.made) has.there; heard = has.heard ∙ ap (λ op. as_heard (written_by op) has.made) (sym later.op) }))
 action_later old new name (GaveUp a) grows h = let k = request_later old new name a h.0 grows h.1 in (k.0, k.1.0)
 action_later old new name Rested grows h = tt
 action_later old new name GaveIn grows h = tt
@@ -162,12 +163,12 @@ moved_carried old new session ts m grows here h = λ n. elim (cases_eq n session
 carried_same : (old new : State) → ((n : ℕ) → new.traces n ≡ old.traces n) → Grows old.net new.net → AreCarried old → AreCarried new
 carried_same old new traces grows h = λ n. subst (TracesCarried new.net) (sym (traces n)) (traces_later old.net new.net (old.traces n) grows (h n))
 
-begin_carried : (old new : State) (session : ℕ) (call : Call) (turn : Turn) (effect : Effect) → BeginsBy old session call turn effect new → AreCarried old → AreCarried new
-begin_carried old new session call turn effect b h =
+begin_carried : (old new : State) (session : ℕ) (call : Call) (own : Option Value) (turn : Turn) (effect : Effect) → BeginsBy old session call own turn effect new → AreCarried old → AreCarried new
+begin_carried old new session call own turn effect b h =
     let name : Name = record { session = session; seq = length (old.traces session) + 1 } in
     let outs = sent_requests name (tick_of old) turn.send in
     let grows : Grows old.net new.net = grows_then old.net (old.net ++ outs) new.net (grows_append old.net outs) (grows_same (old.net ++ outs) new.net b.net) in
-    moved_carried old new session (begun session call (next_of old) turn (old.traces session) ∷ old.traces session) b.moves grows (
+    moved_carried old new session (begun session call own (next_of old) turn (old.traces session) ∷ old.traces session) b.moves grows (
       sends_carried new.net name (tick_of old) (next_of old) turn.send [] (λ j o e. ap (λ xs. numbered xs (next_of old + j)) b.net ∙ sent_there old.net name (tick_of old) turn.send j o e) tt,
       traces_later old.net new.net (old.traces session) grows (h session),
     ) h
@@ -211,15 +212,15 @@ deliver_carried old new n r reply effect d h =
     let mid = slice_set old.net (n - 1) after in
     carried_same old new d.sessions.traces (grows_then old.net mid new.net (grows_set old.net (n - 1) r after place.1 (replied_later (tick_of old) reply r)) (grows_same mid new.net d.net)) h
 
-hand_carried : (old new : State) (n which : ℕ) (r : RequestAt) (reply : ℕ × Reply) (by : TurnBy) (effect : Effect) → numbered r.replies which ≡ Some reply → TakesTurn old n r (λ a. Handed a reply.1) by (with_handed (tick_of old) which r) effect new → AreCarried old → AreCarried new
+hand_carried : (old new : State) (n which : ℕ) (r : RequestAt) (reply : ℕ × Reply) (by : TurnBy) (effect : Effect) → numbered r.replies which ≡ Some reply → TakesTurn old n r (hears reply.1) by (with_handed (tick_of old) which r) effect new → AreCarried old → AreCarried new
 hand_carried old new n which r reply by effect there t h =
     let place = numbered_place r.replies which reply there in
-    turn_carried old new n r (with_handed (tick_of old) which r) (λ a. Handed a reply.1) by effect t (handed_later (tick_of old) which r)
-    (λ q later is. (q, (is, record { place = which - 1; tick = reply.0; there = later.replies (which - 1) reply place.1 }))) h
+    turn_carried old new n r (with_handed (tick_of old) which r) (hears reply.1) by effect t (handed_later (tick_of old) which r)
+    (λ q later is. (q, (is, record { place = which - 1; tick = reply.0; made = reply.1; there = later.replies (which - 1) reply place.1; heard = ap (λ op. as_heard (written_by op) reply.1) (sym is.op_is) }))) h
 
 does_carried : (old new : State) (event : Event) (effect : Effect) → Does old event effect new → AreCarried old → AreCarried new
 does_carried old new events.OpenSession effect d h = carried_same old new d.traces (grows_same old.net new.net d.net) h
-does_carried old new (events.Begin session call) effect d h = begin_carried old new session call d.0 effect d.1 h
+does_carried old new (events.Begin session call) effect d h = begin_carried old new session call d.0 d.1.0 effect d.1.1 h
 does_carried old new (events.Deliver n) effect d h = deliver_carried old new n d.0 d.1.0 effect d.1.1 h
 does_carried old new (events.Reply n which) effect d h = hand_carried old new n which d.0 d.1.0 d.1.1.0 effect d.1.1.1.0 d.1.1.1.1 h
 does_carried old new (events.GiveUp n) effect d h =

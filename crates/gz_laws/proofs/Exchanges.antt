@@ -7,7 +7,7 @@ use Rattle.gz_core.specs.Names.{Name, same_name}
 use Rattle.gz_core.proofs.Ballots.{name_means, name_refl}
 use Rattle.gz_laws.proofs.Keys.{name_apart}
 use Rattle.gz_core.specs.declared.requests.Out.{Out}
-use Rattle.gz_round.specs.History.{Action, Sent, IsClosing, asked_of, sent_from}
+use Rattle.gz_core.specs.History.{Action, Sent, IsClosing, asked_of, sent_from}
 use Rattle.gz_world.specs.States.{RequestAt, sent_request, sent_requests}
 use Rattle.gz_laws.specs.Exchanged.{Exchange, exchange_of, exchanges_from, just_sent, changed_at, exchanges_told}
 

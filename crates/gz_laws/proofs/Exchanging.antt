@@ -5,10 +5,13 @@ use Rattle.std.specs.Prelude.{Option, MatchOption, option_map, slice_get, slice_
 use Rattle.gz_config.specs.declared.Config.{Config}
 use Rattle.gz_core.specs.Names.{Name}
 use Rattle.gz_core.specs.declared.calls.Call.{Call}
+use Rattle.gz_core.specs.declared.requests.Op.{Op}
 use Rattle.gz_core.specs.declared.requests.Out.{Out}
 use Rattle.gz_core.specs.declared.requests.Reply.{Reply}
 use Rattle.gz_core.specs.declared.requests.Turn.{Turn}
-use Rattle.gz_round.specs.History.{Asked, Action, Handed, GaveUp, Trace, sent_from, begun, turned}
+use Rattle.gz_core.specs.declared.values.Value.{Value}
+use Rattle.gz_core.specs.History.{Asked, Action, GaveUp, Trace, sent_from, begun, turned}
+use Rattle.gz_round.specs.Sites.{as_heard, written_by}
 use Rattle.gz_client.specs.Traces.{AllKeepRules}
 use Rattle.gz_world.specs.declared.events.Effect.{Effect}
 use Rattle.gz_world.specs.declared.events.Event.{Event}
@@ -20,7 +23,7 @@ use Rattle.gz_laws.specs.Listed.{AreCallsListed}
 use Rattle.gz_world.specs.Reached.{IsOpening, IsReached, opened, stepped}
 use Rattle.gz_world.specs.Refusals.{refusal_of}
 use Rattle.gz_world.specs.States.{RequestAt, State, tick_of, next_of, numbered, with_reply, with_handed, with_given_up, sent_request, sent_requests}
-use Rattle.gz_world.specs.Steps.{SessionMoves, BeginsBy, DeliversBy, TurnBy, TakesTurn, HasEffect, Does, Skips, WorldStep}
+use Rattle.gz_world.specs.Steps.{SessionMoves, BeginsBy, DeliversBy, TurnBy, TakesTurn, hears, HasEffect, Does, Skips, WorldStep}
 use Rattle.gz_world.proofs.Members.{numbered_place, place_numbered}
 use Rattle.gz_world.proofs.Places.{get_append}
 use Rattle.gz_laws.proofs.Carrying.{carried}
@@ -64,13 +67,13 @@ exchanged_same old new traces net x = record {
 sent_unhanded : (name : Name) (tick : ℕ) (o : Out) (q : RequestAt) → sent_request name tick o ≡ q → IsHandedOne q
 sent_unhanded name tick o q e = subst IsHandedOne e (λ at which h. cc)
 
-begin_exchanged : (old new : State) (session : ℕ) (call : Call) (turn : Turn) (effect : Effect) → BeginsBy old session call turn effect new → AreCallsListed old → AreExchanged old → AreExchanged new
-begin_exchanged old new session call turn effect b l x =
+begin_exchanged : (old new : State) (session : ℕ) (call : Call) (own : Option Value) (turn : Turn) (effect : Effect) → BeginsBy old session call own turn effect new → AreCallsListed old → AreExchanged old → AreExchanged new
+begin_exchanged old new session call own turn effect b l x =
     let past = old.traces session in
     let name : Name = record { session = session; seq = length past + 1 } in
     let outs = turn.send in
     let tick = tick_of old in
-    let t = begun session call (next_of old) turn past in
+    let t = begun session call own (next_of old) turn past in
     let sent = sent_requests name tick outs in
     let new_name : (i : ℕ) (r : RequestAt) → slice_get old.net i ≡ Some r → r.name ≡ name → ⊥ = λ i r there e.
     let z : i + 1 - 1 ≡ i = omega arith in
@@ -164,12 +167,12 @@ turn_exchanged old new n r marked action by effect f t own is tells handed l car
 numbered_more : {A : Type 0} (xs ys : List A) (n : ℕ) (x : A) → numbered xs n ≡ Some x → numbered (xs ++ ys) n ≡ Some x
 numbered_more xs ys n x h = let p = numbered_place xs n x h in place_numbered (xs ++ ys) n x p.0 (get_append xs ys (n - 1) x p.1)
 
-reply_kept : (replies : List (ℕ × Reply)) (more : ℕ × Reply) (handed : Option (ℕ × ℕ)) → ((tick which : ℕ) → handed ≡ Some (tick, which) → (reply : ℕ × Reply) × (numbered replies which ≡ Some reply))
-    → reply_handed (replies ++ more ∷ []) handed ≡ reply_handed replies handed
-reply_kept replies more None there = refl
-reply_kept replies more (Some h) there =
+reply_kept : (op : Op) (replies : List (ℕ × Reply)) (more : ℕ × Reply) (handed : Option (ℕ × ℕ)) → ((tick which : ℕ) → handed ≡ Some (tick, which) → (reply : ℕ × Reply) × (numbered replies which ≡ Some reply))
+    → reply_handed op (replies ++ more ∷ []) handed ≡ reply_handed op replies handed
+reply_kept op replies more None there = refl
+reply_kept op replies more (Some h) there =
     let k = there h.0 h.1 refl in
-    ap (option_map (λ (q : ℕ × Reply). q.1)) (numbered_more replies (more ∷ []) h.1 k.0 k.1 ∙ sym k.1)
+    ap (option_map (λ (q : ℕ × Reply). as_heard (written_by op) q.1)) (numbered_more replies (more ∷ []) h.1 k.0 k.1 ∙ sym k.1)
 
 deliver_exchanged : (old new : State) (n : ℕ) (r : RequestAt) (reply : Reply) (effect : Effect) → DeliversBy old n r reply effect new → AreExchanged old → AreExchanged new
 deliver_exchanged old new n r reply effect d x =
@@ -178,7 +181,7 @@ deliver_exchanged old new n r reply effect d x =
     let place = numbered_place old.net n r d.request in
     let one = x.handed n r d.request in
     let same : (k : ℕ) → exchange_of k marked ≡ exchange_of k r = λ k.
-    ap (λ o. (let y : Exchange = record { asked = record { number = k; site = r.site; op = r.op; awaited = r.awaited }; reply = o; given_up = (exchange_of k r).given_up } in y)) (reply_kept r.replies (tick, reply) r.handed one) in
+    ap (λ o. (let y : Exchange = record { asked = record { number = k; site = r.site; op = r.op; awaited = r.awaited }; reply = o; given_up = (exchange_of k r).given_up } in y)) (reply_kept r.op r.replies (tick, reply) r.handed one) in
     let keep : (name : Name) → exchanges_in new.net name ≡ exchanges_in old.net name = λ name.
     ap (λ ks. exchanges_in ks name) d.net ∙ exchanges_kept 1 (n - 1) old.net r marked name place.1 refl (λ e. same (1 + (n - 1))) in
     let cases : (m : ℕ) (q : RequestAt) → numbered new.net m ≡ Some q → (q ≡ marked) ⊎ (numbered old.net m ≡ Some q)
@@ -196,12 +199,15 @@ deliver_exchanged old new n r reply effect d x =
       ];
     }
 
-hand_exchanged : (old new : State) (n which : ℕ) (r : RequestAt) (reply : ℕ × Reply) (by : TurnBy) (effect : Effect) → numbered r.replies which ≡ Some reply → TakesTurn old n r (λ a. Handed a reply.1) by (with_handed (tick_of old) which r) effect new
+hand_exchanged : (old new : State) (n which : ℕ) (r : RequestAt) (reply : ℕ × Reply) (by : TurnBy) (effect : Effect) → numbered r.replies which ≡ Some reply → TakesTurn old n r (hears reply.1) by (with_handed (tick_of old) which r) effect new
     → AreCallsListed old → AreCarried old → AreExchanged old → AreExchanged new
 hand_exchanged old new n which r reply by effect there t l carries x =
-    let is : exchange_of n (with_handed (tick_of old) which r) ≡ with_answer reply.1 (exchange_of n r)
-    = ap (λ o. (let y : Exchange = record { asked = record { number = n; site = r.site; op = r.op; awaited = r.awaited }; reply = o; given_up = (exchange_of n r).given_up } in y)) (ap (option_map (λ (q : ℕ × Reply). q.1)) there) in
-    turn_exchanged old new n r (with_handed (tick_of old) which r) (λ a. Handed a reply.1) by effect (with_answer reply.1) t refl is refl
+    let heard = as_heard (written_by r.op) reply.1 in
+    let op = (told_request old new n r (with_handed (tick_of old) which r) (hears reply.1) by effect t carries).op_is in
+    let is : exchange_of n (with_handed (tick_of old) which r) ≡ with_answer heard (exchange_of n r)
+    = ap (λ o. (let y : Exchange = record { asked = record { number = n; site = r.site; op = r.op; awaited = r.awaited }; reply = o; given_up = (exchange_of n r).given_up } in y)) (ap (option_map (λ (q : ℕ × Reply). as_heard (written_by r.op) q.1)) there) in
+    turn_exchanged old new n r (with_handed (tick_of old) which r) (hears reply.1) by effect (with_answer heard) t refl is
+    (ap (λ q. map (changed_at by.asked.number (with_answer (as_heard (written_by q) reply.1))) (exchanges_told by.trace.actions)) (sym op))
     (λ tick k e. let same : which ≡ k = second_of (tick_of old, which) (tick, k) e in (reply, ap (numbered r.replies) (sym same) ∙ there)) l carries x
   where
     second_of : (a b : ℕ × ℕ) → Some a ≡ Some b → a.1 ≡ b.1
@@ -213,7 +219,7 @@ give_up_exchanged old new n r by effect t l carries x =
 
 does_exchanged : (old new : State) (event : Event) (effect : Effect) → Does old event effect new → AreCallsListed old → AreCarried old → AreExchanged old → AreExchanged new
 does_exchanged old new events.OpenSession effect d l c x = exchanged_same old new d.traces d.net x
-does_exchanged old new (events.Begin session call) effect d l c x = begin_exchanged old new session call d.0 effect d.1 l x
+does_exchanged old new (events.Begin session call) effect d l c x = begin_exchanged old new session call d.0 d.1.0 effect d.1.1 l x
 does_exchanged old new (events.Deliver n) effect d l c x = deliver_exchanged old new n d.0 d.1.0 effect d.1.1 x
 does_exchanged old new (events.Reply n which) effect d l c x = hand_exchanged old new n which d.0 d.1.0 d.1.1.0 effect d.1.1.1.0 d.1.1.1.1 l c x
 does_exchanged old new (events.GiveUp n) effect d l c x = give_up_exchanged old new n d.0 d.1.0 effect d.1.1 l c x

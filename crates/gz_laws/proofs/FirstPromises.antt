@@ -6,9 +6,9 @@ use Rattle.std.specs.Prelude.{◌==◌, ◌&&◌, ◌||◌, if◌then◌else◌}
 use Rattle.gz_core.specs.Names.{Name, BallotAt, same_ballot, same_name}
 use Rattle.gz_core.specs.Slots.{Act, Promises, act_of}
 use Rattle.gz_core.specs.declared.requests.Op.{Op}
-use Rattle.gz_core.specs.declared.requests.Op.TheVariants.{ReadRow, WriteRow}
+use Rattle.gz_core.specs.declared.requests.Op.TheVariants.{WriteRow}
 use Rattle.gz_core.proofs.Ballots.{same_refl, name_means, name_from}
-use Rattle.gz_round.specs.History.{Asked, Action, Sent, Handed, GaveUp, Rested, GaveIn}
+use Rattle.gz_core.specs.History.{Asked, Action, Sent, Handed, GaveUp, Rested, GaveIn}
 use Rattle.gz_round.specs.LookBack.{before_promise}
 use Rattle.gz_round.specs.Sent.{of_step, of_sent, passes_sent, promise_by, has_promised_at}
 use Rattle.gz_round.proofs.LookBacks.{before_none, before_more}
@@ -23,8 +23,8 @@ Step = List RowSeen × Act
 
 -- one more action sends nothing, or one write more
 more_op : (op : Op) (heard : List RowSeen) (rest : List Step) → (front : List Step) × (step_sent op heard rest ≡ front ++ rest)
-more_op (ReadRow key) heard rest = ([], refl)
 more_op (WriteRow key expect step row) heard rest = ((heard, act_of step) ∷ [], refl)
+more_op op heard rest = ([], refl)
 
 more_sends : (m : Action) (ms : List Action) → (front : List Step) × (sends_of (m ∷ ms) ≡ front ++ sends_of ms)
 more_sends (Sent a) ms = more_op a.op (heard_of ms) (sends_of ms)
@@ -35,8 +35,8 @@ more_sends GaveIn ms = ([], refl)
 
 -- the promise is the write that is sent now
 promise_now : (op : Op) (v : ℕ) (b : BallotAt) (heard : List RowSeen) (rest : List Step) → IsStepSent op (Promises v b) → step_sent op heard rest ≡ (heard, Promises v b) ∷ rest
-promise_now (ReadRow key) v b heard rest is = absurd is
 promise_now (WriteRow key expect step row) v b heard rest is = ap (λ (a : Act). (heard, a) ∷ rest) is
+promise_now op v b heard rest is = absurd is
 
 sends_now : (m : Action) (ms : List Action) (v : ℕ) (b : BallotAt) → passes_sent (λ p. (p.0 == v) && same_ballot p.1 b) (of_sent promise_by m) ≡ true → sends_of (m ∷ ms) ≡ (heard_of ms, Promises v b) ∷ sends_of ms
 sends_now (Sent a) ms v b e = promise_now a.op v b (heard_of ms) (sends_of ms) (op_promised a.op v b e)
@@ -140,8 +140,8 @@ promise_passes o v b is =
     ap (passes_sent (λ p. (p.0 == v) && same_ballot p.1 b)) (op_promises o v b is) ∙ ap (λ k. k && same_ballot b b) t ∙ same_refl b
 
 op_has : (op : Op) (heard : List RowSeen) (rest : List Step) (act : Act) → HasStep (step_sent op heard rest) act → IsStepSent op act ⊎ HasStep rest act
-op_has (ReadRow key) heard rest act h = inr h
 op_has (WriteRow key expect step row) heard rest act h = h
+op_has op heard rest act h = inr h
 
 pub sends_promised : (ms : List Action) (v : ℕ) (b : BallotAt) → HasStep (sends_of ms) (Promises v b) → has_promised_at ms v b ≡ true
 sends_promised [] v b h = absurd h

@@ -25,7 +25,7 @@ use Rattle.gz_pick.specs.Looks.{row_top}
 use Rattle.gz_pick.specs.declared.heard.Heard.{Heard}
 use Rattle.gz_round.specs.declared.hearing.Seen.{Seen}
 use Rattle.gz_round.specs.Counting.{outs, IsGoing}
-use Rattle.gz_round.specs.History.{Asked, Action, Sent, Handed, GaveUp, Rested, GaveIn, Caller, Trace}
+use Rattle.gz_core.specs.History.{Asked, Action, Sent, Handed, GaveUp, Rested, GaveIn, Caller, Trace}
 use Rattle.gz_round.specs.LookBack.{row_cast, column_cast, or_next, lowest, lowest_vote, before_promise, IsLookedBack}
 use Rattle.gz_round.specs.Rounds.{slot_promises, promises_known, has_classic_cast}
 use Rattle.gz_round.specs.Sending.{AreAllowed, MayGiveIn, NoPromise, NoVote, NoValue, Collected, IsIdle, IsStuck, IsShort, IsUncast, IsBegun, IsWithoutValue, IsCollected, NoEvidence, rows_known}

@@ -7,7 +7,7 @@ use Rattle.gz_core.specs.declared.calls.Call.{Call}
 use Rattle.gz_core.specs.declared.requests.Out.{Out}
 use Rattle.gz_core.specs.declared.requests.Turn.{Turn}
 use Rattle.gz_round.specs.declared.hearing.Seen.{Seen}
-use Rattle.gz_round.specs.History.{Asked, Action, Sent, Handed, GaveUp, Rested, GaveIn, Trace, is_row_request, asked_of, sent_from, begun, turned}
+use Rattle.gz_core.specs.History.{Asked, Action, Sent, Handed, GaveUp, Rested, GaveIn, Trace, asked_of, sent_from, begun, turned}
 use Rattle.gz_round.specs.Sending.{AreAllowed}
 use Rattle.gz_round.specs.Sites.{SiteNow, site_now, after, after_reply, after_sent, is_to, seen_in, written_by, is_changed}
 use Rattle.gz_client.specs.Traces.{AllKeepRules}
@@ -18,7 +18,7 @@ use Rattle.gz_world.specs.declared.events.Event.TheVariants as events
 use Rattle.gz_world.specs.Reached.{IsReached, opened, stepped, AllTell}
 use Rattle.gz_world.specs.Refusals.{refusal_of}
 use Rattle.gz_world.specs.States.{RequestAt, State, next_of}
-use Rattle.gz_world.specs.Steps.{TurnBy, TakesTurn, HasEffect, Does, Skips, WorldStep}
+use Rattle.gz_world.specs.Steps.{TurnBy, TakesTurn, HasEffect, Does, Skips, WorldStep, hears}
 use Rattle.gz_laws.specs.Begun.{sends_of, IsBegunIn}
 use Rattle.gz_laws.specs.Carried.{ActionsCarried, TracesCarried}
 use Rattle.gz_laws.specs.Each.{EachTrace}
@@ -93,10 +93,10 @@ turn_never old new n r marked action by effect t keeps none l h =
 does_never : (old new : State) (event : Event) (effect : Effect) → Does old event effect new → NoneNow new → AreCallsListed old → ((m : ℕ) → EachTrace IsKeptOn (old.traces m)) → (m : ℕ) → EachTrace IsKeptOn (new.traces m)
 does_never old new events.OpenSession effect d none l h = never_same old new d.traces h
 does_never old new (events.Begin session call) effect d none l h =
-    let t = begun session call (next_of old) d.0 (old.traces session) in
-    each_moved IsKeptOn IsKeptOn old new session t (old.traces session) d.1.moves l.told (λ u apart k. k) (sent_never (next_of old) d.0.send [] tt) (h session) h
+    let t = begun session call d.0 (next_of old) d.1.0 (old.traces session) in
+    each_moved IsKeptOn IsKeptOn old new session t (old.traces session) d.1.1.moves l.told (λ u apart k. k) (sent_never (next_of old) d.1.0.send [] tt) (h session) h
 does_never old new (events.Deliver n) effect d none l h = never_same old new d.1.1.sessions.traces h
-does_never old new (events.Reply n which) effect d none l h = turn_never old new n d.0 _ (λ a. Handed a d.1.0.1) d.1.1.0 effect d.1.1.1.1 (λ ms k. k) none l h
+does_never old new (events.Reply n which) effect d none l h = turn_never old new n d.0 _ (hears d.1.0.1) d.1.1.0 effect d.1.1.1.1 (λ ms k. k) none l h
 does_never old new (events.GiveUp n) effect d none l h = turn_never old new n d.0 _ (λ a. GaveUp a) d.1.0 effect d.1.1 (λ ms k. k) none l h
 does_never old new (events.Crash session) effect d none l h = never_same old new d.traces h
 
@@ -137,9 +137,6 @@ keep_out : (b : Bool) (x y : SiteNow) → (y.out ≡ true → x.out ≡ true) �
 keep_out true x y f h = f h
 keep_out false x y f h = h
 
-site_to : (a : Asked) (s : ℕ) → is_to a s ≡ true → a.site ≡ s
-site_to a s h = eqb-true a.site s (and_parts (is_row_request a.op) (a.site == s) h).1
-
 sent_keeps : (a : Asked) (now : SiteNow) → (after_sent a now).out ≡ now.out
 sent_keeps a now = elim a.awaited as (λ w. (if w then (let k : SiteNow = record { row = now.row; changed = now.changed; out = now.out; awaits = Some a; unanswered = true } in k) else now).out ≡ now.out) [ true ↦ refl | false ↦ refl ]
 
@@ -150,8 +147,8 @@ left_of (Handed a reply ∷ ms) s kept h =
     let now = site_now ms s in
     let o = seen_in (written_by a.op) reply in
     if_out (is_to a s) (after_reply o (is_changed reply) now) now h
-    (λ to k. elim (reply_out o (is_changed reply) now k) [ inl e ↦ inl (site_to a s to, e) | inr e ↦ inr (left_of ms s kept e) ]) (λ k. inr (left_of ms s kept k))
-left_of (GaveUp a ∷ ms) s kept h = if_out (is_to a s) (after (GaveUp a) (site_now ms s)) (site_now ms s) h (λ to k. inl (site_to a s to)) (λ k. inr (left_of ms s kept k))
+    (λ to k. elim (reply_out o (is_changed reply) now k) [ inl e ↦ inl (to, e) | inr e ↦ inr (left_of ms s kept e) ]) (λ k. inr (left_of ms s kept k))
+left_of (GaveUp a ∷ ms) s kept h = if_out (is_to a s) (after (GaveUp a) (site_now ms s)) (site_now ms s) h (λ to k. inl to) (λ k. inr (left_of ms s kept k))
 left_of (Rested ∷ ms) s kept h = inr (left_of ms s kept h)
 left_of (GaveIn ∷ ms) s kept h = absurd kept
 
@@ -162,10 +159,10 @@ out_of (Sent a ∷ ms) s kept (inr h) = keep_out (is_to a s) (after_sent a (site
 out_of (Handed a reply ∷ ms) s kept (inl h) =
     let now = site_now ms s in
     let next = after_reply (seen_in (written_by a.op) reply) (is_changed reply) now in
-    ap (λ t. (if t then next else now).out) (to_here a s h.0) ∙ reply_leaves (seen_in (written_by a.op) reply) (is_changed reply) now h.1.0 h.1.1
+    ap (λ t. (if t then next else now).out) h.0 ∙ reply_leaves (seen_in (written_by a.op) reply) (is_changed reply) now h.1.0 h.1.1
 out_of (Handed a reply ∷ ms) s kept (inr h) =
     keep_out (is_to a s) (after_reply (seen_in (written_by a.op) reply) (is_changed reply) (site_now ms s)) (site_now ms s) (stays_out (seen_in (written_by a.op) reply) (is_changed reply) (site_now ms s)) (out_of ms s kept h)
-out_of (GaveUp a ∷ ms) s kept (inl h) = let now = site_now ms s in ap (λ t. (if t then after (GaveUp a) now else now).out) (to_here a s h)
+out_of (GaveUp a ∷ ms) s kept (inl h) = let now = site_now ms s in ap (λ t. (if t then after (GaveUp a) now else now).out) h
 out_of (GaveUp a ∷ ms) s kept (inr h) = keep_out (is_to a s) (after (GaveUp a) (site_now ms s)) (site_now ms s) (λ k. refl) (out_of ms s kept h)
 out_of (Rested ∷ ms) s kept (inl h) = absurd h
 out_of (Rested ∷ ms) s kept (inr h) = out_of ms s kept h

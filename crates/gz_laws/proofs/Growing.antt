@@ -19,7 +19,8 @@ use Rattle.gz_core.specs.declared.requests.Op.{Op}
 use Rattle.gz_core.specs.declared.requests.Op.TheVariants.{ReadRow, WriteRow}
 use Rattle.gz_core.specs.declared.requests.Out.{Out}
 use Rattle.gz_accept.proofs.Rising.{rises_with}
-use Rattle.gz_round.specs.History.{Action, Sent, Caller, Trace, asked_of, sent_from}
+use Rattle.gz_core.specs.History.{Action, Sent, Caller, Trace, asked_of, sent_from}
+use Rattle.gz_core.specs.Calls.{IsOwn}
 use Rattle.gz_round.specs.Shown.{IsShown}
 use Rattle.gz_round.specs.Sites.{SiteNow, site_now, some_heard}
 use Rattle.gz_round.specs.Sending.{AreAllowed, MayAsk, MayMake, IsMade}
@@ -84,8 +85,8 @@ clean_made c w past ms (Decide v x) old new first may m clean = let above = firs
 clean_made c w past ms (Trim to x) old new first may m clean = absurd may
 
 pub here_more : (name : Name) (site : ℕ) (op : Op) (old new : Store) → OnlyAsks old new → AskedHere name site op old → AskedHere name site op new
-here_more name site (ReadRow key) old new only h = tt
 here_more name site (WriteRow key expect step row) old new only h = (h.0, (h.1.0, only.asked h.0 h.1.1))
+here_more name site op old new only h = tt
 
 -- the transitions since a call began, with more of them: its first votes for its own value are still sent where rows are current
 pub record GoesOn (c : Config) (call : Name) (early late more : List Transition) : Type 0 where
@@ -103,9 +104,9 @@ same_on : (c : Config) (name : Name) (ms : List Action) (ds : List Transition) �
 same_on c name ms ds = λ call early late split current own. record { later = late; split = split; current = current; rows = λ e h. h }
 
 -- a request that is sent is a transition of its own call
-ask_on : (c : Config) (w : Caller) (past : List Trace) (ms : List Action) (ds : List Transition) (step : RowStep) (qa : WriteSent) → HasQuorums c → AreTransitions c unused ds → ActionsStand (after_transitions unused ds) ms → MayMake c w past ms step → qa.write.call ≡ w.name → qa.write.act ≡ act_of step
+ask_on : (c : Config) (w : Caller) (past : List Trace) (ms : List Action) (ds : List Transition) (step : RowStep) (qa : WriteSent) → HasQuorums c → AreTransitions c unused ds → IsOwn w.name w.call w.own → ActionsStand (after_transitions unused ds) ms → MayMake c w past ms step → qa.write.call ≡ w.name → qa.write.act ≡ act_of step
     → GoOn c w.name ms ds (Begins (heard_of ms) qa ∷ ds)
-ask_on c w past ms ds step qa q are stands may own is = λ call early late split current heard. record {
+ask_on c w past ms ds step qa q are value stands may own is = λ call early late split current heard. record {
   later = Begins (heard_of ms) qa ∷ late;
   split = ap (λ (ks : List Transition). Begins (heard_of ms) qa ∷ ks) split;
   current = (
@@ -113,7 +114,7 @@ ask_on c w past ms ds step qa q are stands may own is = λ call early late split
     λ same v votes.
         let name : call ≡ w.name = sym same ∙ own in
         let cast : VotesFor (act_of step) v w.name = subst (λ a. VotesFor a v w.name) is (subst (VotesFor qa.write.act v) name votes) in
-        elim (own_current c w past ms ds step v q are stands may cast) [
+        elim (own_current c w past ms ds step v q are value stands may cast) [
           | inl p ↦ inl (subst (λ (ks : List Transition). IsProposed (sent_after unused ks) v call) split (subst (IsProposed (sent_after unused ds) v) (sym name) p))
           | inr k ↦ inr (current_more c (heard_of ms) (late_rows unused late early) v (heard name) k.1)
         ],
@@ -155,37 +156,37 @@ step_drawn c w past ms (ClassicVote u d x) v b may e = cc
 step_drawn c w past ms (Decide u x) v b may e = cc
 step_drawn c w past ms (Trim to x) v b may e = cc
 
-read_asked : (c : Config) (w : Caller) (past : List Trace) (ms : List Action) (ds : List Transition) (key : List ℕ) (act : Act) → Keeps w.name past ms (after_transitions unused ds) → IsStepSent (ReadRow key) act ⊎ SentStep ms act → (q : Write) × (IsIn q (writes_of (after_transitions unused ds).asked) × ((q.call ≡ w.name) × (q.act ≡ act)))
+read_asked : (c : Config) (w : Caller) (past : List Trace) (ms : List Action) (ds : List Transition) (key : List ℕ) (act : Act) → Keeps w past ms (after_transitions unused ds) → IsStepSent (ReadRow key) act ⊎ SentStep ms act → (q : Write) × (IsIn q (writes_of (after_transitions unused ds).asked) × ((q.call ≡ w.name) × (q.act ≡ act)))
 read_asked c w past ms ds key act keeps (inl h) = absurd h
 read_asked c w past ms ds key act keeps (inr h) = keeps.asked act h
 
-write_own : (c : Config) (w : Caller) (past : List Trace) (ms : List Action) (ds : List Transition) (step : RowStep) (wr q : Write) → Keeps w.name past ms (after_transitions unused ds) → wr.act ≡ act_of step → IsIn q (wr ∷ writes_of (after_transitions unused ds).asked) → q.call ≡ w.name → (act_of step ≡ q.act) ⊎ SentStep ms q.act
+write_own : (c : Config) (w : Caller) (past : List Trace) (ms : List Action) (ds : List Transition) (step : RowStep) (wr q : Write) → Keeps w past ms (after_transitions unused ds) → wr.act ≡ act_of step → IsIn q (wr ∷ writes_of (after_transitions unused ds).asked) → q.call ≡ w.name → (act_of step ≡ q.act) ⊎ SentStep ms q.act
 write_own c w past ms ds step wr q keeps is (inl e) same = inl (sym is ∙ ap (λ (k : Write). k.act) (sym e))
 write_own c w past ms ds step wr q keeps is (inr h) same = inr (keeps.own q h same)
 
-write_asked : (c : Config) (w : Caller) (past : List Trace) (ms : List Action) (ds : List Transition) (step : RowStep) (wr : Write) (act : Act) → Keeps w.name past ms (after_transitions unused ds) → wr.call ≡ w.name → wr.act ≡ act_of step → (act_of step ≡ act) ⊎ SentStep ms act → (q : Write) × (IsIn q (wr ∷ writes_of (after_transitions unused ds).asked) × ((q.call ≡ w.name) × (q.act ≡ act)))
+write_asked : (c : Config) (w : Caller) (past : List Trace) (ms : List Action) (ds : List Transition) (step : RowStep) (wr : Write) (act : Act) → Keeps w past ms (after_transitions unused ds) → wr.call ≡ w.name → wr.act ≡ act_of step → (act_of step ≡ act) ⊎ SentStep ms act → (q : Write) × (IsIn q (wr ∷ writes_of (after_transitions unused ds).asked) × ((q.call ≡ w.name) × (q.act ≡ act)))
 write_asked c w past ms ds step wr act keeps own is (inl e) = (wr, (inl refl, (own, is ∙ e)))
 write_asked c w past ms ds step wr act keeps own is (inr h) = let k = keeps.asked act h in (k.0, (inr k.1.0, k.1.1))
 
-write_drawn : (c : Config) (w : Caller) (past : List Trace) (ms : List Action) (ds : List Transition) (step : RowStep) (wr q : Write) (v : ℕ) (b : BallotAt) → Keeps w.name past ms (after_transitions unused ds) → MayMake c w past ms step → wr.call ≡ w.name → wr.act ≡ act_of step → IsIn q (wr ∷ writes_of (after_transitions unused ds).asked) → q.act ≡ Promises v b → b.session ≡ q.call.session
+write_drawn : (c : Config) (w : Caller) (past : List Trace) (ms : List Action) (ds : List Transition) (step : RowStep) (wr q : Write) (v : ℕ) (b : BallotAt) → Keeps w past ms (after_transitions unused ds) → MayMake c w past ms step → wr.call ≡ w.name → wr.act ≡ act_of step → IsIn q (wr ∷ writes_of (after_transitions unused ds).asked) → q.act ≡ Promises v b → b.session ≡ q.call.session
 write_drawn c w past ms ds step wr q v b keeps guard own is (inl e) act =
     let promised : act_of step ≡ Promises v b = sym is ∙ ap (λ (k : Write). k.act) (sym e) ∙ act in
     step_drawn c w past ms step v b guard promised ∙ ap (λ (k : Name). k.session) (sym own ∙ ap (λ (k : Write). k.call) (sym e))
 write_drawn c w past ms ds step wr q v b keeps guard own is (inr h) act = keeps.drawn q v b h act
 
-write_others : (c : Config) (w : Caller) (past : List Trace) (ms : List Action) (ds : List Transition) (wr q : Write) → Keeps w.name past ms (after_transitions unused ds) → wr.call ≡ w.name → IsIn q (wr ∷ writes_of (after_transitions unused ds).asked) → q.call.session ≡ w.name.session → (q.call ≡ w.name) ⊎ PastStep past q.act
+write_others : (c : Config) (w : Caller) (past : List Trace) (ms : List Action) (ds : List Transition) (wr q : Write) → Keeps w past ms (after_transitions unused ds) → wr.call ≡ w.name → IsIn q (wr ∷ writes_of (after_transitions unused ds).asked) → q.call.session ≡ w.name.session → (q.call ≡ w.name) ⊎ PastStep past q.act
 write_others c w past ms ds wr q keeps own (inl e) same = inl (ap (λ (k : Write). k.call) e ∙ own)
 write_others c w past ms ds wr q keeps own (inr h) same = keeps.others q h same
 
-write_from : (c : Config) (w : Caller) (past : List Trace) (ms : List Action) (ds : List Transition) (step : RowStep) (wr q : Write) → HasQuorums c → AreTransitions c unused ds → ActionsStand (after_transitions unused ds) ms → MayMake c w past ms step → wr.call ≡ w.name → wr.act ≡ act_of step
+write_from : (c : Config) (w : Caller) (past : List Trace) (ms : List Action) (ds : List Transition) (step : RowStep) (wr q : Write) → HasQuorums c → AreTransitions c unused ds → IsOwn w.name w.call w.own → ActionsStand (after_transitions unused ds) ms → MayMake c w past ms step → wr.call ≡ w.name → wr.act ≡ act_of step
     → IsIn q (wr ∷ writes_of (after_transitions unused ds).asked) → IsIn q (writes_of (after_transitions unused ds).asked) ⊎ ((q.call ≡ w.name) × ((act_of step ≡ q.act) × IsOwnVote w ds q.act))
-write_from c w past ms ds step wr q quorums are stands may own is (inl e) =
+write_from c w past ms ds step wr q quorums are value stands may own is (inl e) =
     let call : q.call ≡ w.name = ap (λ (k : Write). k.call) e ∙ own in
     let act : act_of step ≡ q.act = sym is ∙ ap (λ (k : Write). k.act) (sym e) in
-    inr (call, (act, λ v votes. elim (own_current c w past ms ds step v quorums are stands may (subst (λ a. VotesFor a v w.name) (sym act) votes)) [ inl p ↦ inl p | inr k ↦ inr k.0 ]))
-write_from c w past ms ds step wr q quorums are stands may own is (inr h) = inl h
+    inr (call, (act, λ v votes. elim (own_current c w past ms ds step v quorums are value stands may (subst (λ a. VotesFor a v w.name) (sym act) votes)) [ inl p ↦ inl p | inr k ↦ inr k.0 ]))
+write_from c w past ms ds step wr q quorums are value stands may own is (inr h) = inl h
 
-ask_op : (c : Config) (w : Caller) (past : List Trace) (ms : List Action) (ds : List Transition) (site : ℕ) (now : SiteNow) (op : Op) → HasQuorums c → AreTransitions c unused ds → Keeps w.name past ms (after_transitions unused ds) → AreAllowed c w past ms
+ask_op : (c : Config) (w : Caller) (past : List Trace) (ms : List Action) (ds : List Transition) (site : ℕ) (now : SiteNow) (op : Op) → HasQuorums c → AreTransitions c unused ds → Keeps w past ms (after_transitions unused ds) → AreAllowed c w past ms
     → IsLastRow (after_transitions unused ds) site now.row → MayAsk c w past ms now op → (more : List Transition) × Asks c w past ms ds site op more
 ask_op c w past ms ds site now (ReadRow key) quorums are keeps allowed last may = (
   ds,
@@ -226,11 +227,12 @@ ask_op c w past ms ds site now (WriteRow key expect step row) quorums are keeps 
         others = λ q h e. write_others c w past ms ds wr q keeps refl h e;
         here = (qa, ((slots m.before, refl), inl refl));
         clean = clean_made c w past ms step m.before row (λ v x. first_shown c (after_transitions unused ds) ms v x quorums keeps.stands) m.guard m.made known.0;
-        from = λ q h. write_from c w past ms ds step wr q quorums are keeps.stands m.guard refl refl h;
+        from = λ q h. write_from c w past ms ds step wr q quorums are keeps.value keeps.stands m.guard refl refl h;
         begun = λ x. refl;
-        on = ask_on c w past ms ds step qa quorums are keeps.stands m.guard refl refl;
+        on = ask_on c w past ms ds step qa quorums are keeps.value keeps.stands m.guard refl refl;
       },
     )
+ask_op c w past ms ds site now op quorums are keeps allowed last may = absurd may
 
 -- the writes that a call began are those that it sends, and no other call's have changed
 pub record HasBegun (name : Name) (first : ℕ) (outs : List Out) (ms : List Action) (ds more : List Transition) : Type 0 where
@@ -247,7 +249,7 @@ begun_then c w past first out outs ms ds mid more one rest = record {
 pub record Sends (c : Config) (w : Caller) (past : List Trace) (first : ℕ) (outs : List Out) (ms : List Action) (ds more : List Transition) : Type 0 where
   pub are : AreTransitions c unused more
   pub only : OnlyAsks (after_transitions unused ds) (after_transitions unused more)
-  pub keeps : Keeps w.name past (sent_from first outs ms) (after_transitions unused more)
+  pub keeps : Keeps w past (sent_from first outs ms) (after_transitions unused more)
   pub here : (j : ℕ) (o : Out) → slice_get outs j ≡ Some o → AskedHere w.name o.site o.op (after_transitions unused more) × CleanOp o.op
   pub from : (q : Write) → IsIn q (writes_of (after_transitions unused more).asked) → IsIn q (writes_of (after_transitions unused ds).asked) ⊎ ((q.call ≡ w.name) × IsOwnVote w ds q.act)
   pub begun : HasBegun w.name first outs ms ds more
@@ -279,7 +281,7 @@ sent_new : (c : Config) (w : Caller) (past : List Trace) (ms : List Action) (sit
 sent_new c w past ms site op ds mid one q (inl h) = elim (one.from q h) [ inl e ↦ inl e | inr e ↦ inr (e.0, e.1.1) ]
 sent_new c w past ms site op ds mid one q (inr h) = inr (h.0, λ v votes. elim (h.1 v votes) [ inl p ↦ write_before c w past ms site op ds mid v q.act one p | inr k ↦ inr k ])
 
-pub sends : (c : Config) (w : Caller) (past : List Trace) (first : ℕ) (outs : List Out) (ms : List Action) (ds : List Transition) → HasQuorums c → AreTransitions c unused ds → Keeps w.name past ms (after_transitions unused ds) → AreAllowed c w past (sent_from first outs ms) → (more : List Transition) × Sends c w past first outs ms ds more
+pub sends : (c : Config) (w : Caller) (past : List Trace) (first : ℕ) (outs : List Out) (ms : List Action) (ds : List Transition) → HasQuorums c → AreTransitions c unused ds → Keeps w past ms (after_transitions unused ds) → AreAllowed c w past (sent_from first outs ms) → (more : List Transition) × Sends c w past first outs ms ds more
 sends c w past first [] ms ds quorums are keeps allowed = (ds, record { are = are; only = only_itself (after_transitions unused ds); keeps = keeps; here = λ j o e. cc; from = λ q h. inl h; begun = record { others = λ x apart. refl; own = λ e. e }; on = same_on c w.name ms ds })
 sends c w past first (out ∷ outs) ms ds quorums are keeps allowed =
     let a = asked_of first out in
@@ -287,7 +289,7 @@ sends c w past first (out ∷ outs) ms ds quorums are keeps allowed =
     let k = ask_op c w past ms ds out.site (site_now ms out.site) out.op quorums are keeps base.1 (last_stands (after_transitions unused ds) ms out.site keeps.stands) base.0.asks in
     let one = k.1 in
     let stands : ActionsStand (after_transitions unused k.0) (Sent a ∷ ms) = (tt, stand_more (after_transitions unused ds) (after_transitions unused k.0) ms (λ r h. subst (IsIn r) (sym one.only.replies) h) keeps.stands) in
-    let now : Keeps w.name past (Sent a ∷ ms) (after_transitions unused k.0) = record { stands = stands; own = one.own; asked = one.asked; drawn = one.drawn; others = one.others } in
+    let now : Keeps w past (Sent a ∷ ms) (after_transitions unused k.0) = record { value = keeps.value; stands = stands; own = one.own; asked = one.asked; drawn = one.drawn; others = one.others } in
     let r = sends c w past (first + 1) outs (Sent a ∷ ms) k.0 quorums one.are now allowed in
     let rest = r.1 in (
       r.0,

@@ -16,9 +16,10 @@ use Rattle.gz_core.specs.declared.requests.Reply.{Reply}
 use Rattle.gz_core.specs.declared.requests.Reply.TheVariants.{Row, NoRow, Written, Changed, Failed}
 use Rattle.gz_core.specs.declared.requests.Turn.{Turn}
 use Rattle.gz_round.specs.declared.hearing.Seen.{Seen}
-use Rattle.gz_round.specs.History.{Asked, Action, Sent, Handed, GaveUp, Rested, GaveIn, Trace, IsClosing, is_row_request, asked_of, sent_from, begun, turned}
+use Rattle.gz_core.specs.History.{Asked, Action, Sent, Handed, GaveUp, Rested, GaveIn, Trace, IsClosing, is_row_request, asked_of, sent_from, begun, turned}
+use Rattle.gz_core.specs.declared.values.Value.{Value}
 use Rattle.gz_round.specs.Sending.{AreAllowed}
-use Rattle.gz_round.specs.Sites.{SiteNow, site_now, after_reply, after_sent, is_to, can_stand, seen_under, seen_in, written_by, is_changed}
+use Rattle.gz_round.specs.Sites.{SiteNow, site_now, after_reply, after_sent, is_to, seen_in, written_by, is_changed, as_heard}
 use Rattle.gz_client.specs.Traces.{AllKeepRules}
 use Rattle.gz_site.specs.Told.{Told, same_key}
 use Rattle.gz_ledger.specs.Agreements.{HasQuorums}
@@ -32,7 +33,7 @@ use Rattle.gz_world.specs.declared.events.Event.TheVariants as events
 use Rattle.gz_world.specs.Reached.{IsOpening, IsReached, opened, stepped, AllTell}
 use Rattle.gz_world.specs.Refusals.{refusal_of}
 use Rattle.gz_world.specs.States.{RequestAt, State, tick_of, next_of, numbered, with_reply, with_handed, with_given_up, sent_request, sent_requests}
-use Rattle.gz_world.specs.Steps.{Answers, BeginsBy, DeliversBy, TurnBy, TakesTurn, HasEffect, Does, Skips, WorldStep}
+use Rattle.gz_world.specs.Steps.{Answers, BeginsBy, DeliversBy, TurnBy, TakesTurn, HasEffect, Does, Skips, WorldStep, hears}
 use Rattle.gz_world.proofs.Members.{numbered_place, place_numbered}
 use Rattle.gz_world.proofs.Places.{get_set_same, get_set_other, get_append}
 use Rattle.gz_laws.specs.Agreed.{acceptor_kept}
@@ -53,16 +54,22 @@ use Rattle.gz_laws.proofs.Placing.{placed}
 use Rattle.gz_laws.proofs.RunDelivers.{both_tell, more_replies}
 use Rattle.gz_laws.proofs.Running.{runs, step_tell, acts_run, told_request, handed_action}
 use Rattle.gz_laws.proofs.Traces.{each_on, each_moved}
+use Rattle.gz_laws.proofs.AsHeard.{on_heard}
 
 -- a row goes forward from each that was heard from the site before
 abbrev pub EntryFollows : List RowSeen → ℕ → Option Seen → Type 0
 EntryFollows es s None = Unit {0}
 EntryFollows es s (Some seen) = (e : RowSeen) → IsIn e es → e.site ≡ s → Follows e.row (slots seen.row)
 
+-- a row is heard in reply to a request for it
+abbrev pub IsOfRowRequest : Op → Option Seen → Type 0
+IsOfRowRequest op None = Unit {0}
+IsOfRowRequest op (Some seen) = is_row_request op ≡ true
+
 abbrev pub HeardInOrder : List Action → Type 0
 HeardInOrder [] = Unit {0}
 HeardInOrder (Sent a ∷ ms) = HeardInOrder ms
-HeardInOrder (Handed a reply ∷ ms) = EntryFollows (heard_of ms) a.site (seen_in (written_by a.op) reply) × HeardInOrder ms
+HeardInOrder (Handed a reply ∷ ms) = (IsOfRowRequest a.op (seen_in (written_by a.op) reply) × EntryFollows (heard_of ms) a.site (seen_in (written_by a.op) reply)) × HeardInOrder ms
 HeardInOrder (GaveUp a ∷ ms) = HeardInOrder ms
 HeardInOrder (Rested ∷ ms) = HeardInOrder ms
 HeardInOrder (GaveIn ∷ ms) = HeardInOrder ms
@@ -81,31 +88,33 @@ if_awaits : {R : Type 0} (b : Bool) (x y : SiteNow) (o : Option Asked) → (if b
 if_awaits true x y o e f g = f refl e
 if_awaits false x y o e f g = g e
 
-pub awaits_site : (ms : List Action) (s : ℕ) (a : Asked) → (site_now ms s).awaits ≡ Some a → a.site ≡ s
-awaits_site [] s a e = cc
-awaits_site (Sent b ∷ ms) s a e =
+awaits_to : (ms : List Action) (s : ℕ) (a : Asked) → (site_now ms s).awaits ≡ Some a → is_to a s ≡ true
+awaits_to [] s a e = cc
+awaits_to (Sent b ∷ ms) s a e =
     if_awaits (is_to b s) (after_sent b (site_now ms s)) (site_now ms s) (Some a) e
-    (λ to now. elim (sent_or_before b (site_now ms s) a now) [ inl same ↦ ap (λ (k : Asked). k.site) (sym same) ∙ eqb-true b.site s (and_parts (is_row_request b.op) (b.site == s) to).1 | inr k ↦ awaits_site ms s a k ])
-    (awaits_site ms s a)
-awaits_site (Handed b reply ∷ ms) s a e = awaits_site ms s a (still_awaits (Handed b reply) ms s a (λ now. none_after (seen_in (written_by b.op) reply) (is_changed reply) now) e)
-awaits_site (GaveUp b ∷ ms) s a e = awaits_site ms s a (still_awaits (GaveUp b) ms s a (λ now. refl) e)
-awaits_site (Rested ∷ ms) s a e = awaits_site ms s a (still_awaits Rested ms s a (λ now. refl) e)
-awaits_site (GaveIn ∷ ms) s a e = awaits_site ms s a (still_awaits GaveIn ms s a (λ now. refl) e)
+    (λ to now. elim (sent_or_before b (site_now ms s) a now) [ inl same ↦ subst (λ (k : Asked). is_to k s ≡ true) same to | inr k ↦ awaits_to ms s a k ])
+    (awaits_to ms s a)
+awaits_to (Handed b reply ∷ ms) s a e = awaits_to ms s a (still_awaits (Handed b reply) ms s a (λ now. none_after (seen_in (written_by b.op) reply) (is_changed reply) now) e)
+awaits_to (GaveUp b ∷ ms) s a e = awaits_to ms s a (still_awaits (GaveUp b) ms s a (λ now. refl) e)
+awaits_to (Rested ∷ ms) s a e = awaits_to ms s a (still_awaits Rested ms s a (λ now. refl) e)
+awaits_to (GaveIn ∷ ms) s a e = awaits_to ms s a (still_awaits GaveIn ms s a (λ now. refl) e)
 
-row_asked : (op : Op) → is_row_request op ≡ true
-row_asked (ReadRow key) = refl
-row_asked (WriteRow key expect step row) = refl
+awaits_site : (ms : List Action) (s : ℕ) (a : Asked) → (site_now ms s).awaits ≡ Some a → a.site ≡ s
+awaits_site ms s a e = eqb-true a.site s (and_parts (is_row_request a.op) (a.site == s) (awaits_to ms s a e)).1
 
-pub to_here : (a : Asked) (s : ℕ) → a.site ≡ s → is_to a s ≡ true
-to_here a s same = ap (λ t. t && (a.site == s)) (row_asked a.op) ∙ (let t : (a.site == s) ≡ true = grind (arith, nat_tests) in t)
+awaits_row : (ms : List Action) (s : ℕ) (a : Asked) → (site_now ms s).awaits ≡ Some a → is_row_request a.op ≡ true
+awaits_row ms s a e = (and_parts (is_row_request a.op) (a.site == s) (awaits_to ms s a e)).0
 
-pub to_other : (a : Asked) (s : ℕ) → a.site ≢ s → is_to a s ≡ false
-to_other a s apart = ap (λ t. t && (a.site == s)) (row_asked a.op) ∙ (let t : (a.site == s) ≡ false = grind (arith, nat_tests) in t)
+pub to_here : (a : Asked) (s : ℕ) → is_row_request a.op ≡ true → a.site ≡ s → is_to a s ≡ true
+to_here a s row same = ap (λ t. t && (a.site == s)) row ∙ (let t : (a.site == s) ≡ true = grind (arith, nat_tests) in t)
+
+pub to_other : (a : Asked) (s : ℕ) → is_row_request a.op ≡ true → a.site ≢ s → is_to a s ≡ false
+to_other a s row apart = ap (λ t. t && (a.site == s)) row ∙ (let t : (a.site == s) ≡ false = grind (arith, nat_tests) in t)
 
 -- a site that answers awaits nothing, so a site that still awaits is another one
-other_site : (b : Asked) (reply : Reply) (ms : List Action) (s : ℕ) (a : Asked) → (site_now (Handed b reply ∷ ms) s).awaits ≡ Some a → b.site ≢ s
-other_site b reply ms s a e same =
-    let to = to_here b s same in
+other_site : (b : Asked) (reply : Reply) (ms : List Action) (s : ℕ) (a : Asked) → is_row_request b.op ≡ true → (site_now (Handed b reply ∷ ms) s).awaits ≡ Some a → b.site ≢ s
+other_site b reply ms s a row e same =
+    let to = to_here b s row same in
     let now = site_now ms s in
     let next = after_reply (seen_in (written_by b.op) reply) (is_changed reply) now in
     let here : next.awaits ≡ Some a = sym (ap (λ t. (if t then next else now).awaits) to) ∙ e in
@@ -200,13 +209,13 @@ order_same old new traces net h = λ n. subst (EachTrace (IsInOrder new.net)) (s
 theirs_order : (old new : List RequestAt) (t : Trace) → AreTheirs old new → IsCarriedInOrder old t → IsInOrder new t
 theirs_order old new t same h = record { heard = h.0.heard; awaited = theirs_follow old new t.caller.name t.actions same h.1 h.0.awaited }
 
-begin_order : (old new : State) (session : ℕ) (call : Call) (turn : Turn) (effect : Effect) → BeginsBy old session call turn effect new → AreCallsListed old → AreCarried old → AreInOrder old → AreInOrder new
-begin_order old new session call turn effect b l c h =
+begin_order : (old new : State) (session : ℕ) (call : Call) (own : Option Value) (turn : Turn) (effect : Effect) → BeginsBy old session call own turn effect new → AreCallsListed old → AreCarried old → AreInOrder old → AreInOrder new
+begin_order old new session call own turn effect b l c h =
     let past = old.traces session in
     let name : Name = record { session = session; seq = length past + 1 } in
     let tick = tick_of old in
     let first = next_of old in
-    let t = begun session call first turn past in
+    let t = begun session call own first turn past in
     let same = begin_theirs old.net new.net name tick turn.send b.net in
     let here : IsInOrder new.net t = record {
       heard = sent_heard first turn.send [] tt;
@@ -239,17 +248,25 @@ turn_order old new n r marked action by effect t kept heard awaited carry l c h 
     each_moved (IsCarriedInOrder old.net) (IsInOrder new.net) old new session after by.earlier t.moves l.told (λ u apart k. theirs_order old.net new.net u same k) here before.1
     (λ m. zip_carried old.net (IsInOrder old.net) (old.traces m) (c m) (h m))
 
-hand_order : (old new : State) (n which : ℕ) (r : RequestAt) (reply : ℕ × Reply) (by : TurnBy) (effect : Effect) → numbered r.replies which ≡ Some reply → TakesTurn old n r (λ a. Handed a reply.1) by (with_handed (tick_of old) which r) effect new → AreCallsListed old → AreCarried old → AreInOrder old → AreInOrder new
+of_row : (op : Op) (o : Option Seen) → is_row_request op ≡ true → IsOfRowRequest op o
+of_row op None row = tt
+of_row op (Some seen) row = row
+
+hand_order : (old new : State) (n which : ℕ) (r : RequestAt) (reply : ℕ × Reply) (by : TurnBy) (effect : Effect) → numbered r.replies which ≡ Some reply → TakesTurn old n r (hears reply.1) by (with_handed (tick_of old) which r) effect new → AreCallsListed old → AreCarried old → AreInOrder old → AreInOrder new
 hand_order old new n which r reply by effect there t l c h =
     let a = by.asked in
     let ms = by.trace.actions in
-    let request = told_request old new n r (with_handed (tick_of old) which r) (λ a. Handed a reply.1) by effect t c in
+    let request = told_request old new n r (with_handed (tick_of old) which r) (hears reply.1) by effect t c in
     let place = numbered_place r.replies which reply there in
-    turn_order old new n r (with_handed (tick_of old) which r) (λ a. Handed a reply.1) by effect t (kept_handed (tick_of old) which r)
-    (λ k. (subst (λ (op : Op). EntryFollows (heard_of ms) a.site (seen_in (written_by op) reply.1)) request.op_is (k.awaited a.site a t.awaited.awaits r request.there (which - 1) reply.0 reply.1 place.1), k.heard))
+    let heard = as_heard (written_by a.op) reply.1 in
+    let row = awaits_row ms a.site a t.awaited.awaits in
+    turn_order old new n r (with_handed (tick_of old) which r) (hears reply.1) by effect t (kept_handed (tick_of old) which r)
+    (λ k.
+    let shown = subst (λ (op : Op). EntryFollows (heard_of ms) a.site (seen_in (written_by op) reply.1)) request.op_is (k.awaited a.site a t.awaited.awaits r request.there (which - 1) reply.0 reply.1 place.1) in
+    ((of_row a.op (seen_in (written_by a.op) heard) row, on_heard (EntryFollows (heard_of ms) a.site) (written_by a.op) reply.1 tt shown), k.heard))
     (λ k s b e q at i tick one has.
-    let before = still_awaits (Handed a reply.1) ms s b (λ now. none_after (seen_in (written_by a.op) reply.1) (is_changed reply.1) now) e in
-    entry_other (heard_of ms) a.site s (seen_in (written_by a.op) reply.1) (seen_in (written_by q.op) one) (other_site a reply.1 ms s b e) (k.awaited s b before q at i tick one has))
+    let before = still_awaits (Handed a heard) ms s b (λ now. none_after (seen_in (written_by a.op) heard) (is_changed heard) now) e in
+    entry_other (heard_of ms) a.site s (seen_in (written_by a.op) heard) (seen_in (written_by q.op) one) (other_site a heard ms s b row e) (k.awaited s b before q at i tick one has))
     (handed_action old new n which r reply by effect there t c) l c h
 
 give_up_order : (old new : State) (n : ℕ) (r : RequestAt) (by : TurnBy) (effect : Effect) → TakesTurn old n r (λ a. GaveUp a) by (with_given_up (tick_of old) r) effect new → AreCallsListed old → AreCarried old → AreInOrder old → AreInOrder new
@@ -259,27 +276,17 @@ give_up_order old new n r by effect t l c h =
     (λ k s b e. k.awaited s b (still_awaits (GaveUp by.asked) ms s b (λ now. refl) e)) (r, told_request old new n r (with_given_up (tick_of old) r) (λ a. GaveUp a) by effect t c) l c h
 
 -- the row that a reply shows is the one that the site keeps
-under_row : (etag : Option ℕ) (row : RowAt) (seen : Seen) → seen_under etag row ≡ Some seen → row ≡ seen.row
-under_row etag row seen e =
-    elim (can_stand row) as (λ b. (if b then Some (let k : Seen = record { etag = etag; row = row } in k) else None) ≡ Some seen → row ≡ seen.row) [
-      | true ↦ λ k. (let same : (let x : Seen = record { etag = etag; row = row } in x) ≡ seen = cc in ap (λ (x : Seen). x.row) same)
-      | false ↦ λ k. cc
-    ] e
+same_row : (shown seen : Seen) → Some shown ≡ Some seen → slots shown.row ≡ slots seen.row
+same_row shown seen e = let same : shown ≡ seen = cc in ap (λ (x : Seen). slots x.row) same
 
 row_told : (before after : Told) (op : Op) (reply : Reply) (seen : Seen) → Answers before op reply after → seen_in (written_by op) reply ≡ Some seen → acceptor_kept (after.rows (key_asked op)) ≡ slots seen.row
-row_told before after (ReadRow k) (Row etag row) seen h e = ap acceptor_kept (ap (λ (t : Told). t.rows k) h.1 ∙ h.0) ∙ ap slots (under_row (Some etag) row seen e)
-row_told before after (ReadRow k) NoRow seen h e =
-    let same : (let x : Seen = record { etag = None; row = empty_row } in x) ≡ seen = cc in
-    ap acceptor_kept (ap (λ (t : Told). t.rows k) h.1 ∙ h.0) ∙ ap (λ (x : Seen). slots x.row) same
-row_told before after (ReadRow k) (Written etag) seen h e = absurd h
-row_told before after (ReadRow k) Changed seen h e = absurd h
-row_told before after (ReadRow k) Failed seen h e = cc
-row_told before after (WriteRow k expect step row) (Row etag shown) seen h e = absurd h
-row_told before after (WriteRow k expect step row) NoRow seen h e = absurd h
+row_told before after (ReadRow k) (Row etag row) seen h e = ap acceptor_kept (ap (λ (t : Told). t.rows k) h.1 ∙ h.0) ∙ same_row (record { etag = Some etag; row = row }) seen e
+row_told before after (ReadRow k) NoRow seen h e = ap acceptor_kept (ap (λ (t : Told). t.rows k) h.1 ∙ h.0) ∙ same_row (record { etag = None; row = empty_row }) seen e
 row_told before after (WriteRow k expect step row) (Written etag) seen h e =
-    ap acceptor_kept (h.1.rows k ∙ ap (λ b. cond b (Some (etag, row)) (before.rows k)) (same_key-refl k)) ∙ ap slots (under_row (Some etag) row seen e)
-row_told before after (WriteRow k expect step row) Changed seen h e = cc
-row_told before after (WriteRow k expect step row) Failed seen h e = cc
+    ap acceptor_kept (h.1.rows k ∙ ap (λ b. cond b (Some (etag, row)) (before.rows k)) (same_key-refl k)) ∙ same_row (record { etag = Some etag; row = row }) seen e
+row_told before after op (Row etag row) seen h e = absurd h
+row_told before after op NoRow seen h e = absurd h
+row_told before after op reply seen h e = cc
 
 -- it goes forward from each row that the call heard
 new_reply : (key : List ℕ) (s : State) (ds : List Transition) (t : Trace) (past : List Trace) (site : ℕ) (op : Op) (reply : Reply) (before after : Told) → IsRun key s ds → HasQuorums s.cfg → AreAllowed s.cfg t.caller past t.actions → ActionsCarried s.net t.caller.name t.actions → key_of t.caller.call ≡ key → key_asked op ≡ key
@@ -348,7 +355,7 @@ deliver_order old new n r reply effect d tells run l was now p h = λ m.
 
 does_order : (old new : State) (event : Event) (effect : Effect) → Does old event effect new → AllTell old → ((key : List ℕ) → (ds : List Transition) × IsRun key new ds) → AreCallsListed old → AreCarried old → AreCarried new → ArePlaced old → AreInOrder old → AreInOrder new
 does_order old new events.OpenSession effect d tells run l was now p h = order_same old new d.traces d.net h
-does_order old new (events.Begin session call) effect d tells run l was now p h = begin_order old new session call d.0 effect d.1 l was h
+does_order old new (events.Begin session call) effect d tells run l was now p h = begin_order old new session call d.0 d.1.0 effect d.1.1 l was h
 does_order old new (events.Deliver n) effect d tells run l was now p h = deliver_order old new n d.0 d.1.0 effect d.1.1 tells run l was now p h
 does_order old new (events.Reply n which) effect d tells run l was now p h = hand_order old new n which d.0 d.1.0 d.1.1.0 effect d.1.1.1.0 d.1.1.1.1 l was h
 does_order old new (events.GiveUp n) effect d tells run l was now p h = give_up_order old new n d.0 d.1.0 effect d.1.1 l was h

@@ -14,7 +14,7 @@ use Rattle.gz_core.specs.declared.rows.Column.{Column}
 use Rattle.gz_core.specs.declared.rows.Column.TheVariants.{Open, Decided}
 use Rattle.gz_config.specs.declared.Config.{Config}
 use Rattle.gz_pick.specs.Evidences.{votes_for, decides, is_for, is_named}
-use Rattle.gz_round.specs.History.{Asked, Action, Sent, Handed, GaveUp, Rested, GaveIn, is_row_request}
+use Rattle.gz_core.specs.History.{Asked, Action, Sent, Handed, GaveUp, Rested, GaveIn, is_row_request}
 use Rattle.gz_round.specs.declared.hearing.Seen.{Seen}
 use Rattle.gz_round.specs.Sites.{SiteNow, site_now, after, after_reply, is_to, seen_in, written_by, is_changed, passes, some_heard}
 use Rattle.gz_round.specs.Shown.{IsShown, IsNext}

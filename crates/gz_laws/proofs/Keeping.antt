@@ -1,13 +1,13 @@
 -- What the run of an object knows of the newest call of a session: all that the guards of its requests need.
 use Rattle.std.proofs.Common.{◌≡◌, ℕ, ◌+◌, ◌≤◌, ◌⊎◌, inl, inr, List, [], ◌∷◌, Some, length, refl, ap, sym, ◌∙◌, subst, arith}
 use Rattle.gz_core.specs.Names.{Name, BallotAt}
-use Rattle.gz_core.specs.Calls.{key_of}
+use Rattle.gz_core.specs.Calls.{key_of, IsOwn}
 use Rattle.gz_core.specs.Slots.{Act, Promises}
 use Rattle.gz_config.specs.declared.Config.{Config}
 use Rattle.gz_core.specs.declared.requests.Op.{Op}
 use Rattle.gz_core.specs.declared.requests.Op.TheVariants.{ReadRow, WriteRow}
 use Rattle.gz_core.specs.declared.requests.Reply.{Reply}
-use Rattle.gz_round.specs.History.{Asked, Action, Sent, Handed, GaveUp, Rested, GaveIn, Caller, Trace}
+use Rattle.gz_core.specs.History.{Asked, Action, Sent, Handed, GaveUp, Rested, GaveIn, Caller, Trace}
 use Rattle.gz_round.specs.Sites.{SiteNow, site_now, seen_in, written_by, is_changed}
 use Rattle.gz_round.specs.Sending.{AreAllowed, MayAsk}
 use Rattle.gz_client.specs.Traces.{AllKeepRules}
@@ -18,6 +18,7 @@ use Rattle.gz_laws.specs.Carried.{ActionCarried, ActionsCarried}
 use Rattle.gz_laws.specs.Heard.{SeenStands, ActionStands, ActionsStand, IsStepSent, SendsStep, SentStep, PastStep, Keeps, AskedHere}
 use Rattle.gz_laws.specs.Runs.{key_asked, RequestStands, IsSender, IsSentBy}
 use Rattle.gz_world.specs.States.{RequestAt, numbered}
+use Rattle.gz_laws.proofs.AsHeard.{of_reply}
 use Rattle.gz_laws.proofs.Carrying.{none_after, still_awaits, awaits_sent}
 use Rattle.gz_laws.proofs.Growing.{step_drawn}
 
@@ -25,6 +26,7 @@ use Rattle.gz_laws.proofs.Growing.{step_drawn}
 pub asks_key : (c : Config) (w : Caller) (past : List Trace) (ms : List Action) (now : SiteNow) (op : Op) → MayAsk c w past ms now op → key_asked op ≡ key_of w.call
 asks_key c w past ms now (ReadRow key) h = h.0
 asks_key c w past ms now (WriteRow key expect step row) h = h.0
+asks_key c w past ms now op h = absurd h
 
 -- a request that a call awaits is of its object
 pub awaited_key : (c : Config) (w : Caller) (past : List Trace) (ms : List Action) (s : ℕ) (a : Asked) → AreAllowed c w past ms → (site_now ms s).awaits ≡ Some a → key_asked a.op ≡ key_of w.call
@@ -50,24 +52,25 @@ handed_stands key net st name a reply all is h =
     let has = h.1.1 in
     let stands = all a.number r req.there (ap key_asked req.op_is ∙ is) in
     subst (λ (o : Op). SeenStands st a.site (seen_in (written_by o) reply)) req.op_is
-    (subst (λ (s : ℕ). SeenStands st s (seen_in (written_by r.op) reply)) req.site_is (stands.replies has.place has.tick reply has.there))
+    (subst (λ (s : ℕ). SeenStands st s (seen_in (written_by r.op) reply)) req.site_is
+    (of_reply (SeenStands st r.site) r reply has tt (stands.replies has.place has.tick has.made has.there)))
 
 -- what a call of the object heard was shown by the store
 pub actions_stand : (key : List ℕ) (net : List RequestAt) (st : Store) (c : Config) (w : Caller) (past : List Trace) (ms : List Action) → AllStand key net st → key_of w.call ≡ key → AreAllowed c w past ms → ActionsCarried net w.name ms → ActionsStand st ms
 actions_stand key net st c w past [] all is allowed h = tt
 actions_stand key net st c w past (Sent a ∷ ms) all is allowed h = (tt, actions_stand key net st c w past ms all is allowed.1 h.1)
 actions_stand key net st c w past (Handed a reply ∷ ms) all is allowed h =
-    (handed_stands key net st w.name a reply all (awaited_key c w past ms a.site a allowed.1 allowed.0 ∙ is) h.0, actions_stand key net st c w past ms all is allowed.1 h.1)
+    (handed_stands key net st w.name a reply all (awaited_key c w past ms a.site a allowed.1 allowed.0.0 ∙ is) h.0, actions_stand key net st c w past ms all is allowed.1 h.1)
 actions_stand key net st c w past (GaveUp a ∷ ms) all is allowed h = (tt, actions_stand key net st c w past ms all is allowed.1 h.1)
 actions_stand key net st c w past (Rested ∷ ms) all is allowed h = (tt, actions_stand key net st c w past ms all is allowed.1 h.1)
 actions_stand key net st c w past (GaveIn ∷ ms) all is allowed h = (tt, actions_stand key net st c w past ms all is allowed.1 h.1)
 
 -- the write of a request is the store's
 op_asked : (st : Store) (name : Name) (site : ℕ) (op : Op) (act : Act) → AskedHere name site op st → IsStepSent op act → (q : Write) × (IsIn q (writes_of st.asked) × ((q.call ≡ name) × (q.act ≡ act)))
-op_asked st name site (ReadRow key) act h is = absurd is
 op_asked st name site (WriteRow key expect step row) act h is =
     let e = h.1.0.1 in
     (h.0.write, (writes_in st.asked h.0 h.1.1, (ap (λ (k : WriteSent). k.write.call) e, ap (λ (k : WriteSent). k.write.act) e ∙ is)))
+op_asked st name site op act h is = absurd is
 
 -- each write that a call of the object sent is the store's
 pub sent_asked : (key : List ℕ) (net : List RequestAt) (st : Store) (c : Config) (w : Caller) (past : List Trace) (ms : List Action) (act : Act) → AllStand key net st → key_of w.call ≡ key → AreAllowed c w past ms → ActionsCarried net w.name ms → SentStep ms act
@@ -91,8 +94,8 @@ sent_asked key net st c w past (GaveIn ∷ ms) act all is allowed h (inr e) = se
 
 -- the ballots that a call promised are of its session
 op_drawn : (c : Config) (w : Caller) (past : List Trace) (ms : List Action) (now : SiteNow) (op : Op) (v : ℕ) (b : BallotAt) → MayAsk c w past ms now op → IsStepSent op (Promises v b) → b.session ≡ w.name.session
-op_drawn c w past ms now (ReadRow key) v b may is = absurd is
 op_drawn c w past ms now (WriteRow key expect step row) v b may is = step_drawn c w past ms step v b may.1.guard is
+op_drawn c w past ms now op v b may is = absurd is
 
 actions_drawn : (c : Config) (w : Caller) (past : List Trace) (ms : List Action) (v : ℕ) (b : BallotAt) → AreAllowed c w past ms → SentStep ms (Promises v b) → b.session ≡ w.name.session
 actions_drawn c w past [] v b allowed h = absurd h
@@ -149,11 +152,12 @@ other_of key t ts name act (inr h) = inr (sent_past key name act ts h)
 
 -- what the store knows of the newest call of a session
 pub keeps_newest : (c : Config) (key : List ℕ) (net : List RequestAt) (traces : ℕ → List Trace) (st : Store) (session : ℕ) (t : Trace) (ts : List Trace) → ((n : ℕ) → AllKeepRules c n (traces n)) → AllStand key net st → AllSent key traces st → traces session ≡ t ∷ ts → key_of t.caller.call ≡ key → ActionsCarried net t.caller.name t.actions
-    → Keeps t.caller.name ts t.actions st
+    → Keeps t.caller ts t.actions st
 keeps_newest c key net traces st session t ts told all sent is here carried =
     let mine : AllKeepRules c session (t ∷ ts) = subst (AllKeepRules c session) is (told session) in
     let place : t.caller.name.session ≡ session = ap (λ (x : Name). x.session) mine.1 in
     record {
+      value = mine.0.own;
       stands = actions_stand key net st c t.caller ts t.actions all here mine.0.allowed carried;
       own = λ q i same. (own_sender c key session t ts q.call q.act mine same (here_sent key traces st session (t ∷ ts) sent is q i (ap (λ (x : Name). x.session) same ∙ place))).sent;
       asked = λ act h. sent_asked key net st c t.caller ts t.actions act all here mine.0.allowed carried h;
@@ -162,15 +166,16 @@ keeps_newest c key net traces st session t ts told all sent is here carried =
     }
 
 -- and of a call that begins
-pub keeps_fresh : (c : Config) (key : List ℕ) (traces : ℕ → List Trace) (st : Store) (session : ℕ) (name : Name) → ((n : ℕ) → AllKeepRules c n (traces n)) → AllSent key traces st → name ≡ record { session = session; seq = length (traces session) + 1 } → Keeps name (traces session) [] st
-keeps_fresh c key traces st session name told sent is =
-    let place : name.session ≡ session = ap (λ (x : Name). x.session) is in
-    let count : name.seq ≡ length (traces session) + 1 = ap (λ (x : Name). x.seq) is in
+pub keeps_fresh : (c : Config) (key : List ℕ) (traces : ℕ → List Trace) (st : Store) (session : ℕ) (w : Caller) → ((n : ℕ) → AllKeepRules c n (traces n)) → AllSent key traces st → w.name ≡ record { session = session; seq = length (traces session) + 1 } → IsOwn w.name w.call w.own → Keeps w (traces session) [] st
+keeps_fresh c key traces st session w told sent is value =
+    let place : w.name.session ≡ session = ap (λ (x : Name). x.session) is in
+    let count : w.name.seq ≡ length (traces session) + 1 = ap (λ (x : Name). x.seq) is in
     record {
+      value = value;
       stands = tt;
       own = λ q i same.
           let most = sent_most c session key q.call q.act (traces session) (told session) (here_sent key traces st session (traces session) sent refl q i (ap (λ (x : Name). x.session) same ∙ place)) in
-          let seq : q.call.seq ≡ name.seq = ap (λ (x : Name). x.seq) same in
+          let seq : q.call.seq ≡ w.name.seq = ap (λ (x : Name). x.seq) same in
           absurd (omega (arith, most, seq, count));
       asked = λ act h. absurd h;
       drawn = all_drawn c key traces st told sent;
@@ -178,8 +183,9 @@ keeps_fresh c key traces st session name told sent is =
     }
 
 -- one more action that sends nothing
-pub keeps_action : (name : Name) (past : List Trace) (m : Action) (ms : List Action) (st : Store) → ActionStands st m → ((act : Act) → SendsStep m act → ⊥) → Keeps name past ms st → Keeps name past (m ∷ ms) st
-keeps_action name past m ms st stands none k = record {
+pub keeps_action : (w : Caller) (past : List Trace) (m : Action) (ms : List Action) (st : Store) → ActionStands st m → ((act : Act) → SendsStep m act → ⊥) → Keeps w past ms st → Keeps w past (m ∷ ms) st
+keeps_action w past m ms st stands none k = record {
+  value = k.value;
   stands = (stands, k.stands);
   own = λ q i same. inr (k.own q i same);
   asked = λ act h. elim h [ inl e ↦ absurd (none act e) | inr e ↦ k.asked act e ];

@@ -4,7 +4,7 @@ use Rattle.std.proofs.lemmas.Bool.{cases_eq, cases_lt, or_cases, or_left, or_rig
 use Rattle.std.proofs.lemmas.Option.{slice_get_read, get_or_from_slice_get}
 use Rattle.std.specs.Prelude.{Option, Contains, ◌==◌, slice_get}
 use Rattle.gz_core.specs.Names.{Name}
-use Rattle.gz_core.specs.Calls.{key_of, own_value}
+use Rattle.gz_core.specs.Calls.{key_of, IsOwn}
 use Rattle.gz_core.specs.Puts.{PutData}
 use Rattle.gz_core.specs.Values.{name_of}
 use Rattle.gz_core.specs.declared.values.Value.{Value}
@@ -14,12 +14,13 @@ use Rattle.gz_core.specs.Slots.{Act}
 use Rattle.gz_core.specs.declared.calls.Answer.{Answer}
 use Rattle.gz_core.specs.declared.calls.Answer.TheVariants.{Ok, Bytes, Gone, Absent, NoQuorum, Contended, Unsure}
 use Rattle.gz_core.specs.declared.calls.Call.{Call}
-use Rattle.gz_core.specs.declared.calls.Call.TheVariants.{Put, Delete, Get}
 use Rattle.gz_config.specs.declared.Config.{Config}
-use Rattle.gz_round.specs.History.{Action, Caller, Trace}
+use Rattle.gz_core.specs.History.{Action, Caller, Trace}
+use Rattle.gz_core.specs.declared.calls.Call.TheVariants.{GetAt}
 use Rattle.gz_round.specs.Sent.{vote_by, of_sent, passes_sent, voted, voted_at}
+use Rattle.gz_round.specs.Starting.{IsWithin}
 use Rattle.gz_client.specs.Traces.{IsAnswered, AllKeepRules}
-use Rattle.gz_history.specs.Answers.{shows, names, read_from, bytes_read, bytes_written, IsWrite, IsPut, IsDelete, Writes, MayTakeEffect}
+use Rattle.gz_history.specs.Answers.{shows, names, read_from, bytes_read, bytes_written, IsWrite, Writes, MayTakeEffect, AnswersAsked}
 use Rattle.gz_history.specs.Legal.{IsBefore, IsBeforeEnd, Agree, TakeEffectOnce, ReadsAWrite, ReturnWritten, IsLegal}
 use Rattle.gz_history.specs.declared.record.CallRec.{CallRec}
 use Rattle.gz_ledger.specs.Histories.{RowSeen, IsIn, IsShownByRows, VotesFor}
@@ -35,12 +36,12 @@ use Rattle.gz_laws.specs.Recorded.{IsNamedIn, TracesRecorded, AreRecorded}
 use Rattle.gz_laws.specs.Valued.{IsGiven, AreValued}
 use Rattle.gz_laws.specs.Runs.{IsSender, IsSentBy, IsRun}
 use Rattle.gz_world.specs.States.{State}
-use Rattle.gz_laws.proofs.Agreeing.{agreed, named_shown, shown_positive, no_write, keeps_order}
+use Rattle.gz_laws.proofs.Agreeing.{agreed, named_shown, shown_positive, keeps_order}
 use Rattle.gz_laws.proofs.Keeping.{sent_most}
 use Rattle.gz_laws.proofs.Listing.{among_name}
 use Rattle.gz_world.proofs.Places.{get_below}
 use Rattle.gz_laws.proofs.RunAnswers.{call_trace, call_told}
-use Rattle.gz_laws.proofs.Sending.{sent_votes, own_named}
+use Rattle.gz_laws.proofs.Sending.{sent_votes}
 use Rattle.gz_laws.proofs.Carrying.{carried}
 use Rattle.gz_laws.proofs.Listing.{listed}
 use Rattle.gz_laws.proofs.Placing.{placed}
@@ -48,6 +49,7 @@ use Rattle.gz_laws.proofs.Recording.{recorded}
 use Rattle.gz_laws.proofs.Running.{runs}
 use Rattle.gz_laws.proofs.Values.{heard_given}
 use Rattle.gz_laws.proofs.Valuing.{valued, net_given}
+use Rattle.gz_laws.proofs.Owning.{own_of, own_named, own_put, own_tomb, no_write}
 
 contains_get : {A : Type 0} (xs : List A) (x : A) → Contains xs x → (i : ℕ) × (slice_get xs i ≡ Some x)
 contains_get xs x h = (h.0, slice_get_read xs (length xs) h.0 x refl h.1 (sym h.2))
@@ -94,7 +96,7 @@ sender_trace c session key call act [] told among h = absurd h
 sender_trace c session key call act (t ∷ ts) told (inl e) (inl h) = record { past = ts; trace = t; is = e; sender = h }
 sender_trace c session key call act (t ∷ ts) told (inl e) (inr h) =
     let most = sent_most c session key call.name act ts told.2 h in
-    let seq : call.name.seq ≡ length ts + 1 = ap (λ (x : Name). x.seq) (sym (ap (λ (w : Caller). w.name) e.caller) ∙ told.1) in
+    let seq : call.name.seq ≡ length ts + 1 = ap (λ (x : Name). x.seq) (sym e.name_is ∙ told.1) in
     absurd (omega (arith, most, seq))
 sender_trace c session key call act (t ∷ ts) told (inr e) (inl h) =
     let most = (among_name c session call ts told.2 e).1 in
@@ -124,6 +126,7 @@ effect_of c t (Some Absent) h v = tt
 effect_of c t (Some (NoQuorum phase heard)) h v = let bad : true ≡ false = sym v ∙ h.0 in cc
 effect_of c t (Some (Contended met)) h v = let bad : true ≡ false = sym v ∙ h.0 in cc
 effect_of c t (Some (Unsure why)) h v = tt
+effect_of c t (Some answer) h v = absurd h
 
 -- the rows that transitions showed before are among those that they showed later
 early_seen : (late early : List Transition) (e : RowSeen) → IsIn e (seen_after unused early) → IsIn e (seen_after unused (late ++ early))
@@ -134,31 +137,17 @@ early_seen (Written a t ∷ late) early e h = inr (early_seen late early e h)
 early_seen (Failed a t ∷ late) early e h = early_seen late early e h
 early_seen (Elsewhere s t ∷ late) early e h = early_seen late early e h
 
--- a call whose own value is a put's writes its bytes, and one whose own value is a tombstone deletes
-own_put : (name : Name) (call : Call) (p : PutData) → own_value name call ≡ Some (PutOf p) → IsPut call × (bytes_written call ≡ Some p.bytes)
-own_put name (Put key bytes) p e =
-    let d : PutData = record { name = name; bytes = bytes } in
-    let same : d ≡ p = cc in
-    (tt, ap (λ (q : PutData). Some q.bytes) same)
-own_put name (Delete key) p e = cc
-own_put name (Get key) p e = cc
-
-own_tomb : (name y : Name) (call : Call) → own_value name call ≡ Some (Tomb y) → IsDelete call
-own_tomb name y (Put key bytes) e = cc
-own_tomb name y (Delete key) e = tt
-own_tomb name y (Get key) e = cc
-
 -- what the answer of a call that reads shows: a value that was heard, and so what a call of that value writes
 pub record IsReading (c : Config) (t : Trace) (answer : Option Answer) (x : Name) : Type 0 where
   pub version : ℕ
   pub value : Value
   pub shows_it : shows answer ≡ Some version
   pub names_it : (own : Name) → names own answer ≡ Some x
-  pub reads : own_value t.caller.name t.caller.call ≡ None
+  pub reads : t.caller.own ≡ None
   pub named : name_of value ≡ x
   pub heard : IsValueHeard t.actions version value
-  pub writes : (name : Name) (call : Call) → own_value name call ≡ Some value → Writes answer call
-  pub written : (name : Name) (call : Call) (bytes : List ℕ) → own_value name call ≡ Some value → bytes_read answer ≡ Some bytes → bytes_written call ≡ Some bytes
+  pub writes : (name : Name) (call : Call) → IsOwn name call (Some value) → Writes answer call
+  pub written : (name : Name) (call : Call) (bytes : List ℕ) → IsOwn name call (Some value) → bytes_read answer ≡ Some bytes → bytes_written call ≡ Some bytes
 
 pub reading : (c : Config) (t : Trace) (answer : Option Answer) (x : Name) → IsAnswered c t answer → read_from answer ≡ Some x → IsReading c t answer x
 reading c t None x h e = cc
@@ -194,6 +183,7 @@ reading c t (Some Absent) x h e = cc
 reading c t (Some (NoQuorum phase heard)) x h e = cc
 reading c t (Some (Contended met)) x h e = cc
 reading c t (Some (Unsure why)) x h e = cc
+reading c t (Some answer) x h e = absurd h
 
 same_call : (xs : List CallRec) (i j : ℕ) (a b : CallRec) → i ≡ j → slice_get xs i ≡ Some a → slice_get xs j ≡ Some b → a ≡ b
 same_call xs i j a b at h k = let both : Some a ≡ Some b = sym h ∙ ap (slice_get xs) at ∙ k in cc
@@ -215,7 +205,7 @@ not_after key s ds i j v a b x k ga gb ka kb shows_it shown name before =
     ]
 
 began_before : (key : List ℕ) (s : State) (ds : List Transition) (i j v : ℕ) (a b : CallRec) (x own : Name) (o : Option ℕ) → IsKnownRun key s ds → slice_get s.calls i ≡ Some a → slice_get s.calls j ≡ Some b → key_of a.call ≡ key → key_of b.call ≡ key
-    → shows a.answer ≡ Some v → IsShownByRows s.cfg (seen_after unused ds) v x → b.name ≡ x → own_value own a.call ≡ None → IsWrite b.call → a.end ≡ o → IsBeforeEnd b.begin o
+    → shows a.answer ≡ Some v → IsShownByRows s.cfg (seen_after unused ds) v x → b.name ≡ x → IsOwn own a.call None → IsWrite b.call → a.end ≡ o → IsBeforeEnd b.begin o
 began_before key s ds i j v a b x own None k ga gb ka kb shows_it shown name reads write e = tt
 began_before key s ds i j v a b x own (Some end) k ga gb ka kb shows_it shown name reads write e = elim (cases_lt b.begin end) [
   | inl l ↦ l
@@ -230,14 +220,14 @@ began_before key s ds i j v a b x own (Some end) k ga gb ka kb shows_it shown na
     below m n le ne = grind arith
 
 -- the value that a call read is the own one of the call that it names
-own_read : (s : State) (t : Trace) (answer : Option Answer) (x : Name) (j : ℕ) (b : CallRec) → AreCallsListed s → AreValued s → ActionsCarried s.net t.caller.name t.actions → (r : IsReading s.cfg t answer x) → slice_get s.calls j ≡ Some b → b.name ≡ x → own_value b.name b.call ≡ Some r.value
+own_read : (s : State) (t : Trace) (answer : Option Answer) (x : Name) (j : ℕ) (b : CallRec) → AreCallsListed s → AreValued s → ActionsCarried s.net t.caller.name t.actions → (r : IsReading s.cfg t answer x) → slice_get s.calls j ≡ Some b → b.name ≡ x → IsOwn b.name b.call (Some r.value)
 own_read s t answer x j b listed valued carried r gb name =
     let heard = r.heard in
     let given : IsGiven s.calls r.value = heard_given s.calls s.net t.caller.name t.actions (net_given s valued) carried heard.0 heard.1 heard.2 r.version r.value heard.3 in
     let own : given.1.name ≡ b.name = sym (own_named given.1.name given.1.call r.value given.3) ∙ r.named ∙ sym name in
     let at = listed.apart given.0 j given.1 b given.2 gb own in
     let same = same_call s.calls given.0 j given.1 b at given.2 gb in
-    subst (λ (q : CallRec). own_value q.name q.call ≡ Some r.value) same given.3
+    subst (λ (q : CallRec). IsOwn q.name q.call (Some r.value)) same given.3
 
 -- the call that an answer names is in the history, and writes what was read
 pub reads_a_write : (key : List ℕ) (s : State) (ds : List Transition) (i : ℕ) (a : CallRec) → IsKnownRun key s ds → slice_get s.calls i ≡ Some a → key_of a.call ≡ key → ReadsAWrite s.calls a
@@ -255,8 +245,8 @@ reads_a_write key s ds i a k ga ka = λ x from.
     let name : b.name ≡ x = n.3 ∙ p.own in
     let so = sender_trace c b.name.session key b q.act (s.traces b.name.session) (k.listed.told b.name.session) (k.listed.traces n.0 b n.2) (subst (λ (y : Name). IsSentBy key y q.act (s.traces y.session)) (sym n.3) by) in
     let t = so.trace in
-    let call : t.caller.call ≡ b.call = ap (λ (w : Caller). w.call) so.is.caller in
-    let own : a.call ≡ h.trace.caller.call = sym (ap (λ (w : Caller). w.call) h.is.caller) in
+    let call : t.caller.call ≡ b.call = so.is.call_is in
+    let own : a.call ≡ h.trace.caller.call = sym h.is.call_is in
     let write : IsWrite b.call = subst IsWrite call (so.sender.write v (subst (VotesFor q.act v) (sym name) p.votes)) in
     let value = own_read s h.trace a.answer x n.0 b k.listed k.valued h.carried r n.2 name in
     let kb : key_of b.call ≡ key = sym (ap key_of call) ∙ so.sender.key_is in
@@ -268,7 +258,7 @@ reads_a_write key s ds i a k ga ka = λ x from.
           name = name;
           key = kb ∙ sym ka;
           write = r.writes b.name b.call value;
-          began = began_before key s ds i n.0 v a b x h.trace.caller.name a.end k ga n.2 ka kb r.shows_it shown name (ap (own_value h.trace.caller.name) own ∙ r.reads) write refl;
+          began = began_before key s ds i n.0 v a b x h.trace.caller.name a.end k ga n.2 ka kb r.shows_it shown name (subst (λ (q : Call). IsOwn h.trace.caller.name q None) (sym own) (own_of h.trace.caller None h.is.told.own r.reads)) write refl;
           effect = effect_of c t b.answer (subst (IsAnswered c t) so.is.answer so.is.told.answered) (voted_some t.caller.name t.actions v (sent_votes t.actions q.act v t.caller.name so.sender.sent cast));
         },
       ),
@@ -287,6 +277,11 @@ known : (key : List ℕ) (s : State) → IsReached s → AllTell s → (ds : Lis
 known key s reached tell =
     let k = runs key s reached tell in
     (k.0, record { run = k.1; listed = listed s reached; carries = carried s reached; placed = placed s reached; recorded = recorded s reached; valued = valued s reached tell })
+
+-- no call asks for a version by its number
+keeps_asked : (call : Call) (answer : Option Answer) → IsWithin call → AnswersAsked call answer
+keeps_asked (GetAt key version) answer within = absurd within
+keeps_asked call answer within = tt
 
 pub legal : (s : State) → IsReached s → AllTell s → IsLegal s.calls
 legal s reached tell = record {
@@ -314,4 +309,8 @@ legal s reached tell = record {
       let x = contains_get s.calls a ca in
       let y = contains_get s.calls b cb in
       returns_written (key_of a.call) s k.0 x.0 y.0 a b k.1 x.1 y.1 refl;
+  asked = λ a ca.
+      let k = known (key_of a.call) s reached tell in
+      let x = contains_get s.calls a ca in
+      keeps_asked a.call a.answer (call_trace (key_of a.call) s k.0 x.0 a k.1.run k.1.listed k.1.carries x.1 refl).is.within;
 }

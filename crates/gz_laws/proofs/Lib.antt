@@ -1,6 +1,8 @@
 pub mod Agreeing
 pub mod Agreement
+pub mod AsHeard
 pub mod Beginning
+pub mod BlobSteps
 pub mod Bounding
 pub mod Carrying
 pub mod CastRuns
@@ -21,6 +23,7 @@ pub mod Legality
 pub mod Listing
 pub mod Nets
 pub mod Overtaking
+pub mod Owning
 pub mod Placing
 pub mod Promising
 pub mod Recording

@@ -8,7 +8,8 @@ use Rattle.gz_core.specs.declared.calls.Answer.{Answer}
 use Rattle.gz_core.specs.declared.calls.Call.{Call}
 use Rattle.gz_config.specs.declared.Config.{Config}
 use Rattle.gz_core.specs.declared.requests.Turn.{Turn}
-use Rattle.gz_round.specs.History.{Asked, Action, Handed, GaveUp, Caller, Trace, begun, turned}
+use Rattle.gz_core.specs.History.{Asked, Action, Handed, GaveUp, Caller, Trace, begun, turned}
+use Rattle.gz_core.specs.declared.values.Value.{Value}
 use Rattle.gz_client.specs.Traces.{KeepsRules, AllKeepRules}
 use Rattle.gz_history.specs.declared.record.CallRec.{CallRec}
 use Rattle.gz_world.specs.declared.events.Effect.{Effect}
@@ -18,14 +19,14 @@ use Rattle.gz_laws.specs.Listed.{IsTraceOf, IsAmong, AreCallsListed}
 use Rattle.gz_world.specs.Reached.{IsOpening, IsReached, opened, stepped}
 use Rattle.gz_world.specs.Refusals.{refusal_of}
 use Rattle.gz_world.specs.States.{RequestAt, State, tick_of, next_of, end_at}
-use Rattle.gz_world.specs.Steps.{SessionMoves, BeginsBy, TurnBy, TakesTurn, CallEnds, answered, HasEffect, Does, Skips, WorldStep}
+use Rattle.gz_world.specs.Steps.{SessionMoves, BeginsBy, TurnBy, TakesTurn, CallEnds, answered, HasEffect, Does, Skips, WorldStep, hears}
 use Rattle.gz_world.proofs.Places.{get_set_same, get_set_other, get_of_two, get_one}
 
 -- the name of a call is of its session, and counts no more than the calls of the session
 pub among_name : (c : Config) (session : ℕ) (call : CallRec) (ts : List Trace) → AllKeepRules c session ts → IsAmong c call ts → (call.name.session ≡ session) × (call.name.seq ≤ length ts)
 among_name c session call [] told h = absurd h
 among_name c session call (t ∷ ts) told h = elim h [
-  | inl e ↦ (let n : call.name ≡ record { session = session; seq = length ts + 1 } = sym (ap (λ (w : Caller). w.name) e.caller) ∙ told.1 in
+  | inl e ↦ (let n : call.name ≡ record { session = session; seq = length ts + 1 } = sym e.name_is ∙ told.1 in
       let q : call.name.seq ≡ length ts + 1 = ap (λ (x : Name). x.seq) n in
       (ap (λ (x : Name). x.session) n, omega (arith, q)))
   | inr e ↦ (let r = among_name c session call ts told.2 e in let l = r.1 in (r.0, omega (arith, l)))
@@ -94,23 +95,23 @@ begun_apart old session call turn l i j a b h k e =
       ]
     ]
 
-begun_among : (old new : State) (session : ℕ) (call : Call) (turn : Turn) (effect : Effect) (i : ℕ) (a : CallRec) → BeginsBy old session call turn effect new → AreCallsListed old
+begun_among : (old new : State) (session : ℕ) (call : Call) (own : Option Value) (turn : Turn) (effect : Effect) (i : ℕ) (a : CallRec) → BeginsBy old session call own turn effect new → AreCallsListed old
     → slice_get (old.calls ++ fresh_call old session call turn ∷ []) i ≡ Some a → IsAmong new.cfg a (new.traces a.name.session)
-begun_among old new session call turn effect i a b l h =
-    let ts = begun session call (next_of old) turn (old.traces session) ∷ old.traces session in
+begun_among old new session call own turn effect i a b l h =
+    let ts = begun session call own (next_of old) turn (old.traces session) ∷ old.traces session in
     elim (get_of_two old.calls (fresh_call old session call turn ∷ []) i a h) [
       | inl x ↦ elim (cases_eq a.name.session session) [
         | inl e ↦ subst (λ k. IsAmong new.cfg a (new.traces k)) (sym e) (among_here old new a session ts b.frame.cfg b.moves (inr (subst (λ k. IsAmong old.cfg a (old.traces k)) e (l.traces i a x))))
         | inr ne ↦ among_same old new a a.name.session b.frame.cfg (traces_there old new session a.name.session ts b.moves ne) (l.traces i a x)
       ]
       | inr x ↦ subst (λ (c : CallRec). IsAmong new.cfg c (new.traces c.name.session)) (get_one (fresh_call old session call turn) a x.0 x.1.1).1
-          (among_here old new (fresh_call old session call turn) session ts b.frame.cfg b.moves (inl (record { caller = refl; answer = refl; told = b.moves.told.0 })))
+          (among_here old new (fresh_call old session call turn) session ts b.frame.cfg b.moves (inl (record { name_is = refl; call_is = refl; answer = refl; within = b.within; told = b.moves.told.0 })))
     ]
 
-begin_listed : (old new : State) (session : ℕ) (call : Call) (turn : Turn) (effect : Effect) → BeginsBy old session call turn effect new → AreCallsListed old → AreCallsListed new
-begin_listed old new session call turn effect b l = record {
-  told = moved_told old new session (begun session call (next_of old) turn (old.traces session) ∷ old.traces session) b.frame.cfg b.moves l.told;
-  traces = λ i a h. begun_among old new session call turn effect i a b l (subst (λ cs. slice_get cs i ≡ Some a) b.calls h);
+begin_listed : (old new : State) (session : ℕ) (call : Call) (own : Option Value) (turn : Turn) (effect : Effect) → BeginsBy old session call own turn effect new → AreCallsListed old → AreCallsListed new
+begin_listed old new session call own turn effect b l = record {
+  told = moved_told old new session (begun session call own (next_of old) turn (old.traces session) ∷ old.traces session) b.frame.cfg b.moves l.told;
+  traces = λ i a h. begun_among old new session call own turn effect i a b l (subst (λ cs. slice_get cs i ≡ Some a) b.calls h);
   apart = λ i j x y h k e. begun_apart old session call turn l i j x y (subst (λ cs. slice_get cs i ≡ Some x) b.calls h) (subst (λ cs. slice_get cs j ≡ Some y) b.calls k) e;
 }
 
@@ -120,8 +121,8 @@ answered_name tick None c = refl
 answered_name tick (Some answer) c = refl
 
 answered_trace : (cfg : Config) (tick : ℕ) (o : Option Answer) (c : CallRec) (past : List Trace) (t after : Trace) → t.answer ≡ None → after.caller ≡ t.caller → after.answer ≡ o → KeepsRules cfg past after → IsTraceOf cfg c past t → IsTraceOf cfg (answered tick o c) past after
-answered_trace cfg tick None c past t after runs caller answer told e = record { caller = caller ∙ e.caller; answer = answer ∙ sym runs ∙ e.answer; told = told }
-answered_trace cfg tick (Some a) c past t after runs caller answer told e = record { caller = caller ∙ e.caller; answer = answer; told = told }
+answered_trace cfg tick None c past t after runs caller answer told e = record { name_is = ap (λ (w : Caller). w.name) caller ∙ e.name_is; call_is = ap (λ (w : Caller). w.call) caller ∙ e.call_is; answer = answer ∙ sym runs ∙ e.answer; within = e.within; told = told }
+answered_trace cfg tick (Some a) c past t after runs caller answer told e = record { name_is = ap (λ (w : Caller). w.name) caller ∙ e.name_is; call_is = ap (λ (w : Caller). w.call) caller ∙ e.call_is; answer = answer; within = e.within; told = told }
 
 -- the newest of some traces is that of the call with its name
 pub newest : (cfg : Config) (session : ℕ) (c : CallRec) (t : Trace) (ts : List Trace) → AllKeepRules cfg session (t ∷ ts) → IsAmong cfg c (t ∷ ts) → c.name ≡ t.caller.name → IsTraceOf cfg c ts t
@@ -161,7 +162,7 @@ turn_other old new session by after t j c l apart h =
     elim (cases_eq c.name.session session) [
       | inl e ↦ subst (λ k. IsAmong new.cfg c (new.traces k)) (sym e) (among_here old new c session (after ∷ by.earlier) t.cfg t.moves
           (elim (subst (IsAmong old.cfg c) (ap old.traces e ∙ t.traces) (l.traces j c h)) [
-            | inl f ↦ absurd (apart (l.apart j t.calls.0 c t.calls.1.0 h t.calls.1.1.0 (sym (ap (λ (w : Caller). w.name) f.caller) ∙ sym t.calls.1.1.1.0)))
+            | inl f ↦ absurd (apart (l.apart j t.calls.0 c t.calls.1.0 h t.calls.1.1.0 (sym f.name_is ∙ sym t.calls.1.1.1.0)))
             | inr f ↦ inr f
           ]))
       | inr ne ↦ among_same old new c c.name.session t.cfg (traces_there old new session c.name.session (after ∷ by.earlier) t.moves ne) (l.traces j c h)
@@ -213,12 +214,12 @@ turns old new n r marked action by effect t = record {
 
 does_listed : (old new : State) (event : Event) (effect : Effect) → Does old event effect new → AreCallsListed old → AreCallsListed new
 does_listed old new events.OpenSession effect d l = listed_same old new d.frame.cfg d.traces d.calls l
-does_listed old new (events.Begin session call) effect d l = begin_listed old new session call d.0 effect d.1 l
+does_listed old new (events.Begin session call) effect d l = begin_listed old new session call d.0 d.1.0 effect d.1.1 l
 does_listed old new (events.Deliver n) effect d l = listed_same old new d.1.1.frame.cfg d.1.1.sessions.traces d.1.1.sessions.calls l
 does_listed old new (events.Reply n which) effect d l =
     let r = d.0 in
     let by = d.1.1.0 in
-    turn_listed old new r.name.session by _ (turns old new n r _ (λ a. Handed a d.1.0.1) by effect d.1.1.1.1) l
+    turn_listed old new r.name.session by _ (turns old new n r _ (hears d.1.0.1) by effect d.1.1.1.1) l
 does_listed old new (events.GiveUp n) effect d l =
     let r = d.0 in
     let by = d.1.0 in

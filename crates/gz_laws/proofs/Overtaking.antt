@@ -15,9 +15,10 @@ use Rattle.gz_core.specs.declared.requests.Reply.TheVariants.{Row, NoRow, Writte
 use Rattle.gz_core.specs.declared.requests.RowStep.{RowStep}
 use Rattle.gz_core.specs.declared.requests.Turn.{Turn}
 use Rattle.gz_round.specs.declared.hearing.Seen.{Seen}
-use Rattle.gz_round.specs.History.{Asked, Action, Sent, Handed, GaveUp, Rested, GaveIn, Caller, Trace, is_row_request, asked_of, sent_from}
+use Rattle.gz_core.specs.History.{Asked, Action, Sent, Handed, GaveUp, Rested, GaveIn, Caller, Trace, is_row_request, asked_of, sent_from}
+use Rattle.gz_core.specs.declared.values.Value.{Value}
 use Rattle.gz_round.specs.Sending.{AreAllowed, MayAsk}
-use Rattle.gz_round.specs.Sites.{SiteNow, site_now, after, after_reply, after_sent, is_to, can_stand, seen_under, seen_in, written_by, is_changed}
+use Rattle.gz_round.specs.Sites.{SiteNow, site_now, after, after_reply, after_sent, is_to, seen_in, written_by, is_changed, as_heard}
 use Rattle.gz_site.specs.Told.{Told, Tells, etag_of}
 use Rattle.gz_site.specs.Steps.{RowStored}
 use Rattle.gz_world.specs.declared.events.Effect.{Effect}
@@ -27,7 +28,7 @@ use Rattle.gz_world.specs.declared.events.Event.TheVariants as events
 use Rattle.gz_world.specs.Reached.{IsOpening, IsReached, opened, stepped}
 use Rattle.gz_world.specs.Refusals.{refusal_of}
 use Rattle.gz_world.specs.States.{RequestAt, State, tick_of, next_of, numbered, with_reply, with_handed, with_given_up, sent_request, sent_requests}
-use Rattle.gz_world.specs.Steps.{Answers, BeginsBy, DeliversBy, TurnBy, TakesTurn, HasEffect, Does, Skips, WorldStep}
+use Rattle.gz_world.specs.Steps.{Answers, BeginsBy, DeliversBy, TurnBy, TakesTurn, HasEffect, Does, Skips, WorldStep, hears}
 use Rattle.gz_world.proofs.Members.{numbered_place, place_numbered}
 use Rattle.gz_world.proofs.Places.{get_last, get_of_two, get_one, get_set_same}
 use Rattle.gz_laws.specs.Carried.{ActionCarried, ActionsCarried, TracesCarried, AreCarried}
@@ -42,6 +43,8 @@ use Rattle.gz_laws.proofs.Placing.{acts_journal}
 use Rattle.gz_laws.proofs.RunSends.{closing_allowed}
 use Rattle.gz_laws.proofs.RunTools.{set_cases}
 use Rattle.gz_laws.proofs.Running.{told_request, handed_action, told_before}
+use Rattle.gz_laws.proofs.AsHeard.{heard_shown}
+use Rattle.gz_laws.proofs.BlobSteps.{blob_leaves}
 
 -- what a reply showed stays as requests go on
 reply_later : (old new : List RequestAt) (n : ℕ) (r : RequestAt) (place tick : ℕ) (reply : Reply) → Grows old new → IsReplyAt old n r place tick reply → (q : RequestAt) × (IsReplyAt new n q place tick reply × IsLater r q)
@@ -49,8 +52,8 @@ reply_later old new n r place tick reply grows h =
     let k = grows n r h.request in
     (k.0, (record { request = k.1.0; made = k.1.1.replies place (tick, reply) h.made }, k.1.1))
 
-written_later : (old new : List RequestAt) (key : List ℕ) (site from until more : ℕ) → Grows old new → until ≤ more → IsWrittenBetween old key site from until → IsWrittenBetween new key site from more
-written_later old new key site from until more grows le h =
+written_later : (old new : List RequestAt) (key : List ℕ) (tag : Option ℕ) (site from until more : ℕ) → Grows old new → until ≤ more → IsWrittenBetween old key tag site from until → IsWrittenBetween new key tag site from more
+written_later old new key tag site from until more grows le h =
     let k = reply_later old new h.number h.request h.place h.tick h.reply grows h.made in
     let before = h.before in
     record {
@@ -61,7 +64,7 @@ written_later old new key site from until more grows le h =
       reply = h.reply;
       made = k.1.0;
       at = k.1.1.site ∙ h.at;
-      writes = subst (λ (o : Op). IsWriteOf o key) (sym k.1.1.op) h.writes;
+      writes = subst (λ (o : Op). IsWriteOf o key tag) (sym k.1.1.op) h.writes;
       performed = h.performed;
       after = h.after;
       before = omega (arith, before, le);
@@ -109,33 +112,27 @@ stay_overtaken old new ticks more le sites grows from sent asked o = record {
       let k = from n place tick q reply h in
       let same = k.1.1.1.alike in
       let was = o.stands k.0 place tick k.1.0 reply tag k.1.1.0 shows told (sym (sites k.1.0.site) ∙ ap new.sites (sym same.site) ∙ is) in
-      subst (λ (op : Op). (etag_of (told.rows (key_asked op)) ≡ tag) ⊎ IsWrittenBetween new.net (key_asked op) q.site tick (more + 1)) (sym same.op)
-      (subst (λ site. (etag_of (told.rows (key_asked k.1.0.op)) ≡ tag) ⊎ IsWrittenBetween new.net (key_asked k.1.0.op) site tick (more + 1)) (sym same.site)
-      (elim was [ inl e ↦ inl e | inr w ↦ inr (written_later old.net new.net (key_asked k.1.0.op) k.1.0.site tick (ticks + 1) (more + 1) grows (omega (arith, le)) w) ]));
+      subst (λ (op : Op). (etag_of (told.rows (key_asked op)) ≡ tag) ⊎ IsWrittenBetween new.net (key_asked op) tag q.site tick (more + 1)) (sym same.op)
+      (subst (λ site. (etag_of (told.rows (key_asked k.1.0.op)) ≡ tag) ⊎ IsWrittenBetween new.net (key_asked k.1.0.op) tag site tick (more + 1)) (sym same.site)
+      (elim was [ inl e ↦ inl e | inr w ↦ inr (written_later old.net new.net (key_asked k.1.0.op) tag k.1.0.site tick (ticks + 1) (more + 1) grows (omega (arith, le)) w) ]));
   changed = λ n place tick q key expect step row h is tells m p first x reply g at own tag before.
       let k = from n place tick q Changed h in
       let f = from m p first x reply g in
       let same = k.1.1.1.alike in
       let too = f.1.1.1.alike in
       let w = o.changed k.0 place tick k.1.0 key expect step row k.1.1.0 (sym same.op ∙ is) (subst IsSome (ap new.sites same.site ∙ sites k.1.0.site) tells) f.0 p first f.1.0 reply f.1.1.0 (sym too.site ∙ at ∙ same.site) (ap key_asked (sym too.op) ∙ own) tag before in
-      subst (λ site. IsWrittenBetween new.net key site first tick) (sym same.site) (written_later old.net new.net key k.1.0.site first tick tick grows (omega arith) w);
+      subst (λ site. IsWrittenBetween new.net key expect site first tick) (sym same.site) (written_later old.net new.net key expect k.1.0.site first tick tick grows (omega arith) w);
 }
 
 -- a row that was heard was shown by a reply
-under_tag : (etag : Option ℕ) (row : RowAt) (seen : Seen) → seen_under etag row ≡ Some seen → Some etag ≡ Some seen.etag
-under_tag etag row seen e =
-    elim (can_stand row) as (λ b. (if b then Some (let k : Seen = record { etag = etag; row = row } in k) else None) ≡ Some seen → Some etag ≡ Some seen.etag) [
-      | true ↦ λ k. (let same : (let x : Seen = record { etag = etag; row = row } in x) ≡ seen = cc in ap (λ (x : Seen). Some x.etag) same)
-      | false ↦ λ k. cc
-    ] e
+same_tag : (shown seen : Seen) → Some shown ≡ Some seen → Some shown.etag ≡ Some seen.etag
+same_tag shown seen e = let same : shown ≡ seen = cc in ap (λ (x : Seen). Some x.etag) same
 
 seen_tag : (written : Option RowAt) (reply : Reply) (seen : Seen) → seen_in written reply ≡ Some seen → tag_shown reply ≡ Some seen.etag
-seen_tag written (Row etag row) seen e = under_tag (Some etag) row seen e
-seen_tag written NoRow seen e = let same : (let x : Seen = record { etag = None; row = empty_row } in x) ≡ seen = cc in ap (λ (x : Seen). Some x.etag) same
-seen_tag None (Written etag) seen e = cc
-seen_tag (Some row) (Written etag) seen e = under_tag (Some etag) row seen e
-seen_tag written Changed seen e = cc
-seen_tag written Failed seen e = cc
+seen_tag written (Row etag row) seen e = same_tag (record { etag = Some etag; row = row }) seen e
+seen_tag written NoRow seen e = same_tag (record { etag = None; row = empty_row }) seen e
+seen_tag (Some row) (Written etag) seen e = same_tag (record { etag = Some etag; row = row }) seen e
+seen_tag written reply seen e = cc
 
 -- the last row of a site that its call heard is that of a reply
 if_row : {R : Type 0} (b : Bool) (x y : SiteNow) (o : Option Seen) → (if b then x else y).row ≡ o → (b ≡ true → x.row ≡ o → R) → (y.row ≡ o → R) → R
@@ -159,18 +156,19 @@ handed_shown net w a reply r seen own about to is carried =
     let q = carried.0 in
     let req = carried.1.0 in
     let has = carried.1.1 in
-    let site = (and_parts (is_row_request a.op) (a.site == r.site) to).1 in (
+    let site = (and_parts (is_row_request a.op) (a.site == r.site) to).1 in
+    let heard : reply ≡ as_heard (written_by a.op) has.made = has.heard ∙ ap (λ op. as_heard (written_by op) has.made) req.op_is in (
       has.tick,
       record {
         number = a.number;
         request = q;
         place = has.place;
-        reply = reply;
+        reply = has.made;
         made = record { request = req.there; made = has.there };
         own = req.name_is ∙ sym own;
         at = req.site_is ∙ eqb-true a.site r.site site;
         about = ap key_asked req.op_is ∙ about;
-        tag = seen_tag (written_by a.op) reply seen is;
+        tag = seen_tag (written_by a.op) has.made seen (heard_shown (written_by a.op) has.made seen (ap (seen_in (written_by a.op)) (sym heard) ∙ is));
       },
     )
 
@@ -181,7 +179,7 @@ last_shown net c w past (Handed a reply ∷ ms) r seen own allowed carried e =
     let before = last_shown net c w past ms r seen own allowed.1 carried.1 in
     if_row (is_to a r.site) (after_reply (seen_in (written_by a.op) reply) (is_changed reply) (site_now ms r.site)) (site_now ms r.site) (Some seen) e
     (λ to now. reply_row (seen_in (written_by a.op) reply) (is_changed reply) (site_now ms r.site) seen now
-    (λ is. handed_shown net w a reply r seen own (awaited_key c w past ms a.site a allowed.1 allowed.0) to is carried.0) before) before
+    (λ is. handed_shown net w a reply r seen own (awaited_key c w past ms a.site a allowed.1 allowed.0.0) to is carried.0) before) before
 last_shown net c w past (GaveUp a ∷ ms) r seen own allowed carried e =
     let before = last_shown net c w past ms r seen own allowed.1 carried.1 in
     if_row (is_to a r.site) (after (GaveUp a) (site_now ms r.site)) (site_now ms r.site) (Some seen) e (λ to now. before now) before
@@ -244,11 +242,11 @@ same_overtaken old new ticks more le sites net over =
     (λ n q h. on_later old.net new.net q q grows refl refl refl refl (over.sent n q (subst (λ xs. numbered xs n ≡ Some q) net h)))
     (λ n q h. let l = over.asked n q (subst (λ xs. numbered xs n ≡ Some q) net h) in omega (arith, l, le)) over
 
-begin_overtaken : (old new : State) (session : ℕ) (call : Call) (turn : Turn) (effect : Effect) → BeginsBy old session call turn effect new → AreOvertaken old → AreOvertakenBy (tick_of old) new
-begin_overtaken old new session call turn effect b over =
+begin_overtaken : (old new : State) (session : ℕ) (call : Call) (own : Option Value) (turn : Turn) (effect : Effect) → BeginsBy old session call own turn effect new → AreOvertaken old → AreOvertakenBy (tick_of old) new
+begin_overtaken old new session call own turn effect b over =
     let past = old.traces session in
     let name : Name = record { session = session; seq = length past + 1 } in
-    let w : Caller = record { name = name; call = call } in
+    let w : Caller = record { name = name; call = call; own = own } in
     let outs = sent_requests name (tick_of old) turn.send in
     let grows : Grows old.net new.net = grows_then old.net (old.net ++ outs) new.net (grows_append old.net outs) (grows_same (old.net ++ outs) new.net b.net) in
     moves_overtaken old new (length old.journal) (next_of old) w past turn.send [] b.sites.sites grows (begin_cases old.net new.net name (tick_of old) turn.send b.net) b.moves.told.0.allowed tt over
@@ -278,32 +276,33 @@ stored_rows before told k etag row key P done f = elim (key_cases k key) [
 left_rows : (before told : Told) (key : List ℕ) (P : Type 0) → told ≡ before → (told.rows key ≡ before.rows key) ⊎ P
 left_rows before told key P e = inl (ap (λ (t : Told). t.rows key) e)
 
-rows_cases : (before told : Told) (op : Op) (reply : Reply) (key : List ℕ) → Answers before op reply told → (told.rows key ≡ before.rows key) ⊎ (IsWriteOf op key × (may_be_performed reply ≡ true))
+-- the tag that a write expects is that of the row that stands
+on_tag : (before : Told) (k key : List ℕ) (expect : Option ℕ) → k ≡ key → etag_of (before.rows k) ≡ expect → expect ≡ etag_of (before.rows key)
+on_tag before k key expect same e = sym e ∙ ap (λ x. etag_of (before.rows x)) same
+
+-- a delivery leaves a row as it was, or is of a write of it on its tag
+rows_cases : (before told : Told) (op : Op) (reply : Reply) (key : List ℕ) → Answers before op reply told → (told.rows key ≡ before.rows key) ⊎ (IsWriteOf op key (etag_of (before.rows key)) × (may_be_performed reply ≡ true))
 rows_cases before told (ReadRow k) (Row etag row) key h = left_rows before told key _ h.1
 rows_cases before told (ReadRow k) NoRow key h = left_rows before told key _ h.1
-rows_cases before told (ReadRow k) (Written etag) key h = absurd h
-rows_cases before told (ReadRow k) Changed key h = absurd h
 rows_cases before told (ReadRow k) Failed key h = left_rows before told key _ h
-rows_cases before told (WriteRow k expect step row) (Row etag shown) key h = absurd h
-rows_cases before told (WriteRow k expect step row) NoRow key h = absurd h
-rows_cases before told (WriteRow k expect step row) (Written etag) key h = stored_rows before told k etag row key _ h.1 (λ same. (same, refl))
+rows_cases before told (ReadRow k) reply key h = absurd h
+rows_cases before told (WriteRow k expect step row) (Written etag) key h = stored_rows before told k etag row key _ h.1 (λ same. ((same, on_tag before k key expect same h.0), refl))
 rows_cases before told (WriteRow k expect step row) Changed key h = left_rows before told key _ h.1
-rows_cases before told (WriteRow k expect step row) Failed key h = elim h [ inl e ↦ left_rows before told key _ e | inr d ↦ stored_rows before told k d.0 row key _ d.2 (λ same. (same, refl)) ]
+rows_cases before told (WriteRow k expect step row) Failed key h = elim h [ inl e ↦ left_rows before told key _ e | inr d ↦ stored_rows before told k d.0 row key _ d.2 (λ same. ((same, on_tag before k key expect same d.1), refl)) ]
+rows_cases before told (WriteRow k expect step row) reply key h = absurd h
+rows_cases before told op reply key h = inl (ap (λ (rows : List ℕ → Option (ℕ × RowAt)). rows key) (blob_leaves before told op reply refl h).rows)
 
 -- the tag that a reply shows is that of the row that stands
 tag_stands : (before told : Told) (op : Op) (reply : Reply) (tag : Option ℕ) → Answers before op reply told → tag_shown reply ≡ Some tag → etag_of (told.rows (key_asked op)) ≡ tag
 tag_stands before told (ReadRow k) (Row etag row) tag h e = let same : Some etag ≡ tag = cc in ap etag_of (ap (λ (t : Told). t.rows k) h.1 ∙ h.0) ∙ same
 tag_stands before told (ReadRow k) NoRow tag h e = let same : None ≡ tag = cc in ap etag_of (ap (λ (t : Told). t.rows k) h.1 ∙ h.0) ∙ same
-tag_stands before told (ReadRow k) (Written etag) tag h e = absurd h
-tag_stands before told (ReadRow k) Changed tag h e = absurd h
-tag_stands before told (ReadRow k) Failed tag h e = cc
-tag_stands before told (WriteRow k expect step row) (Row etag shown) tag h e = absurd h
-tag_stands before told (WriteRow k expect step row) NoRow tag h e = absurd h
 tag_stands before told (WriteRow k expect step row) (Written etag) tag h e =
     let same : Some etag ≡ tag = cc in
     ap etag_of (h.1.rows k ∙ ap (λ b. cond b (Some (etag, row)) (before.rows k)) (same_key-refl k)) ∙ same
-tag_stands before told (WriteRow k expect step row) Changed tag h e = cc
-tag_stands before told (WriteRow k expect step row) Failed tag h e = cc
+tag_stands before told op (Row etag row) tag h e = absurd h
+tag_stands before told op NoRow tag h e = absurd h
+tag_stands before told op (Written etag) tag h e = absurd h
+tag_stands before told op reply tag h e = cc
 
 -- a write is refused where another tag stands
 refused_tag : (before told : Told) (op : Op) (key : List ℕ) (expect : Option ℕ) (step : RowStep) (row : RowAt) → op ≡ WriteRow key expect step row → Answers before op Changed told → etag_of (before.rows key) ≢ expect
@@ -372,44 +371,44 @@ own_reply old new n r reply effect d =
 
 -- of a reply that was made before, at the site of the delivery
 stands_here : (old new : State) (n : ℕ) (r : RequestAt) (reply : Reply) (effect : Effect) (q : RequestAt) (tick : ℕ) (tag : Option ℕ) (told : Told) → DeliversBy old n r reply effect new → q.site ≡ r.site → tick ≤ length old.journal → StandsOrWritten old (length old.journal) q tick tag → new.sites q.site ≡ Some told
-    → (etag_of (told.rows (key_asked q.op)) ≡ tag) ⊎ IsWrittenBetween new.net (key_asked q.op) q.site tick (tick_of old + 1)
+    → (etag_of (told.rows (key_asked q.op)) ≡ tag) ⊎ IsWrittenBetween new.net (key_asked q.op) tag q.site tick (tick_of old + 1)
 stands_here old new n r reply effect q tick tag told d same passed was is =
     let k = tells_some (old.sites r.site) (new.sites r.site) (λ before after. Answers before r.op reply after) told d.site (ap new.sites (sym same) ∙ is) in
     let key = key_asked q.op in
     let grows = deliver_grows old new n r reply effect d in
-    elim (rows_cases k.0 told r.op reply key k.1.1) [
-      | inl left ↦ elim (was k.0 (ap old.sites same ∙ k.1.0)) [
-        | inl e ↦ inl (ap etag_of left ∙ e)
-        | inr w ↦ inr (written_later old.net new.net key q.site tick (length old.journal + 1) (tick_of old + 1) grows (omega arith) w)
+    elim (was k.0 (ap old.sites same ∙ k.1.0)) [
+      | inl e ↦ elim (rows_cases k.0 told r.op reply key k.1.1) [
+        | inl left ↦ inl (ap etag_of left ∙ e)
+        | inr wrote ↦ inr (record {
+          number = n;
+          request = with_reply (tick_of old) reply r;
+          place = length r.replies;
+          tick = tick_of old;
+          reply = reply;
+          made = own_reply old new n r reply effect d;
+          at = sym same;
+          writes = subst (IsWriteOf r.op key) e wrote.0;
+          performed = wrote.1;
+          after = omega (arith, passed);
+          before = omega arith;
+        })
       ]
-      | inr wrote ↦ inr (record {
-        number = n;
-        request = with_reply (tick_of old) reply r;
-        place = length r.replies;
-        tick = tick_of old;
-        reply = reply;
-        made = own_reply old new n r reply effect d;
-        at = sym same;
-        writes = wrote.0;
-        performed = wrote.1;
-        after = omega (arith, passed);
-        before = omega arith;
-      })
+      | inr w ↦ inr (written_later old.net new.net key tag q.site tick (length old.journal + 1) (tick_of old + 1) grows (omega arith) w)
     ]
 
 stands_there : (old new : State) (n : ℕ) (r : RequestAt) (reply : Reply) (effect : Effect) (q : RequestAt) (tick : ℕ) (tag : Option ℕ) (told : Told) → DeliversBy old n r reply effect new → q.site ≢ r.site → StandsOrWritten old (length old.journal) q tick tag → new.sites q.site ≡ Some told
-    → (etag_of (told.rows (key_asked q.op)) ≡ tag) ⊎ IsWrittenBetween new.net (key_asked q.op) q.site tick (tick_of old + 1)
+    → (etag_of (told.rows (key_asked q.op)) ≡ tag) ⊎ IsWrittenBetween new.net (key_asked q.op) tag q.site tick (tick_of old + 1)
 stands_there old new n r reply effect q tick tag told d apart was is = elim (was told (sym (d.others q.site apart) ∙ is)) [
   | inl e ↦ inl e
-  | inr w ↦ inr (written_later old.net new.net (key_asked q.op) q.site tick (length old.journal + 1) (tick_of old + 1) (deliver_grows old new n r reply effect d) (omega arith) w)
+  | inr w ↦ inr (written_later old.net new.net (key_asked q.op) tag q.site tick (length old.journal + 1) (tick_of old + 1) (deliver_grows old new n r reply effect d) (omega arith) w)
 ]
 
 deliver_stands : (old new : State) (n : ℕ) (r : RequestAt) (reply : Reply) (effect : Effect) → DeliversBy old n r reply effect new → AreOvertaken old → (m place tick : ℕ) (q : RequestAt) (given : Reply) (tag : Option ℕ) → IsReplyAt new.net m q place tick given → tag_shown given ≡ Some tag → StandsOrWritten new (tick_of old) q tick tag
 deliver_stands old new n r reply effect d over m place tick q given tag h shows told is = elim (deliver_replies old new n r reply effect d m place tick q given h) [
   | inl k ↦ (let was = over.stands k.number place tick k.request given tag k.made shows in
       let passed = (over.made k.number place tick k.request given k.made).1 in
-      subst (λ (op : Op). (etag_of (told.rows (key_asked op)) ≡ tag) ⊎ IsWrittenBetween new.net (key_asked op) q.site tick (tick_of old + 1)) (sym k.op)
-      (subst (λ site. (etag_of (told.rows (key_asked k.request.op)) ≡ tag) ⊎ IsWrittenBetween new.net (key_asked k.request.op) site tick (tick_of old + 1)) (sym k.site)
+      subst (λ (op : Op). (etag_of (told.rows (key_asked op)) ≡ tag) ⊎ IsWrittenBetween new.net (key_asked op) tag q.site tick (tick_of old + 1)) (sym k.op)
+      (subst (λ site. (etag_of (told.rows (key_asked k.request.op)) ≡ tag) ⊎ IsWrittenBetween new.net (key_asked k.request.op) tag site tick (tick_of old + 1)) (sym k.site)
       (let there : new.sites k.request.site ≡ Some told = ap new.sites (sym k.site) ∙ is in
       elim (cases_eq k.request.site r.site) [
         | inl e ↦ stands_here old new n r reply effect k.request tick tag told d e passed was there
@@ -419,7 +418,7 @@ deliver_stands old new n r reply effect d over m place tick q given tag h shows 
       let there : new.sites r.site ≡ Some told = subst (λ (x : RequestAt). new.sites x.site ≡ Some told) k.request is in
       let b = tells_some (old.sites r.site) (new.sites r.site) (λ before after. Answers before r.op reply after) told d.site there in
       let e = tag_stands b.0 told r.op reply tag b.1.1 (ap tag_shown (sym k.reply_is) ∙ shows) in
-      subst (λ (x : RequestAt). (etag_of (told.rows (key_asked x.op)) ≡ tag) ⊎ IsWrittenBetween new.net (key_asked x.op) x.site tick (tick_of old + 1)) (sym k.request) (inl e))
+      subst (λ (x : RequestAt). (etag_of (told.rows (key_asked x.op)) ≡ tag) ⊎ IsWrittenBetween new.net (key_asked x.op) tag x.site tick (tick_of old + 1)) (sym k.request) (inl e))
 ]
 
 -- a site that tells told before
@@ -435,7 +434,7 @@ some_there (Some told) h = (told, refl)
 
 -- the write that is refused now
 refused_now : (old new : State) (n : ℕ) (r : RequestAt) (effect : Effect) (key : List ℕ) (expect : Option ℕ) (step : RowStep) (row : RowAt) (k place from : ℕ) (q : RequestAt) (given : Reply) → DeliversBy old n r Changed effect new → AreOvertaken old → r.op ≡ WriteRow key expect step row → IsSome (new.sites r.site)
-    → IsReplyAt old.net k q place from given → q.site ≡ r.site → key_asked q.op ≡ key → tag_shown given ≡ Some expect → IsWrittenBetween new.net key r.site from (tick_of old)
+    → IsReplyAt old.net k q place from given → q.site ≡ r.site → key_asked q.op ≡ key → tag_shown given ≡ Some expect → IsWrittenBetween new.net key expect r.site from (tick_of old)
 refused_now old new n r effect key expect step row k place from q given d over is tells h at own tag =
     let told = some_there (new.sites r.site) tells in
     let b = tells_some (old.sites r.site) (new.sites r.site) (λ before after. Answers before r.op Changed after) told.0 d.site told.1 in
@@ -443,8 +442,8 @@ refused_now old new n r effect key expect step row k place from q given d over i
     let grows = deliver_grows old new n r Changed effect d in
     elim (over.stands k place from q given expect h tag b.0 (ap old.sites at ∙ b.1.0)) [
       | inl e ↦ absurd (refused (ap (λ x. etag_of (b.0.rows x)) (sym own) ∙ e))
-      | inr w ↦ subst (λ x. IsWrittenBetween new.net x r.site from (tick_of old)) own
-          (subst (λ site. IsWrittenBetween new.net (key_asked q.op) site from (tick_of old)) at (written_later old.net new.net (key_asked q.op) q.site from (length old.journal + 1) (tick_of old) grows (omega arith) w))
+      | inr w ↦ subst (λ x. IsWrittenBetween new.net x expect r.site from (tick_of old)) own
+          (subst (λ site. IsWrittenBetween new.net (key_asked q.op) expect site from (tick_of old)) at (written_later old.net new.net (key_asked q.op) expect q.site from (length old.journal + 1) (tick_of old) grows (omega arith) w))
     ]
 
 deliver_changed : (old new : State) (n : ℕ) (r : RequestAt) (reply : Reply) (effect : Effect) → DeliversBy old n r reply effect new → AreOvertaken old
@@ -456,7 +455,7 @@ deliver_changed old new n r reply effect d over m place tick q key expect step r
           elim (deliver_replies old new n r reply effect d k first from p given g) [
             | inl y ↦ (let w = over.changed x.number place tick x.request key expect step row x.made (sym x.op ∙ is) (told_there old new n r reply effect x.request.site d (subst (λ site. IsSome (new.sites site)) x.site tells))
                 y.number first from y.request given y.made (sym y.site ∙ at ∙ x.site) (ap key_asked (sym y.op) ∙ own) tag before in
-                subst (λ site. IsWrittenBetween new.net key site from tick) (sym x.site) (written_later old.net new.net key x.request.site from tick tick (deliver_grows old new n r reply effect d) (omega arith) w))
+                subst (λ site. IsWrittenBetween new.net key expect site from tick) (sym x.site) (written_later old.net new.net key expect x.request.site from tick tick (deliver_grows old new n r reply effect d) (omega arith) w))
             | inr y ↦ (let late = y.tick_is in absurd (omega (arith, late, before, passed)))
           ])
       | inr x ↦ (let here = x.tick_is in
@@ -465,7 +464,7 @@ deliver_changed old new n r reply effect d over m place tick q key expect step r
                 let own_op : q.op ≡ r.op = ap (λ (z : RequestAt). z.op) x.request in
                 let refused : DeliversBy old n r Changed effect new = subst (λ (z : Reply). DeliversBy old n r z effect new) (sym x.reply_is) d in
                 let w = refused_now old new n r effect key expect step row y.number first from y.request given refused over (sym own_op ∙ is) (subst (λ site. IsSome (new.sites site)) own_site tells) y.made (sym y.site ∙ at ∙ own_site) (ap key_asked (sym y.op) ∙ own) tag in
-                subst (λ until. IsWrittenBetween new.net key q.site from until) (sym here) (subst (λ site. IsWrittenBetween new.net key site from now) (sym own_site) w))
+                subst (λ until. IsWrittenBetween new.net key expect q.site from until) (sym here) (subst (λ site. IsWrittenBetween new.net key expect site from now) (sym own_site) w))
             | inr y ↦ (let late = y.tick_is in absurd (omega (arith, late, before, here)))
           ])
     ]
@@ -499,10 +498,10 @@ deliver_overtaken old new n r reply effect d over =
 
 does_overtaken : (old new : State) (event : Event) (effect : Effect) → Does old event effect new → AreCarried old → AreOvertaken old → AreOvertakenBy (tick_of old) new
 does_overtaken old new events.OpenSession effect d c over = same_overtaken old new (length old.journal) (tick_of old) (omega arith) d.sites.sites d.net over
-does_overtaken old new (events.Begin session call) effect d c over = begin_overtaken old new session call d.0 effect d.1 over
+does_overtaken old new (events.Begin session call) effect d c over = begin_overtaken old new session call d.0 d.1.0 effect d.1.1 over
 does_overtaken old new (events.Deliver n) effect d c over = deliver_overtaken old new n d.0 d.1.0 effect d.1.1 over
 does_overtaken old new (events.Reply n which) effect d c over =
-    turn_overtaken old new n d.0 (with_handed (tick_of old) which d.0) (λ a. Handed a d.1.0.1) d.1.1.0 effect d.1.1.1.1 (kept_handed (tick_of old) which d.0) (handed_later (tick_of old) which d.0) (handed_action old new n which d.0 d.1.0 d.1.1.0 effect d.1.1.1.0 d.1.1.1.1 c) c over
+    turn_overtaken old new n d.0 (with_handed (tick_of old) which d.0) (hears d.1.0.1) d.1.1.0 effect d.1.1.1.1 (kept_handed (tick_of old) which d.0) (handed_later (tick_of old) which d.0) (handed_action old new n which d.0 d.1.0 d.1.1.0 effect d.1.1.1.0 d.1.1.1.1 c) c over
 does_overtaken old new (events.GiveUp n) effect d c over =
     turn_overtaken old new n d.0 (with_given_up (tick_of old) d.0) (λ a. GaveUp a) d.1.0 effect d.1.1 (kept_given_up (tick_of old) d.0) (given_up_later (tick_of old) d.0)
     (d.0, told_request old new n d.0 (with_given_up (tick_of old) d.0) (λ a. GaveUp a) d.1.0 effect d.1.1 c) c over

@@ -10,7 +10,8 @@ use Rattle.gz_config.specs.declared.Config.{Config}
 use Rattle.gz_core.specs.declared.requests.Out.{Out}
 use Rattle.gz_core.specs.declared.requests.Reply.{Reply}
 use Rattle.gz_core.specs.declared.requests.Turn.{Turn}
-use Rattle.gz_round.specs.History.{Asked, Action, Sent, Handed, GaveUp, Caller, Trace, asked_of, sent_from, begun, turned}
+use Rattle.gz_core.specs.History.{Asked, Action, Sent, Handed, GaveUp, Caller, Trace, asked_of, sent_from, begun, turned}
+use Rattle.gz_core.specs.declared.values.Value.{Value}
 use Rattle.gz_round.specs.Sending.{AreAllowed}
 use Rattle.gz_history.specs.Broken.{IsHistory}
 use Rattle.gz_history.specs.declared.record.CallRec.{CallRec}
@@ -22,7 +23,7 @@ use Rattle.gz_laws.specs.Placed.{IsOfCall, ArePlacedBy, ArePlaced}
 use Rattle.gz_world.specs.Reached.{IsOpening, IsReached, opened, stepped}
 use Rattle.gz_world.specs.Refusals.{refusal_of}
 use Rattle.gz_world.specs.States.{RequestAt, State, tick_of, next_of, numbered, with_reply, with_handed, with_given_up, sent_request, end_at}
-use Rattle.gz_world.specs.Steps.{SessionMoves, BeginsBy, DeliversBy, TurnBy, TakesTurn, CallEnds, answered, HasEffect, Does, Skips, WorldStep}
+use Rattle.gz_world.specs.Steps.{SessionMoves, BeginsBy, DeliversBy, TurnBy, TakesTurn, CallEnds, answered, HasEffect, Does, Skips, WorldStep, hears}
 use Rattle.gz_laws.proofs.Beginning.{begun_open}
 use Rattle.gz_laws.proofs.Growing.{allowed_base}
 use Rattle.gz_laws.proofs.Listing.{listed, traces_here, traces_there}
@@ -95,12 +96,12 @@ end_answer : (tick : ℕ) (o : Option Answer) → is_some (end_at tick o) ≡ is
 end_answer tick None = refl
 end_answer tick (Some answer) = refl
 
-begin_placed : (old new : State) (session : ℕ) (call : Call) (turn : Turn) (effect : Effect) → BeginsBy old session call turn effect new → ArePlaced old → ArePlacedBy (tick_of old) new
-begin_placed old new session call turn effect b p =
+begin_placed : (old new : State) (session : ℕ) (call : Call) (own : Option Value) (turn : Turn) (effect : Effect) → BeginsBy old session call own turn effect new → ArePlaced old → ArePlacedBy (tick_of old) new
+begin_placed old new session call own turn effect b p =
     let past = old.traces session in
     let name : Name = record { session = session; seq = length past + 1 } in
-    let w : Caller = record { name = name; call = call } in
-    let t = begun session call (next_of old) turn past in
+    let w : Caller = record { name = name; call = call; own = own } in
+    let t = begun session call own (next_of old) turn past in
     let tick = tick_of old in
     let fresh : CallRec = record { name = name; call = call; begin = tick; end = end_at tick turn.answer; answer = turn.answer } in
     let cases : (i : ℕ) (d : CallRec) → slice_get new.calls i ≡ Some d → (slice_get old.calls i ≡ Some d) ⊎ ((fresh ≡ d) × (i ≡ length old.calls))
@@ -116,7 +117,7 @@ begin_placed old new session call turn effect b p =
       | inr k ↦ (let now = end_now tick end turn.answer (ap (λ (c : CallRec). c.end) k.0 ∙ e) in omega (arith, now))
     ] in
     let here : new.traces session ≡ t ∷ past = traces_here old new session (t ∷ past) b.moves in
-    let unanswered : turn.answer ≡ None = begun_open old.cfg past session call (next_of old) turn past p.config b.moves.told.0 in
+    let unanswered : turn.answer ≡ None = begun_open old.cfg past session call own (next_of old) turn past p.config b.moves.told.0 in
     record {
       config = subst IsConfig (sym b.frame.cfg) p.config;
       requests = sent_placed old new w past (next_of old) tick turn.send [] b.frame.cfg (moved_longer old new session (t ∷ past) b.moves (omega arith)) (begin_net old new name tick turn.send b.net) b.moves.told.0.allowed
@@ -276,9 +277,9 @@ given_up_alike tick r = record { name = refl; site = refl; op = refl; replies = 
 
 does_placed : (old new : State) (event : Event) (effect : Effect) → Does old event effect new → ArePlaced old → ArePlacedBy (tick_of old) new
 does_placed old new events.OpenSession effect d p = placed_same (length old.journal) (tick_of old) old new (omega arith) d.frame.cfg d.traces d.net d.calls p
-does_placed old new (events.Begin session call) effect d p = begin_placed old new session call d.0 effect d.1 p
+does_placed old new (events.Begin session call) effect d p = begin_placed old new session call d.0 d.1.0 effect d.1.1 p
 does_placed old new (events.Deliver n) effect d p = deliver_placed old new n d.0 d.1.0 effect d.1.1 p
-does_placed old new (events.Reply n which) effect d p = turn_placed old new n d.0 (with_handed (tick_of old) which d.0) (λ a. Handed a d.1.0.1) d.1.1.0 effect d.1.1.1.1 (handed_alike (tick_of old) which d.0) p
+does_placed old new (events.Reply n which) effect d p = turn_placed old new n d.0 (with_handed (tick_of old) which d.0) (hears d.1.0.1) d.1.1.0 effect d.1.1.1.1 (handed_alike (tick_of old) which d.0) p
 does_placed old new (events.GiveUp n) effect d p = turn_placed old new n d.0 (with_given_up (tick_of old) d.0) (λ a. GaveUp a) d.1.0 effect d.1.1 (given_up_alike (tick_of old) d.0) p
 does_placed old new (events.Crash session) effect d p = placed_same (length old.journal) (tick_of old) old new (omega arith) d.frame.cfg d.traces d.net d.calls p
 
@@ -291,7 +292,7 @@ acts_placed old new event effect acts p =
 
 does_journal : (old new : State) (event : Event) (effect : Effect) → Does old event effect new → new.journal ≡ old.journal
 does_journal old new events.OpenSession effect d = d.frame.journal
-does_journal old new (events.Begin session call) effect d = d.1.frame.journal
+does_journal old new (events.Begin session call) effect d = d.1.1.frame.journal
 does_journal old new (events.Deliver n) effect d = d.1.1.frame.journal
 does_journal old new (events.Reply n which) effect d = d.1.1.1.1.frame.journal
 does_journal old new (events.GiveUp n) effect d = d.1.1.frame.journal

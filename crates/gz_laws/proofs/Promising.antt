@@ -17,10 +17,10 @@ use Rattle.gz_config.specs.declared.Config.{Config}
 use Rattle.gz_core.specs.declared.requests.RowStep.{RowStep}
 use Rattle.gz_core.specs.declared.requests.RowStep.TheVariants.{FastVote, Promise, ClassicVote, Decide, Trim}
 use Rattle.gz_core.specs.declared.requests.Op.{Op}
-use Rattle.gz_core.specs.declared.requests.Op.TheVariants.{ReadRow, WriteRow}
+use Rattle.gz_core.specs.declared.requests.Op.TheVariants.{WriteRow}
 use Rattle.gz_pick.specs.Looks.{row_vote}
 use Rattle.gz_pick.specs.declared.heard.Heard.{Heard}
-use Rattle.gz_round.specs.History.{Asked, Action, Sent, Handed, GaveUp, Rested, GaveIn, Caller, Trace, is_row_request}
+use Rattle.gz_core.specs.History.{Asked, Action, Sent, Handed, GaveUp, Rested, GaveIn, Caller, Trace, is_row_request}
 use Rattle.gz_round.specs.declared.hearing.Seen.{Seen}
 use Rattle.gz_round.specs.Sites.{SiteNow, site_now, seen_in, written_by, is_to, WasHeard}
 use Rattle.gz_round.specs.Sent.{promise_by, of_step, or_earlier, passes_sent, has_promised, has_promised_at, last_promise}
@@ -45,8 +45,8 @@ step_promises (Decide u x) v b e = cc
 step_promises (Trim to x) v b e = cc
 
 pub op_promises : (op : Op) (v : ℕ) (b : BallotAt) → IsStepSent op (Promises v b) → of_step promise_by op ≡ Some (v, b)
-op_promises (ReadRow key) v b h = absurd h
 op_promises (WriteRow key expect step row) v b h = step_promises step v b h
+op_promises op v b h = absurd h
 
 -- a promise that was sent is counted as one
 pub sent_promises : (ms : List Action) (v : ℕ) (b : BallotAt) → SentStep ms (Promises v b) → has_promised ms b ≡ true
@@ -70,12 +70,12 @@ unused_past (t ∷ ts) v b unused (inr h) = unused_past ts v b unused.1 h
 
 -- the guard of a write
 abbrev pub OpGuard : Config → Caller → List Trace → List Action → Op → Type 0
-OpGuard c w past ms (ReadRow key) = Unit {0}
 OpGuard c w past ms (WriteRow key expect step row) = MayMake c w past ms step
+OpGuard c w past ms op = Unit {0}
 
 asks_guard : (c : Config) (w : Caller) (past : List Trace) (ms : List Action) (now : SiteNow) (op : Op) → MayAsk c w past ms now op → OpGuard c w past ms op
-asks_guard c w past ms now (ReadRow key) h = tt
 asks_guard c w past ms now (WriteRow key expect step row) h = h.1.guard
+asks_guard c w past ms now op h = tt
 
 pair_parts : (p q : ℕ × BallotAt) → Some p ≡ Some q → (p.0 ≡ q.0) × (p.1 ≡ q.1)
 pair_parts p q e = let k : p ≡ q = cc in (ap (λ z. z.0) k, ap (λ z. z.1) k)
@@ -99,9 +99,9 @@ last_step c w past (Trim to x) ms u v b guard last h same any = absurd guard
 
 last_op : (c : Config) (w : Caller) (past : List Trace) (op : Op) (ms : List Action) (u v : ℕ) (b : BallotAt) → OpGuard c w past ms op → or_earlier (of_step promise_by op) (last_promise ms) ≡ Some (v, b)
     → IsStepSent op (Promises u b) ⊎ SentStep ms (Promises u b) → (last_promise ms ≡ Some (v, b) → SentStep ms (Promises u b) → u ≡ v) → ((x : ℕ) → last_promise ms ≡ Some (x, b) → SentStep ms (Promises u b) → u ≡ x) → u ≡ v
-last_op c w past (ReadRow key) ms u v b guard last (inl h) same any = absurd h
-last_op c w past (ReadRow key) ms u v b guard last (inr h) same any = same last h
 last_op c w past (WriteRow key expect step row) ms u v b guard last h same any = last_step c w past step ms u v b guard last h same any
+last_op c w past op ms u v b guard last (inl h) same any = absurd h
+last_op c w past op ms u v b guard last (inr h) same any = same last h
 
 -- all promises of the ballot that was promised last are at its version
 pub last_version : (c : Config) (w : Caller) (past : List Trace) (ms : List Action) (u v : ℕ) (b : BallotAt) → AreAllowed c w past ms → last_promise ms ≡ Some (v, b) → SentStep ms (Promises u b) → u ≡ v
@@ -129,8 +129,8 @@ step_promised (Decide u x) v b h = cc
 step_promised (Trim to x) v b h = cc
 
 pub op_promised : (op : Op) (v : ℕ) (b : BallotAt) → passes_sent (λ p. (p.0 == v) && same_ballot p.1 b) (of_step promise_by op) ≡ true → IsStepSent op (Promises v b)
-op_promised (ReadRow key) v b h = cc
 op_promised (WriteRow key expect step row) v b h = step_promised step v b h
+op_promised op v b h = cc
 
 pub promised_sent : (ms : List Action) (v : ℕ) (b : BallotAt) → has_promised_at ms v b ≡ true → SentStep ms (Promises v b)
 promised_sent [] v b h = cc
@@ -154,8 +154,8 @@ step_casts (Decide u x) v b y e = cc
 step_casts (Trim to x) v b y e = cc
 
 op_casts : (op : Op) (v : ℕ) (b : BallotAt) (y : Name) → IsStepSent op (VotesClassic v b y) → passes_sent (λ k. (k.version == v) && same_ballot k.ballot b && same_name k.name y) (of_step cast_by op) ≡ true
-op_casts (ReadRow key) v b y h = absurd h
 op_casts (WriteRow key expect step row) v b y h = step_casts step v b y h
+op_casts op v b y h = absurd h
 
 pub sent_casts : (ms : List Action) (v : ℕ) (b : BallotAt) (y : Name) → SentStep ms (VotesClassic v b y) → has_classic_cast ms v b y ≡ true
 sent_casts [] v b y h = absurd h

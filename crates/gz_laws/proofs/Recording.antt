@@ -6,7 +6,8 @@ use Rattle.gz_core.specs.Names.{Name}
 use Rattle.gz_core.specs.declared.calls.Answer.{Answer}
 use Rattle.gz_core.specs.declared.calls.Call.{Call}
 use Rattle.gz_core.specs.declared.requests.Turn.{Turn}
-use Rattle.gz_round.specs.History.{Asked, Action, Handed, GaveUp, Trace, begun, turned}
+use Rattle.gz_core.specs.History.{Asked, Action, Handed, GaveUp, Trace, begun, turned}
+use Rattle.gz_core.specs.declared.values.Value.{Value}
 use Rattle.gz_history.specs.declared.record.CallRec.{CallRec}
 use Rattle.gz_world.specs.declared.events.Effect.{Effect}
 use Rattle.gz_world.specs.declared.events.Event.{Event}
@@ -15,7 +16,7 @@ use Rattle.gz_laws.specs.Recorded.{IsNamedIn, TracesRecorded, AreRecorded}
 use Rattle.gz_world.specs.Reached.{IsReached, opened, stepped}
 use Rattle.gz_world.specs.Refusals.{refusal_of}
 use Rattle.gz_world.specs.States.{RequestAt, State, tick_of, next_of, end_at}
-use Rattle.gz_world.specs.Steps.{SessionMoves, BeginsBy, TurnBy, TakesTurn, CallEnds, answered, HasEffect, Does, Skips, WorldStep}
+use Rattle.gz_world.specs.Steps.{SessionMoves, BeginsBy, TurnBy, TakesTurn, CallEnds, answered, HasEffect, Does, Skips, WorldStep, hears}
 use Rattle.gz_laws.proofs.Listing.{traces_here, traces_there, answered_name}
 use Rattle.gz_world.proofs.Places.{get_append, get_last, get_set_same, get_set_other}
 
@@ -60,12 +61,12 @@ named_then : (xs ys zs : List CallRec) → AreNamed xs ys → AreNamed ys zs →
 unfolding AreNamed
 named_then xs ys zs f g = λ name k. g name (f name k)
 
-begin_recorded : (old new : State) (session : ℕ) (call : Call) (turn : Turn) (effect : Effect) → BeginsBy old session call turn effect new → AreRecorded old → AreRecorded new
-begin_recorded old new session call turn effect b h =
+begin_recorded : (old new : State) (session : ℕ) (call : Call) (own : Option Value) (turn : Turn) (effect : Effect) → BeginsBy old session call own turn effect new → AreRecorded old → AreRecorded new
+begin_recorded old new session call own turn effect b h =
     let past = old.traces session in
     let fresh : CallRec = record { name = record { session = session; seq = length past + 1 }; call = call; begin = tick_of old; end = end_at (tick_of old) turn.answer; answer = turn.answer } in
     let f : AreNamed old.calls new.calls = named_then old.calls (old.calls ++ fresh ∷ []) new.calls (named_append old.calls (fresh ∷ [])) (named_same (old.calls ++ fresh ∷ []) new.calls b.calls) in
-    moved_recorded old new session (begun session call (next_of old) turn past ∷ past) b.moves f
+    moved_recorded old new session (begun session call own (next_of old) turn past ∷ past) b.moves f
     ((length old.calls, fresh, ap (λ xs. slice_get xs (length old.calls)) b.calls ∙ get_last old.calls fresh, refl), traces_recorded old.calls new.calls past f (h session)) h
 
 turn_recorded : (old new : State) (n : ℕ) (r marked : RequestAt) (action : Asked → Action) (by : TurnBy) (effect : Effect) → TakesTurn old n r action by marked effect new → AreRecorded old → AreRecorded new
@@ -77,9 +78,9 @@ turn_recorded old new n r marked action by effect t h =
 
 does_recorded : (old new : State) (event : Event) (effect : Effect) → Does old event effect new → AreRecorded old → AreRecorded new
 does_recorded old new events.OpenSession effect d h = recorded_same old new d.traces d.calls h
-does_recorded old new (events.Begin session call) effect d h = begin_recorded old new session call d.0 effect d.1 h
+does_recorded old new (events.Begin session call) effect d h = begin_recorded old new session call d.0 d.1.0 effect d.1.1 h
 does_recorded old new (events.Deliver n) effect d h = recorded_same old new d.1.1.sessions.traces d.1.1.sessions.calls h
-does_recorded old new (events.Reply n which) effect d h = turn_recorded old new n d.0 _ (λ a. Handed a d.1.0.1) d.1.1.0 effect d.1.1.1.1 h
+does_recorded old new (events.Reply n which) effect d h = turn_recorded old new n d.0 _ (hears d.1.0.1) d.1.1.0 effect d.1.1.1.1 h
 does_recorded old new (events.GiveUp n) effect d h = turn_recorded old new n d.0 _ (λ a. GaveUp a) d.1.0 effect d.1.1 h
 does_recorded old new (events.Crash session) effect d h = recorded_same old new d.traces d.calls h
 

@@ -6,7 +6,7 @@ use Rattle.gz_core.specs.Calls.{key_of}
 use Rattle.gz_core.specs.declared.calls.Answer.{Answer}
 use Rattle.gz_core.specs.declared.calls.Answer.TheVariants.{Ok, Bytes, Gone, Absent, NoQuorum, Contended, Unsure}
 use Rattle.gz_config.specs.declared.Config.{Config}
-use Rattle.gz_round.specs.History.{Action, Caller, Trace}
+use Rattle.gz_core.specs.History.{Action, Caller, Trace}
 use Rattle.gz_round.specs.Shown.{IsShown}
 use Rattle.gz_client.specs.Traces.{IsAnswered}
 use Rattle.gz_history.specs.Answers.{shows, names}
@@ -40,7 +40,7 @@ call_trace key s ds i a run listed carries at own =
     let k = among_trace s.cfg s.net a (s.traces a.name.session) (listed.traces i a at) (carries a.name.session) in
     let t = k.1.0 in
     let is = k.1.1.0 in
-    let mine : key_of t.caller.call ≡ key = ap (λ (w : Caller). key_of w.call) is.caller ∙ own in
+    let mine : key_of t.caller.call ≡ key = ap key_of is.call_is ∙ own in
     record { past = k.0; trace = t; is = is; carried = k.1.1.1; stands = actions_stand key s.net (after_transitions unused ds) s.cfg t.caller k.0 t.actions run.requests mine is.told.allowed k.1.1.1 }
 
 -- what was shown to a call was shown
@@ -63,6 +63,7 @@ answer_tells c t (Some Absent) v h e = inl (sym (same_version 0 v e), refl)
 answer_tells c t (Some (NoQuorum phase heard)) v h e = cc
 answer_tells c t (Some (Contended met)) v h e = cc
 answer_tells c t (Some (Unsure why)) v h e = cc
+answer_tells c t (Some answer) v h e = absurd h
 
 -- what a call's answer shows
 abbrev pub IsTold : Config → List Transition → CallRec → ℕ → Type 0
@@ -72,7 +73,7 @@ pub call_told : (key : List ℕ) (s : State) (ds : List Transition) (a : CallRec
 call_told key s ds a v h e =
     let t = h.trace in
     let is = h.is in
-    let name : t.caller.name ≡ a.name = ap (λ (w : Caller). w.name) is.caller in
+    let name : t.caller.name ≡ a.name = is.name_is in
     elim (answer_tells s.cfg t a.answer v (subst (IsAnswered s.cfg t) is.answer is.told.answered) e) [
       | inl k ↦ inl (k.0, subst (λ x. names x a.answer ≡ None) name k.1)
       | inr k ↦ inr (k.0, (trace_shown s.cfg ds t.actions v k.0 h.stands k.1.0, subst (λ x. names x a.answer ≡ Some k.0) name k.1.1))

@@ -9,7 +9,8 @@ use Rattle.gz_core.specs.declared.calls.Answer.{Answer}
 use Rattle.gz_core.specs.declared.calls.Call.{Call}
 use Rattle.gz_core.specs.declared.requests.Out.{Out}
 use Rattle.gz_core.specs.declared.requests.Turn.{Turn}
-use Rattle.gz_round.specs.History.{Caller, Trace, begun}
+use Rattle.gz_core.specs.declared.values.Value.{Value}
+use Rattle.gz_core.specs.History.{Caller, Trace, begun}
 use Rattle.gz_round.specs.Sites.{seen_in, written_by}
 use Rattle.gz_client.specs.Traces.{AllKeepRules}
 use Rattle.gz_history.specs.Answers.{shows}
@@ -71,18 +72,18 @@ begin_traces old new session t key name act moves h = elim (cases_eq name.sessio
   | inr ne ↦ subst (IsSentBy key name act) (sym (traces_there old new session name.session (t ∷ old.traces session) moves ne)) h
 ]
 
-pub begin_run : (key : List ℕ) (old new : State) (ds : List Transition) (session : ℕ) (call : Call) (turn : Turn) (effect : Effect) → BeginsBy old session call turn effect new → AreCallsListed old → AreCarried old → ArePlaced old → IsRun key old ds → (more : List Transition) × IsRun key new more
-begin_run key old new ds session call turn effect b listed carries placed run =
+pub begin_run : (key : List ℕ) (old new : State) (ds : List Transition) (session : ℕ) (call : Call) (own : Option Value) (turn : Turn) (effect : Effect) → BeginsBy old session call own turn effect new → AreCallsListed old → AreCarried old → ArePlaced old → IsRun key old ds → (more : List Transition) × IsRun key new more
+begin_run key old new ds session call own turn effect b listed carries placed run =
     let c = old.cfg in
     let past = old.traces session in
     let name : Name = record { session = session; seq = length past + 1 } in
-    let w : Caller = record { name = name; call = call } in
+    let w : Caller = record { name = name; call = call; own = own } in
     let first = next_of old in
     let tick = tick_of old in
     let outs = turn.send in
-    let t = begun session call first turn past in
+    let t = begun session call own first turn past in
     let fresh : CallRec = record { name = name; call = call; begin = tick; end = end_at tick turn.answer; answer = turn.answer } in
-    let s = has_sent c key w past first outs [] ds placed.config.quorums run.transitions (λ _. keeps_fresh c key old.traces (after_transitions unused ds) session name listed.told run.sent refl) b.moves.told.0.allowed in
+    let s = has_sent c key w past first outs [] ds placed.config.quorums run.transitions (λ _. keeps_fresh c key old.traces (after_transitions unused ds) session w listed.told run.sent refl b.moves.told.0.own) b.moves.told.0.allowed in
     let more = s.0 in
     let sent = s.1 in
     let net = begin_net old new name tick outs b.net in

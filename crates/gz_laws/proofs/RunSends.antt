@@ -11,7 +11,7 @@ use Rattle.gz_core.specs.declared.requests.Op.{Op}
 use Rattle.gz_core.specs.declared.requests.Out.{Out}
 use Rattle.gz_core.specs.declared.requests.Reply.{Reply}
 use Rattle.gz_round.specs.declared.hearing.Seen.{Seen}
-use Rattle.gz_round.specs.History.{Action, Sent, Handed, GaveUp, Rested, GaveIn, Caller, Trace, IsClosing, asked_of, sent_from}
+use Rattle.gz_core.specs.History.{Action, Sent, Handed, GaveUp, Rested, GaveIn, Caller, Trace, IsClosing, asked_of, sent_from}
 use Rattle.gz_round.specs.Sites.{site_now, seen_in, written_by}
 use Rattle.gz_round.specs.Sending.{AreAllowed}
 use Rattle.gz_history.specs.declared.record.CallRec.{CallRec}
@@ -27,6 +27,7 @@ use Rattle.gz_laws.specs.Runs.{key_asked, RequestStands, IsSentBy, IsRowIn, IsSi
 use Rattle.gz_world.specs.States.{RequestAt, State, numbered, sent_request}
 use Rattle.gz_world.specs.Steps.{SitesStay, CallEnds, answered}
 use Rattle.gz_laws.proofs.Growing.{OnlyAsks, only_itself, GoesOn, IsOwnVote, allowed_base, sends}
+use Rattle.gz_laws.proofs.AsHeard.{of_reply}
 use Rattle.gz_laws.proofs.Keeping.{asks_key, awaited_key}
 use Rattle.gz_laws.proofs.Keys.{key_cases}
 use Rattle.gz_world.proofs.Places.{get_set_same, get_set_other}
@@ -58,7 +59,7 @@ sends_key c w past first (out ∷ outs) ms allowed zero o e =
     subst (λ (k : Out). key_asked k.op ≡ key_of w.call) same (asks_key c w past ms (site_now ms out.site) out.op (allowed_base c w past (first + 1) outs (Sent a ∷ ms) allowed).0.asks)
 sends_key c w past first (out ∷ outs) ms allowed (suc j) o e = sends_key c w past (first + 1) outs (Sent (asked_of first out) ∷ ms) allowed j o e
 
-pub has_sent : (c : Config) (key : List ℕ) (w : Caller) (past : List Trace) (first : ℕ) (outs : List Out) (ms : List Action) (ds : List Transition) → HasQuorums c → AreTransitions c unused ds → (key_of w.call ≡ key → Keeps w.name past ms (after_transitions unused ds)) → AreAllowed c w past (sent_from first outs ms)
+pub has_sent : (c : Config) (key : List ℕ) (w : Caller) (past : List Trace) (first : ℕ) (outs : List Out) (ms : List Action) (ds : List Transition) → HasQuorums c → AreTransitions c unused ds → (key_of w.call ≡ key → Keeps w past ms (after_transitions unused ds)) → AreAllowed c w past (sent_from first outs ms)
     → (more : List Transition) × HasSent c key w first outs ms ds more
 has_sent c key w past first outs ms ds quorums are keeps allowed = elim (key_cases (key_of w.call) key) [
   | inl same ↦ (let k = sends c w past first outs ms ds quorums are (keeps same) allowed in
@@ -135,8 +136,8 @@ heard_in_rows c key net w past (Handed a reply ∷ ms) rows is allowed carried a
     let r = carried.0.0 in
     let req = carried.0.1.0 in
     let has = carried.0.1.1 in
-    let own = awaited_key c w past ms a.site a allowed.1 allowed.0 ∙ is in
-    let row = all a.number has.place has.tick r reply req.there (ap key_asked req.op_is ∙ own) req.name_is has.there in
+    let own = awaited_key c w past ms a.site a allowed.1 allowed.0.0 ∙ is in
+    let row = of_reply (λ o. IsRowIn r.site o rows) r reply has tt (all a.number has.place has.tick r has.made req.there (ap key_asked req.op_is ∙ own) req.name_is has.there) in
     entry_in a.site (seen_in (written_by a.op) reply) (heard_of ms) rows e
     (subst (λ (o : Op). IsRowIn a.site (seen_in (written_by o) reply) rows) req.op_is (subst (λ (s : ℕ). IsRowIn s (seen_in (written_by r.op) reply) rows) req.site_is row))
     (λ k. heard_in_rows c key net w past ms rows is allowed.1 carried.1 all e k) h

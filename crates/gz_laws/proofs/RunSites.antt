@@ -1,5 +1,5 @@
 -- What a site does to an object is a transition of the object's run, or none.
-use Rattle.std.proofs.Common.{◌≡◌, ◌≢◌, ℕ, ◌<◌, inl, inr, List, ◌∷◌, ◌++◌, Some, None, Bool, true, false, cond, refl, ap, sym, ◌∙◌, subst, arith}
+use Rattle.std.proofs.Common.{◌≡◌, ◌≢◌, ℕ, ◌<◌, inl, inr, List, [], ◌∷◌, ◌++◌, Some, None, Bool, true, false, cond, refl, ap, sym, ◌∙◌, subst, arith}
 use Rattle.std.specs.Prelude.{Option, ◌==◌, ◌&&◌, ◌||◌, if◌then◌else◌}
 use Rattle.gz_core.specs.Names.{Name, BallotAt}
 use Rattle.gz_core.specs.Rows.{RowAt, empty_row}
@@ -10,7 +10,8 @@ use Rattle.gz_core.specs.declared.requests.Op.{Op}
 use Rattle.gz_core.specs.declared.requests.Op.TheVariants.{ReadRow, WriteRow}
 use Rattle.gz_core.specs.declared.requests.Reply.{Reply}
 use Rattle.gz_core.specs.declared.requests.Reply.TheVariants.{Row, NoRow, Written, Changed, Failed}
-use Rattle.gz_round.specs.Sites.{seen_in, written_by, can_stand}
+use Rattle.gz_core.specs.History.{is_row_request}
+use Rattle.gz_round.specs.Sites.{seen_in, written_by}
 use Rattle.gz_site.specs.Told.{Told, same_key, etag_of}
 use Rattle.gz_site.specs.Steps.{RowStored}
 use Rattle.gz_model.specs.Casts.{has_cast}
@@ -23,6 +24,7 @@ use Rattle.gz_laws.specs.Begun.{begins_of}
 use Rattle.gz_laws.specs.Heard.{unused, IsClean, SeenStands, IsAskedOf, AskedHere, CleanOp}
 use Rattle.gz_laws.specs.Runs.{stored_of, IsCleanStored, SiteStands, key_asked, IsRowIn}
 use Rattle.gz_world.specs.Steps.{Answers, casts_in}
+use Rattle.gz_laws.proofs.BlobSteps.{IsSameRows, blob_leaves, blob_unseen}
 use Rattle.gz_laws.proofs.CastRuns.{and_false, row_casts, other_casts}
 use Rattle.gz_laws.proofs.Growing.{GoesOn}
 use Rattle.gz_laws.proofs.Keys.{same_key-refl, key_cases}
@@ -60,16 +62,6 @@ idle c key ds site op reply told are here seen rows none = record {
   begun = λ name. refl;
   along = λ call early late split current. (record { later = late; split = split; current = current; rows = λ e h. h }, rows (late_rows unused late early));
 }
-
--- a row that is heard only if it can stand
-under_stands : (st : Store) (s etag : ℕ) (row : RowAt) (b : Bool) → IsClean row → (let r : Answered = record { site = s; etag = Some etag; row = slots row } in IsIn r st.replies)
-    → SeenStands st s (if b then Some (record { etag = Some etag; row = row }) else None)
-under_stands st s etag row true clean h = (clean, h)
-under_stands st s etag row false clean h = tt
-
-under_in : (s etag : ℕ) (row : RowAt) (b : Bool) (rows : List RowSeen) → (let e : RowSeen = record { site = s; row = slots row } in IsIn e rows) → IsRowIn s (if b then Some (record { etag = Some etag; row = row }) else None) rows
-under_in s etag row true rows h = h
-under_in s etag row false rows h = tt
 
 blank_clean : IsClean empty_row
 blank_clean = record { floor = refl; rises = tt }
@@ -179,14 +171,14 @@ written_done c key k ds qa site etag name expect step row before after are here 
       used = λ i apart. site_other (after_transitions unused ds).used qa.write.site i etag (λ e. apart (e ∙ at));
       replies = λ r h. inr h;
       asked = refl;
-      seen = λ _. under_stands (after_transitions unused (WrittenBy qa etag ∷ ds)) site etag row (can_stand row) clean (inl (λ i. record { site = sym at i; etag = Some etag; row = sym w.1.1 i }));
+      seen = λ _. (clean, inl (λ i. record { site = sym at i; etag = Some etag; row = sym w.1.1 i }));
       casts = λ v b x i.
           ap (λ s. ((s == i) && slot_votes (qa.write.after v) b x) || cast (seen_after unused ds) v b x i) at ∙ ap (λ (a : Acceptor). ((site == i) && slot_votes (a v) b x) || cast (seen_after unused ds) v b x i) w.1.1
           ∙ ap (λ t. t || cast (seen_after unused ds) v b x i) (sym (row_casts site k key row v b x i same clean));
       begun = λ name. refl;
       along = λ call early late split current. (
         record { later = WrittenBy qa etag ∷ late; split = ap (λ (ks : List Transition). WrittenBy qa etag ∷ ks) split; current = (current, tt); rows = λ e h. inr h },
-        λ _. under_in site etag row (can_stand row) (late_rows unused (WrittenBy qa etag ∷ late) early) (inl (λ i. record { site = sym at i; row = sym w.1.1 i })),
+        λ _. inl (λ i. record { site = sym at i; row = sym w.1.1 i }),
       );
     }
 
@@ -225,7 +217,7 @@ read_at c key k ds site (Row etag row) before after are here same ans =
       Reads site ∷ ds,
       read_done c key ds site (ReadRow k) (Row etag row) after (stored_of (Some (etag, row))) are (subst (λ t. SiteStands key t (after_transitions unused ds) site) (sym ans.1) here)
           (stored_same key before (after_transitions unused ds) site (Some (etag, row)) here is)
-          (λ st i. under_stands st site etag row (can_stand row) clean i) (λ rows i. under_in site etag row (can_stand row) rows i) (λ v b x i. row_casts site k key row v b x i same clean),
+          (λ st i. (clean, i)) (λ rows i. i) (λ v b x i. row_casts site k key row v b x i same clean),
     )
 read_at c key k ds site NoRow before after are here same ans =
     let is = at_key key k before None same ans.0 in (
@@ -233,15 +225,12 @@ read_at c key k ds site NoRow before after are here same ans =
       read_done c key ds site (ReadRow k) NoRow after (stored_of None) are (subst (λ t. SiteStands key t (after_transitions unused ds) site) (sym ans.1) here)
           (stored_same key before (after_transitions unused ds) site None here is) (λ st i. (blank_clean, i)) (λ rows i. i) (λ v b x i. sym (and_false (site == i))),
     )
-read_at c key k ds site (Written etag) before after are here same ans = absurd ans
-read_at c key k ds site Changed before after are here same ans = absurd ans
 read_at c key k ds site Failed before after are here same ans = (ds, idle c key ds site (ReadRow k) Failed after are (subst (λ t. SiteStands key t (after_transitions unused ds) site) (sym ans) here) (λ _. tt) (λ rows _. tt) (λ v b x i. refl))
+read_at c key k ds site reply before after are here same ans = absurd ans
 
 -- a write of the object
 write_at : (c : Config) (key k : List ℕ) (ds : List Transition) (site : ℕ) (name : Name) (expect : Option ℕ) (step : RowStep) (row : RowAt) (reply : Reply) (before after : Told) → AreTransitions c unused ds → SiteStands key before (after_transitions unused ds) site → k ≡ key
     → AskedHere name site (WriteRow k expect step row) (after_transitions unused ds) × IsClean row → Answers before (WriteRow k expect step row) reply after → (more : List Transition) × IsDone c key ds more site (WriteRow k expect step row) reply after
-write_at c key k ds site name expect step row (Row etag shown) before after are here same asked ans = absurd ans
-write_at c key k ds site name expect step row NoRow before after are here same asked ans = absurd ans
 write_at c key k ds site name expect step row (Written etag) before after are here same asked ans =
     let q = asked.0 in
     (WrittenBy q.0 etag ∷ ds, written_done c key k ds q.0 site etag name expect step row before after are here asked.1 q.1.0 q.1.1 same ans.0 ans.1)
@@ -252,6 +241,7 @@ write_at c key k ds site name expect step row Failed before after are here same 
 write_at c key k ds site name expect step row Failed before after are here same asked (inr ans) =
     let q = asked.0 in
     (FailedBy q.0 ans.0 ∷ ds, failed_done c key k ds q.0 site ans.0 name expect step row before after are here asked.1 q.1.0 q.1.1 same ans.1 ans.2)
+write_at c key k ds site name expect step row reply before after are here same asked ans = absurd ans
 
 -- a request of another object
 other_idle : (c : Config) (key : List ℕ) (ds : List Transition) (site : ℕ) (op : Op) (reply : Reply) (before after : Told) → AreTransitions c unused ds → SiteStands key before (after_transitions unused ds) site → (key_asked op ≡ key → ⊥) → ((v : ℕ) (b : BallotAt) (x : Name) (i : ℕ) → has_cast (casts_in site op reply) key v b x i ≡ false) → after ≡ before → (more : List Transition) × IsDone c key ds more site op reply after
@@ -261,18 +251,29 @@ other_idle c key ds site op reply before after are here none plain same =
 read_other : (c : Config) (key k : List ℕ) (ds : List Transition) (site : ℕ) (reply : Reply) (before after : Told) → AreTransitions c unused ds → SiteStands key before (after_transitions unused ds) site → (k ≡ key → ⊥) → same_key k key ≡ false → Answers before (ReadRow k) reply after → (more : List Transition) × IsDone c key ds more site (ReadRow k) reply after
 read_other c key k ds site (Row etag row) before after are here none apart ans = other_idle c key ds site (ReadRow k) (Row etag row) before after are here none (λ v b x i. other_casts site k key row v b x i apart) ans.1
 read_other c key k ds site NoRow before after are here none apart ans = other_idle c key ds site (ReadRow k) NoRow before after are here none (λ v b x i. refl) ans.1
-read_other c key k ds site (Written etag) before after are here none apart ans = absurd ans
-read_other c key k ds site Changed before after are here none apart ans = absurd ans
 read_other c key k ds site Failed before after are here none apart ans = other_idle c key ds site (ReadRow k) Failed before after are here none (λ v b x i. refl) ans
+read_other c key k ds site reply before after are here none apart ans = absurd ans
 
 write_other : (c : Config) (key k : List ℕ) (ds : List Transition) (site : ℕ) (expect : Option ℕ) (step : RowStep) (row : RowAt) (reply : Reply) (before after : Told) → AreTransitions c unused ds → SiteStands key before (after_transitions unused ds) site → (k ≡ key → ⊥) → same_key k key ≡ false → Answers before (WriteRow k expect step row) reply after
     → (more : List Transition) × IsDone c key ds more site (WriteRow k expect step row) reply after
-write_other c key k ds site expect step row (Row etag shown) before after are here none apart ans = absurd ans
-write_other c key k ds site expect step row NoRow before after are here none apart ans = absurd ans
 write_other c key k ds site expect step row (Written etag) before after are here none apart ans = (Elsewhere site etag ∷ ds, elsewhere_done c key k ds site etag (WriteRow k expect step row) (Written etag) row before after are here apart none (λ v b x i. other_casts site k key row v b x i apart) ans.1)
 write_other c key k ds site expect step row Changed before after are here none apart ans = other_idle c key ds site (WriteRow k expect step row) Changed before after are here none (λ v b x i. refl) ans.1
 write_other c key k ds site expect step row Failed before after are here none apart (inl ans) = other_idle c key ds site (WriteRow k expect step row) Failed before after are here none (λ v b x i. refl) ans
 write_other c key k ds site expect step row Failed before after are here none apart (inr ans) = (Elsewhere site ans.0 ∷ ds, elsewhere_done c key k ds site ans.0 (WriteRow k expect step row) Failed row before after are here apart none (λ v b x i. refl) ans.2)
+write_other c key k ds site expect step row reply before after are here none apart ans = absurd ans
+
+-- an operation on a blob
+rows_stand : (key : List ℕ) (before after : Told) (st : Store) (site : ℕ) → IsSameRows before after → SiteStands key before st site → SiteStands key after st site
+rows_stand key before after st site same here =
+    let kept : after.rows key ≡ before.rows key = ap (λ (rows : List ℕ → Option (ℕ × RowAt)). rows key) same.rows in
+    record { stored = here.stored ∙ sym (ap stored_of kept); used = here.used ∙ sym same.top; clean = subst IsCleanStored (sym kept) here.clean }
+
+blob_done : (c : Config) (key : List ℕ) (ds : List Transition) (site : ℕ) (op : Op) (reply : Reply) (before after : Told) → AreTransitions c unused ds → SiteStands key before (after_transitions unused ds) site → is_row_request op ≡ false → casts_in site op reply ≡ [] → Answers before op reply after
+    → IsDone c key ds ds site op reply after
+blob_done c key ds site op reply before after are here blob none ans =
+    let unseen = blob_unseen before after op reply blob ans in
+    idle c key ds site op reply after are (rows_stand key before after (after_transitions unused ds) site (blob_leaves before after op reply blob ans) here)
+    (λ _. subst (SeenStands (after_transitions unused ds) site) (sym unseen) tt) (λ rows _. subst (λ o. IsRowIn site o rows) (sym unseen) tt) (λ v b x i. ap (λ cs. has_cast cs key v b x i) none)
 
 -- what a site does at a request
 pub site_done : (c : Config) (key : List ℕ) (ds : List Transition) (site : ℕ) (name : Name) (op : Op) (reply : Reply) (before after : Told) → AreTransitions c unused ds → SiteStands key before (after_transitions unused ds) site
@@ -285,3 +286,4 @@ site_done c key ds site name (WriteRow k expect step row) reply before after are
   | inl same ↦ write_at c key k ds site name expect step row reply before after are here same (asked same) ans
   | inr apart ↦ write_other c key k ds site expect step row reply before after are here apart.0 apart.1 ans
 ]
+site_done c key ds site name op reply before after are here asked ans = (ds, blob_done c key ds site op reply before after are here refl refl ans)

@@ -6,7 +6,7 @@ use Rattle.gz_core.specs.Names.{Name}
 use Rattle.gz_core.specs.Calls.{key_of}
 use Rattle.gz_core.specs.Slots.{slots}
 use Rattle.gz_core.specs.declared.requests.Op.{Op}
-use Rattle.gz_core.specs.declared.requests.Op.TheVariants.{ReadRow, WriteRow}
+use Rattle.gz_core.specs.declared.requests.Op.TheVariants.{WriteRow}
 use Rattle.gz_core.specs.declared.requests.Out.{Out}
 use Rattle.gz_core.specs.declared.requests.Reply.{Reply}
 use Rattle.gz_round.specs.declared.hearing.Seen.{Seen}
@@ -26,8 +26,8 @@ use Rattle.gz_world.proofs.Places.{get_set_same, get_set_other, get_of_two, get_
 
 -- requests of a store that has more replies and requests
 asked_more : (st su : Store) (name : Name) (site : ℕ) (op : Op) → ((q : WriteSent) → IsIn q st.asked → IsIn q su.asked) → AskedHere name site op st → AskedHere name site op su
-asked_more st su name site (ReadRow key) f h = tt
 asked_more st su name site (WriteRow key expect step row) f h = (h.0, (h.1.0, f h.0 h.1.1))
+asked_more st su name site op f h = tt
 
 pub request_more : (st su : Store) (r : RequestAt) → ((a : Answered) → IsIn a st.replies → IsIn a su.replies) → ((q : WriteSent) → IsIn q st.asked → IsIn q su.asked) → RequestStands st r → RequestStands su r
 request_more st su r f g h = record {

@@ -8,7 +8,7 @@ use Rattle.gz_core.specs.Slots.{Act}
 use Rattle.gz_config.specs.declared.Config.{Config}
 use Rattle.gz_core.specs.declared.requests.Out.{Out}
 use Rattle.gz_core.specs.declared.requests.Reply.{Reply}
-use Rattle.gz_round.specs.History.{Asked, Action, Caller, Trace, sent_from, turned}
+use Rattle.gz_core.specs.History.{Asked, Action, Caller, Trace, sent_from, turned}
 use Rattle.gz_round.specs.Sites.{seen_in, written_by}
 use Rattle.gz_round.specs.Sending.{AreAllowed}
 use Rattle.gz_client.specs.Traces.{AllKeepRules}
@@ -115,7 +115,7 @@ turn_run key old new ds n r marked action by effect t alike stands none action_s
     let mine : ActionsCarried old.net w.name by.trace.actions = (subst (TracesCarried old.net) t.traces (carries session)).0 in
     let allowed : AreAllowed c w by.earlier (sent_from first outs ms) = closing_allowed c w by.earlier by.closing (sent_from first outs ms) t.closing t.moves.told.0.allowed in
     let s = has_sent c key w by.earlier first outs ms ds placed.config.quorums run.transitions
-    (λ same. keeps_action w.name by.earlier (action by.asked) by.trace.actions (after_transitions unused ds) (stands same) none
+    (λ same. keeps_action w by.earlier (action by.asked) by.trace.actions (after_transitions unused ds) (stands same) none
     (keeps_newest c key old.net old.traces (after_transitions unused ds) session by.trace by.earlier listed.told run.requests run.sent t.traces same mine)) allowed in
     let more = s.0 in
     let sent = s.1 in

@@ -4,7 +4,8 @@ use Rattle.std.proofs.lemmas.Bool.{cases_eq}
 use Rattle.std.specs.Prelude.{Option, MatchOption, IfSome, IsSome, slice_get}
 use Rattle.gz_config.specs.declared.Config.{Config}
 use Rattle.gz_core.specs.declared.requests.Reply.{Reply}
-use Rattle.gz_round.specs.History.{Asked, Action, Handed, GaveUp}
+use Rattle.gz_core.specs.History.{Asked, Action, GaveUp}
+use Rattle.gz_round.specs.Sites.{as_heard, written_by}
 use Rattle.gz_client.specs.Traces.{AllKeepRules}
 use Rattle.gz_site.specs.Told.{Told, Tells, IsEmpty}
 use Rattle.gz_model.specs.Casts.{has_cast}
@@ -13,7 +14,7 @@ use Rattle.gz_world.specs.declared.events.Effect.{Effect}
 use Rattle.gz_world.specs.declared.events.Event.{Event}
 use Rattle.gz_world.specs.declared.events.Event.TheVariants as events
 use Rattle.gz_laws.specs.Begun.{IsBegunIn}
-use Rattle.gz_laws.specs.Carried.{IsRequestOf, HasReply, ActionCarried, TracesCarried, AreCarried}
+use Rattle.gz_laws.specs.Carried.{IsRequestOf, ActionCarried, TracesCarried, AreCarried}
 use Rattle.gz_laws.specs.Each.{EachTrace}
 use Rattle.gz_laws.specs.Heard.{unused}
 use Rattle.gz_laws.specs.Listed.{AreCallsListed}
@@ -22,7 +23,7 @@ use Rattle.gz_world.specs.Reached.{IsOpening, IsReached, opened, stepped, AllTel
 use Rattle.gz_world.specs.Refusals.{refusal_of}
 use Rattle.gz_laws.specs.Runs.{stored_of, IsCleanStored, IsSentBy, IsRun}
 use Rattle.gz_world.specs.States.{RequestAt, State, tick_of, numbered, with_handed, with_given_up}
-use Rattle.gz_world.specs.Steps.{Answers, DeliversBy, SitesStay, TurnBy, TakesTurn, HasEffect, Does, Skips, WorldStep}
+use Rattle.gz_world.specs.Steps.{Answers, DeliversBy, SitesStay, TurnBy, TakesTurn, hears, HasEffect, Does, Skips, WorldStep}
 use Rattle.gz_laws.proofs.Carrying.{carried, awaited_carried}
 use Rattle.gz_laws.proofs.Keeping.{awaited_key, handed_stands}
 use Rattle.gz_laws.proofs.Listing.{listed}
@@ -64,20 +65,31 @@ told_request old new n r marked action by effect t carries =
     subst (λ (q : RequestAt). IsRequestOf old.net by.trace.caller.name by.asked q) same k.1
 
 -- the reply that it learns of is one of that request
-pub handed_action : (old new : State) (n which : ℕ) (r : RequestAt) (reply : ℕ × Reply) (by : TurnBy) (effect : Effect) → numbered r.replies which ≡ Some reply → TakesTurn old n r (λ a. Handed a reply.1) by (with_handed (tick_of old) which r) effect new → AreCarried old
-    → ActionCarried old.net by.trace.caller.name (Handed by.asked reply.1)
+pub handed_action : (old new : State) (n which : ℕ) (r : RequestAt) (reply : ℕ × Reply) (by : TurnBy) (effect : Effect) → numbered r.replies which ≡ Some reply → TakesTurn old n r (hears reply.1) by (with_handed (tick_of old) which r) effect new → AreCarried old
+    → ActionCarried old.net by.trace.caller.name (hears reply.1 by.asked)
 handed_action old new n which r reply by effect there t carries =
-    let has : HasReply r reply.1 = record { place = which - 1; tick = reply.0; there = (numbered_place r.replies which reply there).1 } in
-    (r, (told_request old new n r (with_handed (tick_of old) which r) (λ a. Handed a reply.1) by effect t carries, has))
+    let request = told_request old new n r (with_handed (tick_of old) which r) (hears reply.1) by effect t carries in (
+      r,
+      (
+        request,
+        record {
+          place = which - 1;
+          tick = reply.0;
+          made = reply.1;
+          there = (numbered_place r.replies which reply there).1;
+          heard = ap (λ op. as_heard (written_by op) reply.1) (sym request.op_is);
+        },
+      ),
+    )
 
-hand_run : (key : List ℕ) (old new : State) (ds : List Transition) (n which : ℕ) (r : RequestAt) (reply : ℕ × Reply) (by : TurnBy) (effect : Effect) → numbered r.replies which ≡ Some reply → TakesTurn old n r (λ a. Handed a reply.1) by (with_handed (tick_of old) which r) effect new
+hand_run : (key : List ℕ) (old new : State) (ds : List Transition) (n which : ℕ) (r : RequestAt) (reply : ℕ × Reply) (by : TurnBy) (effect : Effect) → numbered r.replies which ≡ Some reply → TakesTurn old n r (hears reply.1) by (with_handed (tick_of old) which r) effect new
     → AreCallsListed old → AreCarried old → ArePlaced old → IsRun key old ds → (more : List Transition) × IsRun key new more
 hand_run key old new ds n which r reply by effect there t listed carries placed run =
     let name = by.trace.caller.name in
     let action = handed_action old new n which r reply by effect there t carries in
     let told : AllKeepRules old.cfg r.name.session (by.trace ∷ by.earlier) = subst (AllKeepRules old.cfg r.name.session) t.traces (listed.told r.name.session) in
-    turn_run key old new ds n r (with_handed (tick_of old) which r) (λ a. Handed a reply.1) by effect t (handed_alike (tick_of old) which r)
-    (λ same. handed_stands key old.net (after_transitions unused ds) name by.asked reply.1 run.requests (awaited_key old.cfg by.trace.caller by.earlier by.trace.actions by.asked.site by.asked told.0.allowed t.awaited.awaits ∙ same) action)
+    turn_run key old new ds n r (with_handed (tick_of old) which r) (hears reply.1) by effect t (handed_alike (tick_of old) which r)
+    (λ same. handed_stands key old.net (after_transitions unused ds) name by.asked (as_heard (written_by by.asked.op) reply.1) run.requests (awaited_key old.cfg by.trace.caller by.earlier by.trace.actions by.asked.site by.asked told.0.allowed t.awaited.awaits ∙ same) action)
     (λ act h. h) (λ a. refl) action listed carries placed run
 
 give_up_run : (key : List ℕ) (old new : State) (ds : List Transition) (n : ℕ) (r : RequestAt) (by : TurnBy) (effect : Effect) → TakesTurn old n r (λ a. GaveUp a) by (with_given_up (tick_of old) r) effect new
@@ -88,7 +100,7 @@ give_up_run key old new ds n r by effect t listed carries placed run =
 
 does_run : (key : List ℕ) (old new : State) (ds : List Transition) (event : Event) (effect : Effect) → Does old event effect new → AllTell old → AreCallsListed old → AreCarried old → ArePlaced old → IsRun key old ds → (more : List Transition) × IsRun key new more
 does_run key old new ds events.OpenSession effect d tell l c p run = same_run key old new ds d.frame.cfg d.sites.sites d.traces d.net d.calls d.sites.casts run
-does_run key old new ds (events.Begin session call) effect d tell l c p run = begin_run key old new ds session call d.0 effect d.1 l c p run
+does_run key old new ds (events.Begin session call) effect d tell l c p run = begin_run key old new ds session call d.0 d.1.0 effect d.1.1 l c p run
 does_run key old new ds (events.Deliver n) effect d tell l c p run = deliver_run key old new ds n d.0 d.1.0 effect d.1.1 (tell d.0.site (p.requests n d.0 d.1.1.request).site) run
 does_run key old new ds (events.Reply n which) effect d tell l c p run = hand_run key old new ds n which d.0 d.1.0 d.1.1.0 effect d.1.1.1.0 d.1.1.1.1 l c p run
 does_run key old new ds (events.GiveUp n) effect d tell l c p run = give_up_run key old new ds n d.0 d.1.0 effect d.1.1 l c p run
@@ -121,7 +133,7 @@ deliver_tell old new n r reply effect d = λ i h. elim (cases_eq i r.site) [
 
 does_tell : (old new : State) (event : Event) (effect : Effect) → Does old event effect new → StillTell old new × (new.cfg ≡ old.cfg)
 does_tell old new events.OpenSession effect d = (stay_tell old new d.sites, d.frame.cfg)
-does_tell old new (events.Begin session call) effect d = (stay_tell old new d.1.sites, d.1.frame.cfg)
+does_tell old new (events.Begin session call) effect d = (stay_tell old new d.1.1.sites, d.1.1.frame.cfg)
 does_tell old new (events.Deliver n) effect d = (deliver_tell old new n d.0 d.1.0 effect d.1.1, d.1.1.frame.cfg)
 does_tell old new (events.Reply n which) effect d = (stay_tell old new d.1.1.1.1.sites, d.1.1.1.1.frame.cfg)
 does_tell old new (events.GiveUp n) effect d = (stay_tell old new d.1.1.sites, d.1.1.frame.cfg)

@@ -17,10 +17,10 @@ use Rattle.gz_core.specs.declared.values.Value.{Value}
 use Rattle.gz_core.specs.declared.requests.RowStep.{RowStep}
 use Rattle.gz_core.specs.declared.requests.RowStep.TheVariants.{FastVote, Promise, ClassicVote, Decide, Trim}
 use Rattle.gz_core.specs.declared.requests.Op.{Op}
-use Rattle.gz_core.specs.declared.requests.Op.TheVariants.{ReadRow, WriteRow}
+use Rattle.gz_core.specs.declared.requests.Op.TheVariants.{WriteRow, ReadRow}
 use Rattle.gz_core.specs.declared.requests.Out.{Out}
 use Rattle.gz_core.proofs.Counting.{count_added, count_weaker, count_most}
-use Rattle.gz_round.specs.History.{Asked, Action, Sent, Caller, Trace, asked_of, sent_from}
+use Rattle.gz_core.specs.History.{Asked, Action, Sent, Caller, Trace, asked_of, sent_from, is_row_request}
 use Rattle.gz_round.specs.Rounds.{top_rounds, rounds_used, round_known, greatest, MayPromise}
 use Rattle.gz_round.specs.Sending.{AreAllowed, MaySend, MayAsk, MayMake, IsMade, made_by, is_awaited, rows_known}
 use Rattle.gz_round.specs.Sent.{of_step, passes_sent, promise_by, has_promised_at, round_after, top_round, is_notice}
@@ -89,10 +89,10 @@ made_within versions rounds used next c w past ms step before row k le more may 
 
 -- the row that a request writes
 asks_within : (versions rounds used next : ℕ) (c : Config) (w : Caller) (past : List Trace) (ms : List Action) (s : ℕ) (op : Op) → IsCallWithin versions rounds used c past ms → used ≤ next → (is_awaited op ≡ true → used + 1 ≤ next) → MayAsk c w past ms (site_now ms s) op → IfWritten (IsRowWithin (versions + 1) next) op
-asks_within versions rounds used next c w past ms s (ReadRow key) k le more may = tt
 asks_within versions rounds used next c w past ms s (WriteRow key expect step row) k le more may =
     let m = may.1 in
     made_within versions rounds used next c w past ms step m.before row k le (λ e. more (ap not e)) m.guard m.made (last_within versions rounds ms s (record { etag = expect; row = m.before }) k.heard m.last)
+asks_within versions rounds used next c w past ms s op k le more may = tt
 
 -- the rounds of the session's ballots, and the versions, once it is sent
 step_round : (versions rounds used next : ℕ) (c : Config) (w : Caller) (past : List Trace) (ms : List Action) (step : RowStep) → IsCallWithin versions rounds used c past ms → used ≤ next → (is_notice step ≡ false → used + 1 ≤ next) → MayMake c w past ms step → round_after (promise_by step) (top_round ms) ≤ next
@@ -103,8 +103,8 @@ step_round versions rounds used next c w past ms (Decide v x) k le more may = le
 step_round versions rounds used next c w past ms (Trim to x) k le more may = absurd may
 
 asks_round : (versions rounds used next : ℕ) (c : Config) (w : Caller) (past : List Trace) (ms : List Action) (now : SiteNow) (op : Op) → IsCallWithin versions rounds used c past ms → used ≤ next → (is_awaited op ≡ true → used + 1 ≤ next) → MayAsk c w past ms now op → round_after (of_step promise_by op) (top_round ms) ≤ next
-asks_round versions rounds used next c w past ms now (ReadRow key) k le more may = let n = k.now in omega (arith, n, le)
 asks_round versions rounds used next c w past ms now (WriteRow key expect step row) k le more may = step_round versions rounds used next c w past ms step k le (λ e. more (ap not e)) may.1.guard
+asks_round versions rounds used next c w past ms now op k le more may = let n = k.now in omega (arith, n, le)
 
 step_version : (versions rounds used : ℕ) (c : Config) (w : Caller) (past : List Trace) (ms : List Action) (step : RowStep) (u : ℕ) (d : BallotAt) → IsCallWithin versions rounds used c past ms → MayMake c w past ms step → passes_sent (λ p. (p.0 == u) && same_ballot p.1 d) (promise_by step) ≡ true → u ≤ versions + 1
 step_version versions rounds used c w past ms (FastVote v x) u d k may h = cc
@@ -117,8 +117,8 @@ step_version versions rounds used c w past ms (Decide v x) u d k may h = cc
 step_version versions rounds used c w past ms (Trim to x) u d k may h = cc
 
 asks_version : (versions rounds used : ℕ) (c : Config) (w : Caller) (past : List Trace) (ms : List Action) (now : SiteNow) (op : Op) (u : ℕ) (d : BallotAt) → IsCallWithin versions rounds used c past ms → MayAsk c w past ms now op → passes_sent (λ p. (p.0 == u) && same_ballot p.1 d) (of_step promise_by op) ≡ true → u ≤ versions + 1
-asks_version versions rounds used c w past ms now (ReadRow key) u d k may h = cc
 asks_version versions rounds used c w past ms now (WriteRow key expect step row) u d k may h = step_version versions rounds used c w past ms step u d k may.1.guard h
+asks_version versions rounds used c w past ms now op u d k may h = cc
 
 -- a measure that grows with each request that is awaited
 abbrev pub cost_of : Bool → ℕ
@@ -137,8 +137,8 @@ pub record HasSentWithin (versions used : ℕ) (measure : List Action → ℕ) (
   pub ops : (j : ℕ) (o : Out) → slice_get outs j ≡ Some o → IfWritten (IsRowWithin (versions + 1) next) o.op
 
 op_wider : (v r q : ℕ) (op : Op) → r ≤ q → IfWritten (IsRowWithin v r) op → IfWritten (IsRowWithin v q) op
-op_wider v r q (ReadRow key) le h = tt
 op_wider v r q (WriteRow key expect step row) le h = row_wider v v r q row (omega arith) le h
+op_wider v r q op le h = tt
 
 cost_least : (b : Bool) (used : ℕ) → b ≡ true → used + 1 ≤ used + cost_of b
 cost_least b used e = let k : cost_of b ≡ 1 = ap cost_of e in omega (arith, k)
@@ -212,13 +212,13 @@ if_awaited false x y f h = h
 still_awaited : (a : Asked) (ms : List Action) (s : ℕ) → awaited_at ms s ≡ true → awaited_at (Sent a ∷ ms) s ≡ true
 still_awaited a ms s h = if_awaited (is_to a s) (after_sent a (site_now ms s)) (site_now ms s) (kept_awaited a (site_now ms s)) h
 
-now_awaited : (a : Asked) (ms : List Action) (s : ℕ) → a.awaited ≡ true → a.site ≡ s → awaited_at (Sent a ∷ ms) s ≡ true
-now_awaited a ms s e same = ap (λ b. is_some (if b then after_sent a (site_now ms s) else site_now ms s).awaits) (to_here a s same) ∙ sent_awaited a (site_now ms s) e
+now_awaited : (a : Asked) (ms : List Action) (s : ℕ) → is_row_request a.op ≡ true → a.awaited ≡ true → a.site ≡ s → awaited_at (Sent a ∷ ms) s ≡ true
+now_awaited a ms s row e same = ap (λ b. is_some (if b then after_sent a (site_now ms s) else site_now ms s).awaits) (to_here a s row same) ∙ sent_awaited a (site_now ms s) e
 
-busy_more : (c : Config) (ms : List Action) (a : Asked) → a.site < c.n → (site_now ms a.site).awaits ≡ None → busy c ms + cost_of a.awaited ≤ busy c (Sent a ∷ ms)
-busy_more c ms a below idle = elim (cases_Bool a.awaited) [
+busy_more : (c : Config) (ms : List Action) (a : Asked) → is_row_request a.op ≡ true → a.site < c.n → (site_now ms a.site).awaits ≡ None → busy c ms + cost_of a.awaited ≤ busy c (Sent a ∷ ms)
+busy_more c ms a row below idle = elim (cases_Bool a.awaited) [
   | inl e ↦ (let one = count_added c.n a.site (awaited_at ms) below (ap is_some idle) in
-      let all = count_weaker c.n (λ s. (a.site == s) || awaited_at ms s) (awaited_at (Sent a ∷ ms)) (λ s h. elim (or_cases (a.site == s) (awaited_at ms s) h) [ inl t ↦ now_awaited a ms s e (eqb-true a.site s t) | inr t ↦ still_awaited a ms s t ]) in
+      let all = count_weaker c.n (λ s. (a.site == s) || awaited_at ms s) (awaited_at (Sent a ∷ ms)) (λ s h. elim (or_cases (a.site == s) (awaited_at ms s) h) [ inl t ↦ now_awaited a ms s row e (eqb-true a.site s t) | inr t ↦ still_awaited a ms s t ]) in
       let k : cost_of a.awaited ≡ 1 = ap cost_of e in
       omega (arith, one, all, k))
   | inr e ↦ (let all = count_weaker c.n (awaited_at ms) (awaited_at (Sent a ∷ ms)) (λ s h. still_awaited a ms s h) in
@@ -226,5 +226,11 @@ busy_more c ms a below idle = elim (cases_Bool a.awaited) [
       omega (arith, all, k))
 ]
 
+-- each request that a call sends is for a row
+asks_row : (c : Config) (w : Caller) (past : List Trace) (ms : List Action) (now : SiteNow) (op : Op) → MayAsk c w past ms now op → is_row_request op ≡ true
+asks_row c w past ms now (ReadRow key) may = refl
+asks_row c w past ms now (WriteRow key expect step row) may = refl
+asks_row c w past ms now op may = absurd may
+
 pub busy_measures : (c : Config) → Measures c (busy c)
-busy_measures c = record { grows = λ w past ms a may. busy_more c ms a may.site may.idle }
+busy_measures c = record { grows = λ w past ms a may. busy_more c ms a (asks_row c w past ms (site_now ms a.site) a.op may.asks) may.site may.idle }

@@ -5,21 +5,17 @@ use Rattle.std.proofs.lemmas.Bool.{eq-eqb, or_left, or_right}
 use Rattle.std.specs.Prelude.{◌==◌, if◌then◌else◌}
 use Rattle.gz_core.specs.Names.{Name, same_name}
 use Rattle.gz_core.specs.Values.{name_of}
-use Rattle.gz_core.specs.Calls.{own_value}
 use Rattle.gz_core.specs.Rows.{RowAt}
 use Rattle.gz_core.specs.Slots.{Act, VotesFast, Promises, VotesClassic, Decides, Trims, Makes, act_of, slots}
-use Rattle.gz_core.specs.declared.calls.Call.{Call}
-use Rattle.gz_core.specs.declared.calls.Call.TheVariants.{Put as PutCall, Delete as DeleteCall, Get as GetCall}
 use Rattle.gz_config.specs.declared.Config.{Config}
 use Rattle.gz_core.specs.declared.values.Value.{Value}
-use Rattle.gz_core.specs.declared.values.Value.TheVariants.{Tomb, Put as PutOf}
 use Rattle.gz_core.specs.declared.requests.RowStep.{RowStep}
 use Rattle.gz_core.specs.declared.requests.RowStep.TheVariants.{FastVote, Promise, ClassicVote, Decide, Trim}
 use Rattle.gz_core.specs.declared.requests.Op.{Op}
-use Rattle.gz_core.specs.declared.requests.Op.TheVariants.{ReadRow, WriteRow}
+use Rattle.gz_core.specs.declared.requests.Op.TheVariants.{WriteRow}
 use Rattle.gz_accept.specs.Steps.{fast_voted, promised, classic_voted, decided, trimmed_to}
 use Rattle.gz_accept.proofs.Making.{makes_fast, makes_promise, makes_classic, makes_decision, makes_trim, made}
-use Rattle.gz_round.specs.History.{Action, Sent, Handed, GaveUp, Rested, GaveIn, Caller, Trace}
+use Rattle.gz_core.specs.History.{Action, Sent, Handed, GaveUp, Rested, GaveIn, Caller, Trace}
 use Rattle.gz_round.specs.Sent.{vote_by, of_step, passes_sent, voted_at}
 use Rattle.gz_round.specs.Shown.{IsClear}
 use Rattle.gz_round.specs.Sending.{IsMade}
@@ -55,8 +51,8 @@ step_votes step act u x e votes = votes_by step u x (subst (λ k. VotesFor k u x
 
 -- a write that a call sent with a vote is counted as one
 op_votes : (op : Op) (act : Act) (u : ℕ) (x : Name) → IsStepSent op act → VotesFor act u x → passes_sent (λ q. q == u) (of_step (vote_by x) op) ≡ true
-op_votes (ReadRow key) act u x h votes = absurd h
 op_votes (WriteRow key expect step row) act u x h votes = step_votes step act u x h votes
+op_votes op act u x h votes = absurd h
 
 pub sent_votes : (ms : List Action) (act : Act) (u : ℕ) (x : Name) → SentStep ms act → VotesFor act u x → voted_at x ms u ≡ true
 sent_votes [] act u x h votes = absurd h
@@ -72,13 +68,7 @@ sent_votes (GaveIn ∷ ms) act u x (inl h) votes = absurd h
 sent_votes (GaveIn ∷ ms) act u x (inr h) votes = sent_votes ms act u x h votes
 
 -- a call that is clear at a version is so by what it heard
-pub clear_heard : (c : Config) (w : Caller) (past : List Trace) (ms : List Action) (st : Store) (v : ℕ) → Keeps w.name past ms st → IsClear c w.name ms v → IsClearByRows c (heard_of ms) (writes_of st.asked) w.name v
+pub clear_heard : (c : Config) (w : Caller) (past : List Trace) (ms : List Action) (st : Store) (v : ℕ) → Keeps w past ms st → IsClear c w.name ms v → IsClearByRows c (heard_of ms) (writes_of st.asked) w.name v
 clear_heard c w past ms st v keeps clear = λ q u found own votes apart.
     let k = clear u apart (sent_votes ms q.act u w.name (keeps.own q found own) votes) in
     (k.0, k.1, shown_heard c st ms u k.0 keeps.stands k.2)
-
--- the own value of a call has its name
-pub own_named : (name : Name) (call : Call) (x : Value) → own_value name call ≡ Some x → name_of x ≡ name
-own_named name (PutCall key bytes) x e = let k : PutOf (record { name = name; bytes = bytes }) ≡ x = cc in sym (ap name_of k)
-own_named name (DeleteCall key) x e = let k : Tomb name ≡ x = cc in sym (ap name_of k)
-own_named name (GetCall key) x e = cc

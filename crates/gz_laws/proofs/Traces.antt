@@ -3,7 +3,7 @@ use Rattle.std.proofs.Common.{◌≡◌, ◌≢◌, ℕ, ◌+◌, ◌<◌, ◌�
 use Rattle.std.proofs.lemmas.Bool.{cases_eq}
 use Rattle.gz_config.specs.declared.Config.{Config}
 use Rattle.gz_core.specs.Names.{Name}
-use Rattle.gz_round.specs.History.{Trace}
+use Rattle.gz_core.specs.History.{Trace}
 use Rattle.gz_client.specs.Traces.{AllKeepRules}
 use Rattle.gz_laws.specs.Each.{EachTrace}
 use Rattle.gz_world.specs.States.{State}

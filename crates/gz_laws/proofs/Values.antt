@@ -11,21 +11,22 @@ use Rattle.gz_config.specs.declared.Config.{Config}
 use Rattle.gz_core.specs.declared.requests.RowStep.{RowStep}
 use Rattle.gz_core.specs.declared.requests.RowStep.TheVariants.{FastVote, Promise, ClassicVote, Decide, Trim}
 use Rattle.gz_core.specs.declared.requests.Op.{Op}
-use Rattle.gz_core.specs.declared.requests.Op.TheVariants.{ReadRow, WriteRow}
+use Rattle.gz_core.specs.declared.requests.Op.TheVariants.{WriteRow}
 use Rattle.gz_core.specs.declared.requests.Reply.{Reply}
-use Rattle.gz_core.specs.declared.requests.Reply.TheVariants.{Row, NoRow, Written, Changed, Failed}
+use Rattle.gz_core.specs.declared.requests.Reply.TheVariants.{Row, NoRow, Written}
 use Rattle.gz_accept.specs.Steps.{vote_in, with_column_at}
 use Rattle.gz_accept.proofs.Seen.{column_in_with}
 use Rattle.gz_round.specs.declared.hearing.Seen.{Seen}
-use Rattle.gz_round.specs.History.{Asked, Action, Sent, Handed, GaveUp, Rested, GaveIn, Caller, Trace}
+use Rattle.gz_core.specs.History.{Asked, Action, Sent, Handed, GaveUp, Rested, GaveIn, Caller, Trace}
 use Rattle.gz_round.specs.Rounds.{IsValueKnown}
 use Rattle.gz_round.specs.Sending.{MayMake, MayAsk, IsMade}
 use Rattle.gz_round.specs.Shown.{column_value, vote_value}
-use Rattle.gz_round.specs.Sites.{SiteNow, site_now, after, after_reply, seen_in, written_by, can_stand, is_changed, is_to, WasHeard}
+use Rattle.gz_round.specs.Sites.{SiteNow, site_now, after, after_reply, seen_in, written_by, is_changed, is_to, WasHeard}
 use Rattle.gz_history.specs.declared.record.CallRec.{CallRec}
 use Rattle.gz_laws.specs.Carried.{ActionsCarried}
 use Rattle.gz_world.specs.States.{RequestAt, numbered}
 use Rattle.gz_laws.specs.Valued.{IsGiven, AreGiven, IsGivenOp, IsGivenReply}
+use Rattle.gz_laws.proofs.AsHeard.{of_reply}
 
 -- a row with another column has the values of the old one, and that column's
 with_given : (calls : List CallRec) (row : RowAt) (v : ℕ) (column : Column) → AreGiven calls row → ((x : Value) → column_value (Some column) ≡ Some x → IsGiven calls x) → AreGiven calls (with_column_at row v column)
@@ -53,7 +54,7 @@ abbrev pub AreHeardGiven : List CallRec → List Action → Type 0
 AreHeardGiven calls ms = (s : ℕ) (row : RowAt) → WasHeard ms s row → AreGiven calls row
 
 abbrev pub IsOwnGiven : List CallRec → Caller → Type 0
-IsOwnGiven calls w = (x : Value) → own_value w.name w.call ≡ Some x → IsGiven calls x
+IsOwnGiven calls w = (x : Value) → w.own ≡ Some x → IsGiven calls x
 
 known_given : (calls : List CallRec) (w : Caller) (ms : List Action) (v : ℕ) (x : Value) → IsOwnGiven calls w → AreHeardGiven calls ms → IsValueKnown w ms v x → IsGiven calls x
 known_given calls w ms v x own heard (inl e) = own x e
@@ -77,17 +78,11 @@ abbrev IsGivenSeen : List CallRec → Option Seen → Type 0
 IsGivenSeen calls None = Unit {0}
 IsGivenSeen calls (Some seen) = AreGiven calls seen.row
 
-under_given : (calls : List CallRec) (etag : Option ℕ) (row : RowAt) (b : Bool) → AreGiven calls row → IsGivenSeen calls (if b then Some (record { etag = etag; row = row }) else None)
-under_given calls etag row true h = h
-under_given calls etag row false h = tt
-
 seen_given : (calls : List CallRec) (op : Op) (reply : Reply) → IsGivenOp calls op → IsGivenReply calls reply → IsGivenSeen calls (seen_in (written_by op) reply)
-seen_given calls op (Row etag row) o r = under_given calls (Some etag) row (can_stand row) r
+seen_given calls op (Row etag row) o r = r
 seen_given calls op NoRow o r = empty_given calls
-seen_given calls (ReadRow key) (Written etag) o r = tt
-seen_given calls (WriteRow key expect step row) (Written etag) o r = under_given calls (Some etag) row (can_stand row) o
-seen_given calls op Changed o r = tt
-seen_given calls op Failed o r = tt
+seen_given calls (WriteRow key expect step row) (Written etag) o r = o
+seen_given calls op reply o r = tt
 
 -- the requests of a net and their replies
 pub record AreNetGiven (calls : List CallRec) (net : List RequestAt) : Type 0 where
@@ -99,7 +94,8 @@ handed_given calls net name a reply ms all carried =
     let r = carried.0.0 in
     let req = carried.0.1.0 in
     let has = carried.0.1.1 in
-    seen_given calls a.op reply (subst (IsGivenOp calls) req.op_is (all.requests a.number r req.there)) (all.replies a.number has.place has.tick r reply req.there has.there)
+    let shown = seen_given calls r.op has.made (all.requests a.number r req.there) (all.replies a.number has.place has.tick r has.made req.there has.there) in
+    subst (λ (op : Op). IsGivenSeen calls (seen_in (written_by op) reply)) req.op_is (of_reply (IsGivenSeen calls) r reply has tt shown)
 
 seen_row : (calls : List CallRec) (o : Option Seen) (seen : Seen) → o ≡ Some seen → IsGivenSeen calls o → AreGiven calls seen.row
 seen_row calls None seen e h = cc
@@ -147,7 +143,7 @@ last_given calls net name (GaveIn ∷ ms) s all carried = last_given calls net n
 
 -- a request that a call may send
 pub ask_given : (calls : List CallRec) (c : Config) (w : Caller) (past : List Trace) (ms : List Action) (now : SiteNow) (op : Op) → IsOwnGiven calls w → AreHeardGiven calls ms → IsLastGiven calls now.row → MayAsk c w past ms now op → IsGivenOp calls op
-ask_given calls c w past ms now (ReadRow key) own heard last may = tt
 ask_given calls c w past ms now (WriteRow key expect step row) own heard last may =
     let m = may.1 in
     made_given calls c w past ms step m.before row own heard m.guard m.made (last (record { etag = expect; row = m.before }) m.last)
+ask_given calls c w past ms now op own heard last may = tt

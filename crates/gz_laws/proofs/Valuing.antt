@@ -3,7 +3,6 @@ use Rattle.std.proofs.Common.{◌≡◌, ℕ, zero, suc, ◌+◌, ◌-◌, inl, 
 use Rattle.std.proofs.lemmas.Bool.{cases_eq}
 use Rattle.std.specs.Prelude.{Option, MatchOption, IfSome, IsSome, slice_get}
 use Rattle.gz_core.specs.Names.{Name}
-use Rattle.gz_core.specs.Calls.{own_value}
 use Rattle.gz_core.specs.Rows.{RowAt}
 use Rattle.gz_core.specs.declared.calls.Answer.{Answer}
 use Rattle.gz_core.specs.declared.calls.Call.{Call}
@@ -15,7 +14,8 @@ use Rattle.gz_core.specs.declared.requests.Out.{Out}
 use Rattle.gz_core.specs.declared.requests.Reply.{Reply}
 use Rattle.gz_core.specs.declared.requests.Reply.TheVariants.{Row, NoRow, Written, Changed, Failed}
 use Rattle.gz_core.specs.declared.requests.Turn.{Turn}
-use Rattle.gz_round.specs.History.{Asked, Action, Sent, Handed, GaveUp, Caller, Trace, asked_of, sent_from}
+use Rattle.gz_core.specs.History.{Asked, Action, Sent, Handed, GaveUp, Caller, Trace, asked_of, sent_from}
+use Rattle.gz_core.specs.Calls.{IsOwn}
 use Rattle.gz_round.specs.Sites.{site_now, after, is_to}
 use Rattle.gz_round.specs.Sending.{AreAllowed}
 use Rattle.gz_client.specs.Traces.{AllKeepRules}
@@ -31,7 +31,7 @@ use Rattle.gz_laws.specs.Placed.{ArePlaced}
 use Rattle.gz_world.specs.Reached.{IsOpening, IsReached, opened, stepped, AllTell}
 use Rattle.gz_world.specs.Refusals.{refusal_of}
 use Rattle.gz_world.specs.States.{RequestAt, State, tick_of, next_of, numbered, with_reply, with_handed, with_given_up, end_at}
-use Rattle.gz_world.specs.Steps.{Answers, SitesStay, BeginsBy, DeliversBy, TurnBy, TakesTurn, CallEnds, answered, HasEffect, Does, Skips, WorldStep}
+use Rattle.gz_world.specs.Steps.{Answers, SitesStay, BeginsBy, DeliversBy, TurnBy, TakesTurn, CallEnds, answered, HasEffect, Does, Skips, WorldStep, hears}
 use Rattle.gz_laws.specs.Valued.{IsGiven, AreGiven, IsGivenKept, IsGivenOp, IsGivenReply, AreValued}
 use Rattle.gz_laws.proofs.Carrying.{carried}
 use Rattle.gz_laws.proofs.Growing.{allowed_base}
@@ -46,6 +46,8 @@ use Rattle.gz_laws.proofs.RunTools.{IsAlike, set_cases}
 use Rattle.gz_laws.proofs.RunTurns.{turn_net}
 use Rattle.gz_laws.proofs.Running.{step_tell, handed_action, told_request}
 use Rattle.gz_laws.proofs.Values.{AreHeardGiven, IsOwnGiven, IsLastGiven, AreNetGiven, chosen_given, awaited_given, heard_given, last_given, ask_given}
+use Rattle.gz_laws.proofs.BlobSteps.{blob_leaves}
+use Rattle.gz_laws.proofs.Owning.{own_of}
 
 -- what was given stays given
 abbrev GivesMore : List CallRec → List CallRec → Type 0
@@ -59,15 +61,12 @@ kept_more old new None more h = tt
 kept_more old new (Some k) more h = row_more old new k.1 more h
 
 op_more : (old new : List CallRec) (op : Op) → GivesMore old new → IsGivenOp old op → IsGivenOp new op
-op_more old new (ReadRow key) more h = tt
 op_more old new (WriteRow key expect step row) more h = row_more old new row more h
+op_more old new op more h = tt
 
 reply_more : (old new : List CallRec) (reply : Reply) → GivesMore old new → IsGivenReply old reply → IsGivenReply new reply
 reply_more old new (Row etag row) more h = row_more old new row more h
-reply_more old new NoRow more h = tt
-reply_more old new (Written etag) more h = tt
-reply_more old new Changed more h = tt
-reply_more old new Failed more h = tt
+reply_more old new reply more h = tt
 
 gives_same : (old new : List CallRec) → new ≡ old → GivesMore old new
 gives_same old new e = λ x h. subst (λ xs. IsGiven xs x) (sym e) h
@@ -75,9 +74,13 @@ gives_same old new e = λ x h. subst (λ xs. IsGiven xs x) (sym e) h
 gives_append : (old new more : List CallRec) → new ≡ old ++ more → GivesMore old new
 gives_append old new more e = λ x h. subst (λ xs. IsGiven xs x) (sym e) (h.0, h.1, get_append old more h.0 h.1 h.2, h.3)
 
-answered_own : (tick : ℕ) (o : Option Answer) (c : CallRec) → own_value (answered tick o c).name (answered tick o c).call ≡ own_value c.name c.call
-answered_own tick None c = refl
-answered_own tick (Some answer) c = refl
+answered_own : (tick : ℕ) (o : Option Answer) (c : CallRec) (x : Value) → IsOwn c.name c.call (Some x) → IsOwn (answered tick o c).name (answered tick o c).call (Some x)
+answered_own tick None c x h = h
+answered_own tick (Some answer) c x h = h
+
+-- the own value of a trace's call is that of the call's record
+own_listed : (c : CallRec) (w : Caller) (x : Value) → w.name ≡ c.name → w.call ≡ c.call → IsOwn w.name w.call (Some x) → IsOwn c.name c.call (Some x)
+own_listed c w x name call h = subst (λ (q : Call). IsOwn c.name q (Some x)) call (subst (λ (q : Name). IsOwn q w.call (Some x)) name h)
 
 gives_ends : (old new : List CallRec) (name : Name) (tick : ℕ) (o : Option Answer) → CallEnds old name tick o new → GivesMore old new
 gives_ends old new name tick o ends = λ x h.
@@ -85,7 +88,7 @@ gives_ends old new name tick o ends = λ x h.
     subst (λ xs. IsGiven xs x) (sym ends.1.1.1.1) (elim (cases_eq h.0 ends.0) [
       | inl e ↦ (let both : Some ends.1.0 ≡ Some h.1 = sym ends.1.1.0 ∙ sym (ap (slice_get old) e) ∙ h.2 in
           let same : ends.1.0 ≡ h.1 = cc in
-          (ends.0, ended, get_set_same old ends.0 ends.1.0 ended ends.1.1.0, answered_own tick o ends.1.0 ∙ ap (λ (c : CallRec). own_value c.name c.call) same ∙ h.3))
+          (ends.0, ended, get_set_same old ends.0 ends.1.0 ended ends.1.1.0, answered_own tick o ends.1.0 x (subst (λ (c : CallRec). IsOwn c.name c.call (Some x)) (sym same) h.3)))
       | inr ne ↦ (h.0, h.1, get_set_other old ends.0 h.0 ended ne ∙ h.2, h.3)
     ])
 
@@ -109,15 +112,15 @@ AllGiven calls told = (key : List ℕ) → IsGivenKept calls (told.rows key)
 told_given : (calls : List CallRec) (op : Op) (reply : Reply) (before after : Told) → IsGivenOp calls op → AllGiven calls before → Answers before op reply after → AllGiven calls after × IsGivenReply calls reply
 told_given calls (ReadRow k) (Row etag row) before after given all ans = (subst (AllGiven calls) (sym ans.1) all, subst (IsGivenKept calls) ans.0 (all k))
 told_given calls (ReadRow k) NoRow before after given all ans = (subst (AllGiven calls) (sym ans.1) all, tt)
-told_given calls (ReadRow k) (Written etag) before after given all ans = absurd ans
-told_given calls (ReadRow k) Changed before after given all ans = absurd ans
 told_given calls (ReadRow k) Failed before after given all ans = (subst (AllGiven calls) (sym ans) all, tt)
-told_given calls (WriteRow k expect step row) (Row etag shown) before after given all ans = absurd ans
-told_given calls (WriteRow k expect step row) NoRow before after given all ans = absurd ans
+told_given calls (ReadRow k) reply before after given all ans = absurd ans
 told_given calls (WriteRow k expect step row) (Written etag) before after given all ans = (λ key. stored_given calls before after k etag row key ans.1 given (all key), tt)
 told_given calls (WriteRow k expect step row) Changed before after given all ans = (subst (AllGiven calls) (sym ans.1) all, tt)
 told_given calls (WriteRow k expect step row) Failed before after given all (inl ans) = (subst (AllGiven calls) (sym ans) all, tt)
 told_given calls (WriteRow k expect step row) Failed before after given all (inr ans) = (λ key. stored_given calls before after k ans.0 row key ans.2 given (all key), tt)
+told_given calls (WriteRow k expect step row) reply before after given all ans = absurd ans
+told_given calls op (Row etag row) before after given all ans = absurd ans
+told_given calls op reply before after given all ans = (λ key. subst (λ (rows : List ℕ → Option (ℕ × RowAt)). IsGivenKept calls (rows key)) (sym (blob_leaves before after op reply refl ans).rows) (all key), tt)
 
 deliver_valued : (old new : State) (n : ℕ) (r : RequestAt) (reply : Reply) (effect : Effect) → DeliversBy old n r reply effect new → IsSome (old.sites r.site) → AreValued old → AreValued new
 deliver_valued old new n r reply effect d tells v =
@@ -173,16 +176,16 @@ sent_valued old new name tick outs stay net more sent v = record {
   ];
 }
 
-begin_valued : (old new : State) (session : ℕ) (call : Call) (turn : Turn) (effect : Effect) → BeginsBy old session call turn effect new → AreValued old → AreValued new
-begin_valued old new session call turn effect b v =
+begin_valued : (old new : State) (session : ℕ) (call : Call) (own : Option Value) (turn : Turn) (effect : Effect) → BeginsBy old session call own turn effect new → AreValued old → AreValued new
+begin_valued old new session call own turn effect b v =
     let past = old.traces session in
     let name : Name = record { session = session; seq = length past + 1 } in
-    let w : Caller = record { name = name; call = call } in
+    let w : Caller = record { name = name; call = call; own = own } in
     let tick = tick_of old in
     let fresh : CallRec = record { name = name; call = call; begin = tick; end = end_at tick turn.answer; answer = turn.answer } in
-    let own : IsOwnGiven new.calls w = λ x e. (length old.calls, fresh, ap (λ xs. slice_get xs (length old.calls)) b.calls ∙ get_last old.calls fresh, e) in
+    let given : IsOwnGiven new.calls w = λ x e. (length old.calls, fresh, ap (λ xs. slice_get xs (length old.calls)) b.calls ∙ get_last old.calls fresh, own_of w (Some x) b.moves.told.0.own e) in
     sent_valued old new name tick turn.send b.sites (begin_net old new name tick turn.send b.net) (gives_append old.calls new.calls (fresh ∷ []) b.calls)
-    (sends_given new.calls old.cfg w past (next_of old) turn.send [] own (λ s row h. absurd h, λ s k e. cc) b.moves.told.0.allowed) v
+    (sends_given new.calls old.cfg w past (next_of old) turn.send [] given (λ s row h. absurd h, λ s k e. cc) b.moves.told.0.allowed) v
 
 pub net_given : (s : State) → AreValued s → AreNetGiven s.calls s.net
 net_given s v = record { requests = v.requests; replies = v.replies }
@@ -199,8 +202,8 @@ turn_valued old new n r marked action by effect t alike action_carried listed ca
     let c = t.calls.1.0 in
     let here : c.name.session ≡ session = ap (λ (x : Name). x.session) (t.calls.1.1.1.0 ∙ told.1) in
     let among : IsAmong old.cfg c (by.trace ∷ by.earlier) = subst (IsAmong old.cfg c) (ap old.traces here ∙ t.traces) (listed.traces t.calls.0 c t.calls.1.1.0) in
-    let caller = (newest old.cfg session c by.trace by.earlier told among t.calls.1.1.1.0).caller in
-    let own : IsOwnGiven old.calls w = λ x e. (t.calls.0, c, t.calls.1.1.0, sym (ap (λ (k : Caller). own_value k.name k.call) caller) ∙ e) in
+    let is = newest old.cfg session c by.trace by.earlier told among t.calls.1.1.1.0 in
+    let own : IsOwnGiven old.calls w = λ x e. (t.calls.0, c, t.calls.1.1.0, own_listed c w x is.name_is is.call_is (own_of w (Some x) told.0.own e)) in
     let heard : ActionsCarried old.net w.name ms = (action_carried, (subst (TracesCarried old.net) t.traces (carries session)).0) in
     let allowed = closing_allowed old.cfg w by.earlier by.closing (sent_from first outs ms) t.closing t.moves.told.0.allowed in
     let more = gives_ends old.calls new.calls w.name tick by.turn.answer t.calls in
@@ -209,10 +212,10 @@ turn_valued old new n r marked action by effect t alike action_carried listed ca
 
 does_valued : (old new : State) (event : Event) (effect : Effect) → Does old event effect new → AllTell old → AreCallsListed old → AreCarried old → ArePlaced old → AreValued old → AreValued new
 does_valued old new events.OpenSession effect d tell l c p v = same_valued old new d.sites.sites d.net d.calls v
-does_valued old new (events.Begin session call) effect d tell l c p v = begin_valued old new session call d.0 effect d.1 v
+does_valued old new (events.Begin session call) effect d tell l c p v = begin_valued old new session call d.0 d.1.0 effect d.1.1 v
 does_valued old new (events.Deliver n) effect d tell l c p v = deliver_valued old new n d.0 d.1.0 effect d.1.1 (tell d.0.site (p.requests n d.0 d.1.1.request).site) v
 does_valued old new (events.Reply n which) effect d tell l c p v =
-    turn_valued old new n d.0 (with_handed (tick_of old) which d.0) (λ a. Handed a d.1.0.1) d.1.1.0 effect d.1.1.1.1 (handed_alike (tick_of old) which d.0) (handed_action old new n which d.0 d.1.0 d.1.1.0 effect d.1.1.1.0 d.1.1.1.1 c) l c v
+    turn_valued old new n d.0 (with_handed (tick_of old) which d.0) (hears d.1.0.1) d.1.1.0 effect d.1.1.1.1 (handed_alike (tick_of old) which d.0) (handed_action old new n which d.0 d.1.0 d.1.1.0 effect d.1.1.1.0 d.1.1.1.1 c) l c v
 does_valued old new (events.GiveUp n) effect d tell l c p v =
     turn_valued old new n d.0 (with_given_up (tick_of old) d.0) (λ a. GaveUp a) d.1.0 effect d.1.1 (given_up_alike (tick_of old) d.0) (d.0, told_request old new n d.0 (with_given_up (tick_of old) d.0) (λ a. GaveUp a) d.1.0 effect d.1.1 c) l c v
 does_valued old new (events.Crash session) effect d tell l c p v = same_valued old new d.sites.sites d.net d.calls v

@@ -15,12 +15,12 @@ use Rattle.gz_core.specs.declared.requests.Reply.{Reply}
 use Rattle.gz_core.specs.declared.requests.Reply.TheVariants.{Row, NoRow, Written, Changed, Failed}
 use Rattle.gz_core.specs.declared.requests.Turn.{Turn}
 use Rattle.gz_core.proofs.Counting.{count_most}
-use Rattle.gz_round.specs.declared.hearing.Seen.{Seen}
-use Rattle.gz_round.specs.History.{Asked, Action, Sent, Handed, GaveUp, GaveIn, Caller, Trace, IsClosing, sent_from, begun, turned}
+use Rattle.gz_core.specs.History.{Asked, Action, Sent, Handed, GaveUp, GaveIn, Caller, Trace, IsClosing, sent_from, begun, turned}
+use Rattle.gz_core.specs.declared.values.Value.{Value}
 use Rattle.gz_round.specs.Rounds.{top_rounds}
 use Rattle.gz_round.specs.Sending.{AreAllowed}
 use Rattle.gz_round.specs.Sent.{has_promised_at, top_round}
-use Rattle.gz_round.specs.Sites.{can_stand, seen_under, seen_in, written_by}
+use Rattle.gz_round.specs.Sites.{can_stand}
 use Rattle.gz_site.specs.Told.{Told, IsEmpty, same_key}
 use Rattle.gz_site.specs.Steps.{RowStored}
 use Rattle.gz_world.specs.declared.events.Effect.{Effect}
@@ -30,7 +30,7 @@ use Rattle.gz_world.specs.declared.events.Event.TheVariants as events
 use Rattle.gz_world.specs.Reached.{IsOpening, IsReached, opened, stepped, AllTell}
 use Rattle.gz_world.specs.Refusals.{refusal_of}
 use Rattle.gz_world.specs.States.{RequestAt, State, tick_of, next_of, numbered, with_reply, with_handed, with_given_up, sent_request, sent_requests}
-use Rattle.gz_world.specs.Steps.{Answers, SessionMoves, SitesStay, BeginsBy, DeliversBy, TurnBy, TakesTurn, HasEffect, Does, Skips, WorldStep}
+use Rattle.gz_world.specs.Steps.{Answers, SessionMoves, SitesStay, BeginsBy, DeliversBy, TurnBy, TakesTurn, HasEffect, Does, Skips, WorldStep, hears}
 use Rattle.gz_world.proofs.Members.{numbered_place}
 use Rattle.gz_laws.specs.Bounded.{IsRowWithin, IfKept, IfWritten, IfShown, EachRow, ArePromisesWithin, AreWithin, IsHeard, CanStand}
 use Rattle.gz_laws.specs.Carried.{ActionCarried, ActionsCarried, TracesCarried, AreCarried}
@@ -49,6 +49,8 @@ use Rattle.gz_laws.proofs.RunTools.{set_cases}
 use Rattle.gz_laws.proofs.Running.{told_request, handed_action, step_tell}
 use Rattle.gz_laws.proofs.SendBounds.{Measures, HasSentWithin, sends_within, sent_measures, sent_length, awaited_at, busy, busy_measures}
 use Rattle.gz_laws.proofs.Traces.{each_on, each_moved}
+use Rattle.gz_laws.proofs.AsHeard.{stands_heard}
+use Rattle.gz_laws.proofs.BlobSteps.{blob_leaves}
 
 -- rows of which less is asked
 kept_on : (P Q : RowAt → Type 0) (o : Option (ℕ × RowAt)) → ((row : RowAt) → P row → Q row) → IfKept P o → IfKept Q o
@@ -56,15 +58,12 @@ kept_on P Q None f h = tt
 kept_on P Q (Some kept) f h = f kept.1 h
 
 written_on : (P Q : RowAt → Type 0) (op : Op) → ((row : RowAt) → P row → Q row) → IfWritten P op → IfWritten Q op
-written_on P Q (ReadRow key) f h = tt
 written_on P Q (WriteRow key expect step row) f h = f row h
+written_on P Q op f h = tt
 
 shown_on : (P Q : RowAt → Type 0) (reply : Reply) → ((row : RowAt) → P row → Q row) → IfShown P reply → IfShown Q reply
 shown_on P Q (Row etag row) f h = f row h
-shown_on P Q NoRow f h = tt
-shown_on P Q (Written etag) f h = tt
-shown_on P Q Changed f h = tt
-shown_on P Q Failed f h = tt
+shown_on P Q reply f h = tt
 
 rows_on : (P Q : RowAt → Type 0) (s : State) → ((row : RowAt) → P row → Q row) → EachRow P s → EachRow Q s
 rows_on P Q s f h = record {
@@ -104,22 +103,18 @@ left_has P before told key e h = subst (λ (t : Told). IfKept P (t.rows key)) (s
 answer_kept : (P : RowAt → Type 0) (before told : Told) (op : Op) (reply : Reply) (key : List ℕ) → Answers before op reply told → IfWritten P op → IfKept P (before.rows key) → IfKept P (told.rows key)
 answer_kept P before told (ReadRow k) (Row etag row) key h w old = left_has P before told key h.1 old
 answer_kept P before told (ReadRow k) NoRow key h w old = left_has P before told key h.1 old
-answer_kept P before told (ReadRow k) (Written etag) key h w old = absurd h
-answer_kept P before told (ReadRow k) Changed key h w old = absurd h
 answer_kept P before told (ReadRow k) Failed key h w old = left_has P before told key h old
-answer_kept P before told (WriteRow k expect step row) (Row etag shown) key h w old = absurd h
-answer_kept P before told (WriteRow k expect step row) NoRow key h w old = absurd h
+answer_kept P before told (ReadRow k) reply key h w old = absurd h
 answer_kept P before told (WriteRow k expect step row) (Written etag) key h w old = stored_has P before told k etag row key h.1 w old
 answer_kept P before told (WriteRow k expect step row) Changed key h w old = left_has P before told key h.1 old
 answer_kept P before told (WriteRow k expect step row) Failed key h w old = elim h [ inl e ↦ left_has P before told key e old | inr d ↦ stored_has P before told k d.0 row key d.2 w old ]
+answer_kept P before told (WriteRow k expect step row) reply key h w old = absurd h
+answer_kept P before told op reply key h w old = subst (λ (rows : List ℕ → Option (ℕ × RowAt)). IfKept P (rows key)) (sym (blob_leaves before told op reply refl h).rows) old
 
 answer_shown : (P : RowAt → Type 0) (before told : Told) (op : Op) (reply : Reply) → Answers before op reply told → ((key : List ℕ) → IfKept P (before.rows key)) → IfShown P reply
 answer_shown P before told (ReadRow k) (Row etag row) h old = subst (IfKept P) h.0 (old k)
-answer_shown P before told (WriteRow k expect step row) (Row etag shown) h old = absurd h
-answer_shown P before told op NoRow h old = tt
-answer_shown P before told op (Written etag) h old = tt
-answer_shown P before told op Changed h old = tt
-answer_shown P before told op Failed h old = tt
+answer_shown P before told op (Row etag row) h old = absurd h
+answer_shown P before told op reply h old = tt
 
 deliver_rows : (P : RowAt → Type 0) (old new : State) (n : ℕ) (r : RequestAt) (reply : Reply) (effect : Effect) → DeliversBy old n r reply effect new → IsSome (old.sites r.site) → EachRow P old → EachRow P new
 deliver_rows P old new n r reply effect d tells h =
@@ -219,13 +214,13 @@ sent_count : (name : Name) (tick : ℕ) (outs : List Out) → length (sent_reque
 sent_count name tick [] = refl
 sent_count name tick (o ∷ os) = ap suc (sent_count name tick os)
 
-begin_within : (v r q : ℕ) (old new : State) (session : ℕ) (call : Call) (turn : Turn) (effect : Effect) → BeginsBy old session call turn effect new → HasRoom old new old.cfg r q → AreCallsListed old → ArePlaced old → AreWithin v r old → AreWithin (v + 1) q new
-begin_within v r q old new session call turn effect b room l p h =
+begin_within : (v r q : ℕ) (old new : State) (session : ℕ) (call : Call) (own : Option Value) (turn : Turn) (effect : Effect) → BeginsBy old session call own turn effect new → HasRoom old new old.cfg r q → AreCallsListed old → ArePlaced old → AreWithin v r old → AreWithin (v + 1) q new
+begin_within v r q old new session call own turn effect b room l p h =
     let past = old.traces session in
     let name : Name = record { session = session; seq = length past + 1 } in
-    let w : Caller = record { name = name; call = call } in
+    let w : Caller = record { name = name; call = call; own = own } in
     let len : length new.net ≡ length old.net + length turn.send = ap length b.net ∙ length-append old.net (sent_requests name (tick_of old) turn.send) ∙ ap (λ k. length old.net + k) (sent_count name (tick_of old) turn.send) in
-    moves_within v r q old new session (next_of old) w past turn.send [] (begun session call (next_of old) turn past) room len p.config b.sites.sites (begin_cases old.net new.net name (tick_of old) turn.send b.net) b.moves.told.0.allowed tt (h.traces session) (omega arith)
+    moves_within v r q old new session (next_of old) w past turn.send [] (begun session call own (next_of old) turn past) room len p.config b.sites.sites (begin_cases old.net new.net name (tick_of old) turn.send b.net) b.moves.told.0.allowed tt (h.traces session) (omega arith)
     (λ u d e. cc) b.moves refl (λ u d. refl) l h
 
 turn_within : (v r q : ℕ) (old new : State) (n : ℕ) (x marked : RequestAt) (action : Asked → Action) (by : TurnBy) (effect : Effect) → TakesTurn old n x action by marked effect new → IsKeptAs x marked → HasRoom old new old.cfg r q → ((a : Asked) (ms : List Action) → top_round (action a ∷ ms) ≡ top_round ms)
@@ -250,14 +245,14 @@ turn_within v r q old new n x marked action by effect t kept room rounds promise
 
 does_within : (v r q : ℕ) (old new : State) (event : Event) (effect : Effect) → Does old event effect new → r ≤ q → HasRoom old new old.cfg r q → AllTell old → AreCallsListed old → AreCarried old → ArePlaced old → AreWithin v r old → AreWithin (v + 1) q new
 does_within v r q old new events.OpenSession effect d le room tells l c p h = within_wider v (v + 1) r q new (omega arith) le (within_same v r old new d.sites.sites d.traces d.net h)
-does_within v r q old new (events.Begin session call) effect d le room tells l c p h = begin_within v r q old new session call d.0 effect d.1 room l p h
+does_within v r q old new (events.Begin session call) effect d le room tells l c p h = begin_within v r q old new session call d.0 d.1.0 effect d.1.1 room l p h
 does_within v r q old new (events.Deliver n) effect d le room tells l c p h =
     within_wider v (v + 1) r q new (omega arith) le (record {
       rows = deliver_rows (IsRowWithin v r) old new n d.0 d.1.0 effect d.1.1 (tells d.0.site (p.requests n d.0 d.1.1.request).site) h.rows;
       traces = λ m. subst (EachTrace (ArePromisesWithin v r)) (sym (d.1.1.sessions.traces m)) (h.traces m);
     })
 does_within v r q old new (events.Reply n which) effect d le room tells l c p h =
-    turn_within v r q old new n d.0 (with_handed (tick_of old) which d.0) (λ a. Handed a d.1.0.1) d.1.1.0 effect d.1.1.1.1 (kept_handed (tick_of old) which d.0) room (λ a ms. refl) (λ a ms u b. refl) (handed_action old new n which d.0 d.1.0 d.1.1.0 effect d.1.1.1.0 d.1.1.1.1 c) l c p h
+    turn_within v r q old new n d.0 (with_handed (tick_of old) which d.0) (hears d.1.0.1) d.1.1.0 effect d.1.1.1.1 (kept_handed (tick_of old) which d.0) room (λ a ms. refl) (λ a ms u b. refl) (handed_action old new n which d.0 d.1.0 d.1.1.0 effect d.1.1.1.0 d.1.1.1.1 c) l c p h
 does_within v r q old new (events.GiveUp n) effect d le room tells l c p h =
     turn_within v r q old new n d.0 (with_given_up (tick_of old) d.0) (λ a. GaveUp a) d.1.0 effect d.1.1 (kept_given_up (tick_of old) d.0) room (λ a ms. refl) (λ a ms u b. refl)
     (d.0, told_request old new n d.0 (with_given_up (tick_of old) d.0) (λ a. GaveUp a) d.1.0 effect d.1.1 c) l c p h
@@ -311,7 +306,7 @@ net_grows old new event step =
 
     does_grow : (event : Event) (effect : Effect) → Does old event effect step.1.0 → length old.net ≤ length step.1.0.net
     does_grow events.OpenSession effect d = let e = ap length d.net in omega (arith, e)
-    does_grow (events.Begin session call) effect d = let e = ap length d.1.net in let a = length-append old.net (sent_requests (record { session = session; seq = length (old.traces session) + 1 }) (tick_of old) d.0.send) in omega (arith, e, a)
+    does_grow (events.Begin session call) effect d = let e = ap length d.1.1.net in let a = length-append old.net (sent_requests (record { session = session; seq = length (old.traces session) + 1 }) (tick_of old) d.1.0.send) in omega (arith, e, a)
     does_grow (events.Deliver n) effect d = let e = ap length d.1.1.net in let a = length-set old.net (n - 1) (with_reply (tick_of old) d.1.0 d.0) in omega (arith, e, a)
     does_grow (events.Reply n which) effect d = set_more old.net (sent_requests d.1.1.0.trace.caller.name (tick_of old) d.1.1.0.turn.send) (n - 1) (with_handed (tick_of old) which d.0) step.1.0.net d.1.1.1.1.net
     does_grow (events.GiveUp n) effect d = set_more old.net (sent_requests d.1.0.trace.caller.name (tick_of old) d.1.0.turn.send) (n - 1) (with_given_up (tick_of old) d.0) step.1.0.net d.1.1.net
@@ -346,17 +341,11 @@ by_events _ (stepped old new event h step) tells =
     } in
     step_within (16 * length old.journal) (16 * length new.journal) old new event step (omega (arith, grew)) room tells (listed old h) (carried old h) (placed old h) (by_events old h (step_tell old new event step tells))
 
--- so each row is one that a run can hold
-under_heard : (etag : Option ℕ) (row : RowAt) → can_stand row ≡ true → seen_under etag row ≡ Some (let k : Seen = record { etag = etag; row = row } in k)
-under_heard etag row h = ap (λ b. if b then Some (let k : Seen = record { etag = etag; row = row } in k) else None) h
-
+-- so each row is one that a run can hold, and each reply is heard as it was made
 is_heard : (op : Op) (reply : Reply) → IfWritten (λ row. can_stand row ≡ true) op → IfShown (λ row. can_stand row ≡ true) reply → IsHeard op reply
-is_heard op (Row etag row) w h = under_heard (Some etag) row h
-is_heard op NoRow w h = tt
-is_heard (ReadRow key) (Written etag) w h = tt
-is_heard (WriteRow key expect step row) (Written etag) w h = under_heard (Some etag) row w
-is_heard op Changed w h = tt
-is_heard op Failed w h = tt
+is_heard op (Row etag row) w h = stands_heard row (Row etag row) h
+is_heard (WriteRow key expect step row) (Written etag) w h = stands_heard row (Written etag) w
+is_heard op reply w h = refl
 
 pub can_stand_all : (s : State) → IsReached s → AllTell s → length s.journal ≤ 4000000 → CanStand s
 can_stand_all s reached tells few =

@@ -8,7 +8,7 @@ use Rattle.gz_core.specs.Rows.{RowAt}
 use Rattle.gz_core.specs.Slots.{Act, VotesClassic, slots}
 use Rattle.gz_core.specs.declared.slots.Slot.TheVariants.{DecidedAs}
 use Rattle.gz_config.specs.declared.Config.{Config}
-use Rattle.gz_round.specs.History.{Trace}
+use Rattle.gz_core.specs.History.{Trace}
 use Rattle.gz_round.specs.Shown.{IsShown}
 use Rattle.gz_site.specs.Told.{Told}
 use Rattle.gz_history.specs.Answers.{shows, names}

@@ -4,8 +4,8 @@ use Rattle.gz_core.specs.Names.{Name, same_name}
 use Rattle.gz_core.specs.Calls.{key_of}
 use Rattle.gz_core.specs.Slots.{Act, act_of}
 use Rattle.gz_core.specs.declared.requests.Op.{Op}
-use Rattle.gz_core.specs.declared.requests.Op.TheVariants.{ReadRow, WriteRow}
-use Rattle.gz_round.specs.History.{Action, Sent, Handed, GaveUp, Rested, GaveIn, Trace}
+use Rattle.gz_core.specs.declared.requests.Op.TheVariants.{WriteRow}
+use Rattle.gz_core.specs.History.{Action, Sent, Handed, GaveUp, Rested, GaveIn, Trace}
 use Rattle.gz_ledger.specs.Histories.{RowSeen}
 use Rattle.gz_ledger.specs.Transitions.{Transition, Reads, Begins, Written, Failed, Elsewhere}
 use Rattle.gz_laws.specs.Heard.{heard_of}
@@ -21,8 +21,8 @@ begins_of name (Elsewhere s e ∷ ds) = begins_of name ds
 
 -- with one more request
 abbrev pub step_sent : Op → List RowSeen → List (List RowSeen × Act) → List (List RowSeen × Act)
-step_sent (ReadRow key) heard rest = rest
 step_sent (WriteRow key expect step row) heard rest = (heard, act_of step) ∷ rest
+step_sent op heard rest = rest
 
 -- those that a call's trace sends, the newest first
 abbrev pub sends_of : List Action → List (List RowSeen × Act)

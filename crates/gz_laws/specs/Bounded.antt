@@ -6,13 +6,12 @@ use Rattle.gz_core.specs.Rows.{RowAt}
 use Rattle.gz_core.specs.declared.rows.Column.{Column}
 use Rattle.gz_core.specs.declared.rows.Column.TheVariants.{Open, Decided}
 use Rattle.gz_core.specs.declared.requests.Op.{Op}
-use Rattle.gz_core.specs.declared.requests.Op.TheVariants.{ReadRow, WriteRow}
+use Rattle.gz_core.specs.declared.requests.Op.TheVariants.{WriteRow}
 use Rattle.gz_core.specs.declared.requests.Reply.{Reply}
-use Rattle.gz_core.specs.declared.requests.Reply.TheVariants.{Row, NoRow, Written, Changed, Failed}
-use Rattle.gz_round.specs.History.{Trace}
+use Rattle.gz_core.specs.declared.requests.Reply.TheVariants.{Row}
+use Rattle.gz_core.specs.History.{Trace}
 use Rattle.gz_round.specs.Sent.{has_promised_at, top_round}
-use Rattle.gz_round.specs.Sites.{can_stand, seen_in, written_by}
-use Rattle.gz_round.specs.declared.hearing.Seen.{Seen}
+use Rattle.gz_round.specs.Sites.{can_stand, as_heard, written_by}
 use Rattle.gz_site.specs.Told.{Told}
 use Rattle.gz_laws.specs.Each.{EachTrace}
 use Rattle.gz_laws.specs.Heard.{IsClean}
@@ -38,15 +37,12 @@ IfKept P None = Unit {0}
 IfKept P (Some kept) = P kept.1
 
 abbrev pub IfWritten : (RowAt → Type 0) → Op → Type 0
-IfWritten P (ReadRow key) = Unit {0}
 IfWritten P (WriteRow key expect step row) = P row
+IfWritten P op = Unit {0}
 
 abbrev pub IfShown : (RowAt → Type 0) → Reply → Type 0
 IfShown P (Row etag row) = P row
-IfShown P NoRow = Unit {0}
-IfShown P (Written etag) = Unit {0}
-IfShown P Changed = Unit {0}
-IfShown P Failed = Unit {0}
+IfShown P reply = Unit {0}
 
 -- of all rows of a world
 pub record EachRow (P : RowAt → Type 0) (s : State) : Type 0 where
@@ -63,16 +59,11 @@ pub record AreWithin (versions rounds : ℕ) (s : State) : Type 0 where
   pub rows : EachRow (IsRowWithin versions rounds) s
   pub traces : (session : ℕ) → EachTrace (ArePromisesWithin versions rounds) (s.traces session)
 
--- a row that is shown is heard
+-- a call hears a reply of its request as it was made
 abbrev pub IsHeard : Op → Reply → Type 0
-IsHeard op (Row etag row) = seen_in (written_by op) (Row etag row) ≡ Some (record { etag = Some etag; row = row })
-IsHeard op NoRow = Unit {0}
-IsHeard (ReadRow key) (Written etag) = Unit {0}
-IsHeard (WriteRow key expect step row) (Written etag) = seen_in (Some row) (Written etag) ≡ Some (record { etag = Some etag; row = row })
-IsHeard op Changed = Unit {0}
-IsHeard op Failed = Unit {0}
+IsHeard op reply = as_heard (written_by op) reply ≡ reply
 
--- each row is one that a run can hold, and none that a reply shows is unheard
+-- each row is one that a run can hold, and each reply is heard as it was made
 pub record CanStand (s : State) : Type 0 where
   pub rows : EachRow (λ row. can_stand row ≡ true) s
   pub heard : (n place tick : ℕ) (r : RequestAt) (reply : Reply) → numbered s.net n ≡ Some r → slice_get r.replies place ≡ Some (tick, reply) → IsHeard r.op reply

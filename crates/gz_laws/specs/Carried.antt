@@ -2,7 +2,8 @@
 use Rattle.std.specs.Prelude.{ℕ, ◌≡◌, List, [], ◌∷◌, Some, slice_get}
 use Rattle.gz_core.specs.Names.{Name}
 use Rattle.gz_core.specs.declared.requests.Reply.{Reply}
-use Rattle.gz_round.specs.History.{Asked, Action, Sent, Handed, GaveUp, Rested, GaveIn, Trace}
+use Rattle.gz_round.specs.Sites.{as_heard, written_by}
+use Rattle.gz_core.specs.History.{Asked, Action, Sent, Handed, GaveUp, Rested, GaveIn, Trace}
 use Rattle.gz_world.specs.States.{RequestAt, State, numbered}
 
 -- a call's request is the world's of its number
@@ -12,13 +13,15 @@ pub record IsRequestOf (net : List RequestAt) (name : Name) (a : Asked) (r : Req
   pub site_is : r.site ≡ a.site
   pub op_is : r.op ≡ a.op
 
--- a reply is among those of a request
+-- a reply is one of those that were made to a request, as the call of the request hears it
 pub record HasReply (r : RequestAt) (reply : Reply) : Type 0 where
   pub place : ℕ
   pub tick : ℕ
-  pub there : slice_get r.replies place ≡ Some (tick, reply)
+  pub made : Reply
+  pub there : slice_get r.replies place ≡ Some (tick, made)
+  pub heard : reply ≡ as_heard (written_by r.op) made
 
--- what is sent is a request of the world, and what is handed is a reply of that request
+-- what is sent is a request of the world, and what is handed is a reply of that request, as the call hears it
 abbrev pub ActionCarried : List RequestAt → Name → Action → Type 0
 ActionCarried net name (Sent a) = (r : RequestAt) × IsRequestOf net name a r
 ActionCarried net name (Handed a reply) = (r : RequestAt) × (IsRequestOf net name a r × HasReply r reply)

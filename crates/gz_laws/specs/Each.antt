@@ -1,6 +1,6 @@
 -- What holds of each trace.
 use Rattle.std.specs.Prelude.{List, [], ◌∷◌}
-use Rattle.gz_round.specs.History.{Trace}
+use Rattle.gz_core.specs.History.{Trace}
 
 abbrev pub EachTrace : (Trace → Type 0) → List Trace → Type 0
 EachTrace P [] = Unit {0}

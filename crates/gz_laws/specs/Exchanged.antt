@@ -2,27 +2,29 @@
 -- that whatever counts requests, replies and give-ups of a call can be read off the world.
 use Rattle.std.specs.Prelude.{ℕ, ◌≡◌, ◌+◌, ◌==◌, ◌⊎◌, Bool, true, false, if◌then◌else◌, List, [], ◌∷◌, ◌++◌, map, Option, Some, None, option_map, is_some}
 use Rattle.gz_core.specs.Names.{Name, same_name}
+use Rattle.gz_core.specs.declared.requests.Op.{Op}
 use Rattle.gz_core.specs.declared.requests.Reply.{Reply}
-use Rattle.gz_round.specs.History.{Asked, Action, Sent, Handed, GaveUp, Rested, GaveIn, Trace}
+use Rattle.gz_round.specs.Sites.{as_heard, written_by}
+use Rattle.gz_core.specs.History.{Asked, Action, Sent, Handed, GaveUp, Rested, GaveIn, Trace}
 use Rattle.gz_laws.specs.Each.{EachTrace}
 use Rattle.gz_world.specs.States.{RequestAt, State, numbered}
 
--- a request that was sent, the reply of it that was handed to its call, if one was, and whether it was given up
+-- a request that was sent, the reply of it that was handed to its call, if one was, as the call hears it, and whether it was given up
 pub record Exchange : Type 0 where
   pub asked : Asked
   pub reply : Option Reply
   pub given_up : Bool
 
--- the reply that was handed
-abbrev pub reply_handed : List (ℕ × Reply) → Option (ℕ × ℕ) → Option Reply
-reply_handed replies None = None
-reply_handed replies (Some handed) = option_map (λ (r : ℕ × Reply). r.1) (numbered replies handed.1)
+-- the reply that was handed, as the call of the request hears it
+abbrev pub reply_handed : Op → List (ℕ × Reply) → Option (ℕ × ℕ) → Option Reply
+reply_handed op replies None = None
+reply_handed op replies (Some handed) = option_map (λ (r : ℕ × Reply). as_heard (written_by op) r.1) (numbered replies handed.1)
 
 -- what the world has of its n-th request
 abbrev pub exchange_of : ℕ → RequestAt → Exchange
 exchange_of n r = record {
   asked = record { number = n; site = r.site; op = r.op; awaited = r.awaited };
-  reply = reply_handed r.replies r.handed;
+  reply = reply_handed r.op r.replies r.handed;
   given_up = is_some r.given_up;
 }
 

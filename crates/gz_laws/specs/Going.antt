@@ -1,7 +1,7 @@
 -- That no call gives in, and which sites are out for a call.
 use Rattle.std.specs.Prelude.{ℕ, ◌≡◌, ◌↔◌, ◌⊎◌, true, false, List, [], ◌∷◌, None}
-use Rattle.gz_round.specs.History.{Action, Sent, Handed, GaveUp, Rested, GaveIn, Trace}
-use Rattle.gz_round.specs.Sites.{site_now, seen_in, written_by, is_changed}
+use Rattle.gz_core.specs.History.{Action, Sent, Handed, GaveUp, Rested, GaveIn, Trace}
+use Rattle.gz_round.specs.Sites.{site_now, is_to, seen_in, written_by, is_changed}
 
 -- a call never gave in
 abbrev pub NeverGaveIn : List Action → Type 0
@@ -12,11 +12,11 @@ NeverGaveIn (GaveUp a ∷ ms) = NeverGaveIn ms
 NeverGaveIn (Rested ∷ ms) = NeverGaveIn ms
 NeverGaveIn (GaveIn ∷ ms) = ⊥
 
--- a request to the site was given up, or answered by a fault or by a row that isn't heard
+-- a request for the site's row was given up, or answered by what the call hears as a fault
 abbrev pub LeavesAt : ℕ → Action → Type 0
 LeavesAt s (Sent a) = ⊥
-LeavesAt s (Handed a reply) = (a.site ≡ s) × ((seen_in (written_by a.op) reply ≡ None) × (is_changed reply ≡ false))
-LeavesAt s (GaveUp a) = a.site ≡ s
+LeavesAt s (Handed a reply) = (is_to a s ≡ true) × ((seen_in (written_by a.op) reply ≡ None) × (is_changed reply ≡ false))
+LeavesAt s (GaveUp a) = is_to a s ≡ true
 LeavesAt s Rested = ⊥
 LeavesAt s GaveIn = ⊥
 

@@ -1,11 +1,12 @@
 -- What a call heard, as rows of acceptors, and that it stands in a store of one object.
 use Rattle.std.specs.Prelude.{ℕ, ◌≡◌, ◌⊎◌, List, [], ◌∷◌, Option, Some, None}
 use Rattle.gz_core.specs.Names.{Name, BallotAt}
+use Rattle.gz_core.specs.Calls.{IsOwn}
 use Rattle.gz_core.specs.Rows.{RowAt, Rises}
 use Rattle.gz_core.specs.Slots.{Act, Promises, act_of, slots}
 use Rattle.gz_core.specs.declared.requests.Op.{Op}
-use Rattle.gz_core.specs.declared.requests.Op.TheVariants.{ReadRow, WriteRow}
-use Rattle.gz_round.specs.History.{Trace, Action, Sent, Handed, GaveUp, Rested, GaveIn}
+use Rattle.gz_core.specs.declared.requests.Op.TheVariants.{WriteRow}
+use Rattle.gz_core.specs.History.{Caller, Trace, Action, Sent, Handed, GaveUp, Rested, GaveIn}
 use Rattle.gz_round.specs.declared.hearing.Seen.{Seen}
 use Rattle.gz_round.specs.Sites.{seen_in, written_by}
 use Rattle.gz_ledger.specs.Acceptors.{Acceptor}
@@ -38,8 +39,8 @@ SeenStands st s (Some seen) = IsClean seen.row × (let r : Answered = record { s
 
 -- the step of the write that an action sends
 abbrev pub IsStepSent : Op → Act → Type 0
-IsStepSent (ReadRow key) act = ⊥
 IsStepSent (WriteRow key expect step row) act = act_of step ≡ act
+IsStepSent op act = ⊥
 
 abbrev pub ActionStands : Store → Action → Type 0
 ActionStands st (Sent a) = Unit {0}
@@ -72,9 +73,9 @@ PastStep (t ∷ ts) act = SentStep t.actions act ⊎ PastStep ts act
 
 -- a request, as the store of its object keeps it
 abbrev pub IsAskedOf : Name → ℕ → Op → WriteSent → Type 0
-IsAskedOf name site (ReadRow key) q = ⊥
 IsAskedOf name site (WriteRow key expect step row) q =
     (before : Acceptor) × (let k : WriteSent = record { expect = expect; write = record { call = name; site = site; before = before; act = act_of step; after = slots row } } in q ≡ k)
+IsAskedOf name site op q = ⊥
 
 -- no site used a tag before the run
 abbrev pub unused : ℕ → ℕ
@@ -82,19 +83,20 @@ unused s = 0
 
 -- the write of a request is asked of the store
 abbrev pub AskedHere : Name → ℕ → Op → Store → Type 0
-AskedHere name site (ReadRow key) st = Unit {0}
 AskedHere name site (WriteRow key expect step row) st = (q : WriteSent) × (IsAskedOf name site (WriteRow key expect step row) q × IsIn q st.asked)
+AskedHere name site op st = Unit {0}
 
 -- the row that a request writes is one of which nothing was collected
 abbrev pub CleanOp : Op → Type 0
-CleanOp (ReadRow key) = Unit {0}
 CleanOp (WriteRow key expect step row) = IsClean row
+CleanOp op = Unit {0}
 
--- what a store knows of a call of its object: its heard rows were shown, its writes and those of the store are the
--- same, and each ballot that was promised is of the session that promised it
-pub record Keeps (name : Name) (past : List Trace) (ms : List Action) (st : Store) : Type 0 where
+-- what a store knows of a call of its object: it writes its own value, its heard rows were shown, its writes and those of
+-- the store are the same, and each ballot that was promised is of the session that promised it
+pub record Keeps (w : Caller) (past : List Trace) (ms : List Action) (st : Store) : Type 0 where
+  pub value : IsOwn w.name w.call w.own
   pub stands : ActionsStand st ms
-  pub own : (q : Write) → IsIn q (writes_of st.asked) → q.call ≡ name → SentStep ms q.act
-  pub asked : (act : Act) → SentStep ms act → (q : Write) × (IsIn q (writes_of st.asked) × ((q.call ≡ name) × (q.act ≡ act)))
+  pub own : (q : Write) → IsIn q (writes_of st.asked) → q.call ≡ w.name → SentStep ms q.act
+  pub asked : (act : Act) → SentStep ms act → (q : Write) × (IsIn q (writes_of st.asked) × ((q.call ≡ w.name) × (q.act ≡ act)))
   pub drawn : (q : Write) (v : ℕ) (b : BallotAt) → IsIn q (writes_of st.asked) → q.act ≡ Promises v b → b.session ≡ q.call.session
-  pub others : (q : Write) → IsIn q (writes_of st.asked) → q.call.session ≡ name.session → (q.call ≡ name) ⊎ PastStep past q.act
+  pub others : (q : Write) → IsIn q (writes_of st.asked) → q.call.session ≡ w.name.session → (q.call ≡ w.name) ⊎ PastStep past q.act

@@ -6,9 +6,9 @@ use Rattle.gz_core.specs.Rows.{RowAt}
 use Rattle.gz_core.specs.Slots.{Act, slots}
 use Rattle.gz_config.specs.declared.Config.{Config}
 use Rattle.gz_core.specs.declared.requests.Op.{Op}
-use Rattle.gz_core.specs.declared.requests.Op.TheVariants.{ReadRow, WriteRow}
+use Rattle.gz_core.specs.declared.requests.Op.TheVariants.{ReadRow, WriteRow, PutBlob, GetBlob, DropBlob}
 use Rattle.gz_core.specs.declared.requests.Reply.{Reply}
-use Rattle.gz_round.specs.History.{Trace}
+use Rattle.gz_core.specs.History.{Trace}
 use Rattle.gz_round.specs.declared.hearing.Seen.{Seen}
 use Rattle.gz_round.specs.Sites.{seen_in, written_by}
 use Rattle.gz_site.specs.Told.{Told}
@@ -42,6 +42,9 @@ pub record SiteStands (key : List ℕ) (told : Told) (st : Store) (i : ℕ) : Ty
 abbrev pub key_asked : Op → List ℕ
 key_asked (ReadRow key) = key
 key_asked (WriteRow key expect step row) = key
+key_asked (PutBlob blob bytes) = blob.key
+key_asked (GetBlob blob) = blob.key
+key_asked (DropBlob blob) = blob.key
 
 -- a request of the object is asked of the store, and its replies are the store's
 pub record RequestStands (st : Store) (r : RequestAt) : Type 0 where

@@ -1,13 +1,13 @@
 -- Every value in a row, wherever the row stands, is one that a call of the history writes: the bytes that a put was given,
 -- or the tombstone of a delete.
 use Rattle.std.specs.Prelude.{ℕ, ◌≡◌, List, Option, Some, None, slice_get}
-use Rattle.gz_core.specs.Calls.{own_value}
+use Rattle.gz_core.specs.Calls.{IsOwn}
 use Rattle.gz_core.specs.Rows.{RowAt}
 use Rattle.gz_core.specs.declared.values.Value.{Value}
 use Rattle.gz_core.specs.declared.requests.Op.{Op}
-use Rattle.gz_core.specs.declared.requests.Op.TheVariants.{ReadRow, WriteRow}
+use Rattle.gz_core.specs.declared.requests.Op.TheVariants.{WriteRow}
 use Rattle.gz_core.specs.declared.requests.Reply.{Reply}
-use Rattle.gz_core.specs.declared.requests.Reply.TheVariants.{Row, NoRow, Written, Changed, Failed}
+use Rattle.gz_core.specs.declared.requests.Reply.TheVariants.{Row}
 use Rattle.gz_round.specs.Shown.{row_value}
 use Rattle.gz_site.specs.Told.{Told}
 use Rattle.gz_history.specs.declared.record.CallRec.{CallRec}
@@ -15,7 +15,7 @@ use Rattle.gz_world.specs.States.{RequestAt, State, numbered}
 
 -- this is the own value of a call of the history
 abbrev pub IsGiven : List CallRec → Value → Type 0
-IsGiven calls x = (i : ℕ) × (call : CallRec) × (slice_get calls i ≡ Some call) × (own_value call.name call.call ≡ Some x)
+IsGiven calls x = (i : ℕ) × (call : CallRec) × (slice_get calls i ≡ Some call) × IsOwn call.name call.call (Some x)
 
 -- so was each value of a row
 abbrev pub AreGiven : List CallRec → RowAt → Type 0
@@ -26,15 +26,12 @@ IsGivenKept calls None = Unit {0}
 IsGivenKept calls (Some kept) = AreGiven calls kept.1
 
 abbrev pub IsGivenOp : List CallRec → Op → Type 0
-IsGivenOp calls (ReadRow key) = Unit {0}
 IsGivenOp calls (WriteRow key expect step row) = AreGiven calls row
+IsGivenOp calls op = Unit {0}
 
 abbrev pub IsGivenReply : List CallRec → Reply → Type 0
 IsGivenReply calls (Row etag row) = AreGiven calls row
-IsGivenReply calls NoRow = Unit {0}
-IsGivenReply calls (Written etag) = Unit {0}
-IsGivenReply calls Changed = Unit {0}
-IsGivenReply calls Failed = Unit {0}
+IsGivenReply calls reply = Unit {0}
 
 -- of the rows that sites keep, that requests write, and that replies show
 pub record AreValued (s : State) : Type 0 where

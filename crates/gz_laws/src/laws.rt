@@ -20,8 +20,8 @@ ghost use Rattle.gz_history.specs.Legal.{IsLegal};
 
 /// Of every world that is reached: the names of the calls differ, each call is that of a trace of its session, each
 /// action of a trace was allowed when it came, and its answer, which is the call's, has its cause in what the call was
-/// handed; what the call was handed are replies, in the world, to requests that the call sent; each trace is that of a
-/// call; and requests and calls are of sites, sessions and ticks that there are. The world's requests and the traces agree
+/// handed; what the call was handed are replies, in the world, to requests that the call sent, as it hears them; each
+/// trace is that of a call; and requests and calls are of sites, sessions and ticks that there are. The world's requests and the traces agree
 /// in both directions, so that a call's counts can be read off the world; and the calls are a history: they began one
 /// after another, with names of their own, and each ended after it began.
 pub fn world_laws()
@@ -35,7 +35,8 @@ pub fn world_laws()
 
 /// In every world that is reached: a write goes out on the tag of a row that a reply showed to its call before, and at a
 /// site that tells what it holds it is refused as overtaken only where the row was written between: whichever reply had shown
-/// the tag that the write expects, another delivery of a write of the row came after it was made, and before the refusal.
+/// the tag that the write expects, another delivery of a write of the row on that tag came after it was made, and before the
+/// refusal. It was answered as written or as failed; of a write that failed, a world doesn't record whether it had its effect.
 pub fn overtaken_only_by_writes()
     ensures { (s : State) → IsReached s → AreOvertaken s }
 {}
@@ -55,7 +56,7 @@ pub fn agreement()
 
 /// In a world that is reached and whose sites tell what they hold, no version in a row is above the number of events, and no
 /// round above the number of requests, nor above sixteen for each event. So after as many events as a world takes each row
-/// is one that a run can hold, and none that a reply shows is unheard.
+/// is one that a run can hold, and each reply is heard as it was made.
 pub fn rows_are_bounded()
     ensures requests { (s : State) → IsReached s → AllTell s → AreWithin (length s.journal) (length s.net) s }
     ensures events { (s : State) → IsReached s → AllTell s → AreWithin (length s.journal) (16 * length s.journal) s }
@@ -63,8 +64,8 @@ pub fn rows_are_bounded()
 {}
 
 /// In a world that is reached and whose sites tell what they hold, no call gives in for want of promises, votes or a
-/// value: the sites that are out for a call are exactly those of which a request was given up, or answered by a fault or by
-/// a row that isn't heard.
+/// value: the sites that are out for a call are exactly those of which a request for the row was given up, or answered by
+/// what the call hears as a fault.
 pub fn no_call_gives_in()
     ensures { (s : State) → IsReached s → AllTell s → (session : ℕ) → EachTrace IsGoingOn (s.traces session) }
 {}
@@ -78,7 +79,7 @@ pub fn values_are_given()
 /// The history of a world that is reached and whose sites tell what they hold is legal: two answers that name one
 /// version of an object name one put or delete, each of these is at one version, the versions keep the order of calls
 /// that ended before others began, and a call that reads returns the bytes that the put of its version was given, or
-/// that the object is gone where a delete wrote the version.
+/// that the object is gone where a delete wrote the version. No call of a world asks for a version by its number yet.
 pub fn legal()
     ensures { (s : State) → IsReached s → AllTell s → IsLegal s.calls }
 {}

@@ -1,23 +1,17 @@
 -- What one more action makes of the sites.
-use Rattle.std.proofs.Common.{◌≡◌, ◌≢◌, ℕ, ◌+◌, true, false, List, [], ◌∷◌, ◌++◌, length, refl, sym, ap, ◌∙◌, subst, inl, inr, arith}
-use Rattle.std.proofs.lemmas.Bool.{cases_Bool, cond-true, cond-false, ne_eqb, eq-eqb}
-use Rattle.gz_core.specs.declared.requests.Op.{Op}
-use Rattle.gz_core.specs.declared.requests.Op.TheVariants.{ReadRow, WriteRow}
+use Rattle.std.proofs.Common.{◌≡◌, ◌≢◌, ◌==◌, ℕ, ◌+◌, true, false, List, [], ◌∷◌, ◌++◌, length, sym, ap, ◌∙◌, subst, inl, inr, arith}
+use Rattle.std.proofs.lemmas.Bool.{cases_Bool, cond-true, cond-false, and_right, ne_eqb, eq-eqb}
 use Rattle.gz_core.specs.declared.requests.Out.{Out}
-use Rattle.gz_round.specs.History.{Asked, Action, Sent, is_row_request, asked_of, sent_from}
+use Rattle.gz_core.specs.History.{Asked, Action, Sent, is_row_request, asked_of, sent_from}
 use Rattle.gz_round.specs.Sites.{SiteNow, site_now, after, concerns, is_to}
 
--- every request so far is about a row
-pub row_request : (op : Op) → is_row_request op ≡ true
-row_request (ReadRow key) = refl
-row_request (WriteRow key expect step row) = refl
+-- a request about a row is to the site that it names
+pub is_to_same : (a : Asked) (s : ℕ) → is_row_request a.op ≡ true → a.site ≡ s → is_to a s ≡ true
+is_to_same a s row e = rw row (eq-eqb a.site s e)
 
--- a request is to the site that it names
-pub is_to_same : (a : Asked) (s : ℕ) → a.site ≡ s → is_to a s ≡ true
-is_to_same a s e = rw (row_request a.op) (eq-eqb a.site s e)
-
+-- and so is no request to any other site
 pub is_to_other : (a : Asked) (s : ℕ) → s ≢ a.site → is_to a s ≡ false
-is_to_other a s n = rw (row_request a.op) (ne_eqb a.site s (λ (e : a.site ≡ s). n (sym e)))
+is_to_other a s n = and_right (is_row_request a.op) (a.site == s) (ne_eqb a.site s (λ (e : a.site ≡ s). n (sym e)))
 
 -- the site that an action concerns
 pub now_here : (m : Action) (ms : List Action) (s : ℕ) → concerns m s ≡ true → site_now (m ∷ ms) s ≡ after m (site_now ms s)

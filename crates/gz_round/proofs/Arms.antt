@@ -9,7 +9,7 @@ use Rattle.gz_round.specs.declared.run.Run.{Run}
 use Rattle.gz_round.specs.declared.run.Stage.{Stage}
 use Rattle.gz_round.specs.declared.run.Stage.TheVariants.{Fast}
 use Rattle.gz_round.specs.declared.following.Next.TheVariants.{Vote}
-use Rattle.gz_round.specs.History.{Action, Caller, Trace}
+use Rattle.gz_core.specs.History.{Action, Caller, Trace}
 use Rattle.gz_round.specs.Shown.{IsShown}
 use Rattle.gz_round.specs.Counting.{IsGoing}
 use Rattle.gz_round.specs.Causes.{HasCause, IsLearnt, row_value}
@@ -25,6 +25,7 @@ stands_stage c w past run ms stage h = record {
   name_is = h.name_is;
   key_is = h.key_is;
   own_is = h.own_is;
+  named = h.named;
   knows = record { rows_len = h.knows.rows_len; marks_len = h.knows.marks_len; rows = h.knows.rows; marks = h.knows.marks };
   met_is = h.met_is;
   voted_is = h.voted_is;

@@ -7,7 +7,7 @@ use Rattle.gz_core.specs.declared.calls.Answer.TheVariants.{NoQuorum, Contended,
 use Rattle.gz_core.specs.declared.calls.UnsureWhy.TheVariants.{NoQuorum as UnsureNoQuorum, Contended as UnsureContended}
 use Rattle.gz_config.specs.declared.Config.{Config}
 use Rattle.gz_round.specs.declared.run.Run.{Run}
-use Rattle.gz_round.specs.History.{Action, Caller, Trace}
+use Rattle.gz_core.specs.History.{Action, Caller, Trace}
 use Rattle.gz_round.specs.Counting.{outs}
 use Rattle.gz_round.specs.Causes.{HasCause, IsCutOff, IsOvertaken}
 use Rattle.gz_round.specs.Standing.{Stands}

@@ -6,7 +6,6 @@ use Rattle.std.proofs.lemmas.Option.{same_Some, none-some, slice_get_within}
 use Rattle.gz_core.specs.Names.{Name, BallotAt, same_ballot, fast}
 use Rattle.gz_core.specs.Rows.{RowAt, column_in}
 use Rattle.gz_core.specs.Configurations.{IsConfig, need}
-use Rattle.gz_core.specs.Calls.{own_value}
 use Rattle.gz_core.specs.declared.values.Value.{Value}
 use Rattle.gz_config.specs.declared.Config.{Config}
 use Rattle.gz_core.proofs.Counting.{count_found, count_weaker}
@@ -16,21 +15,21 @@ use Rattle.gz_core.proofs.SlotNames.{decision_named, vote_named}
 use Rattle.gz_pick.specs.Evidences.{votes_for, decides, IsEvidence, row_at, is_for, is_named}
 use Rattle.gz_round.specs.declared.run.Run.{Run}
 use Rattle.gz_round.specs.declared.following.Next.TheVariants.{Vote as VoteAt, Chosen}
-use Rattle.gz_round.specs.History.{Action, Sent, Handed, GaveUp, Rested, GaveIn, Caller, Trace}
+use Rattle.gz_core.specs.History.{Action, Sent, Handed, GaveUp, Rested, GaveIn, Caller, Trace}
 use Rattle.gz_round.specs.Sites.{some_heard}
 use Rattle.gz_core.specs.declared.requests.RowStep.{RowStep}
 use Rattle.gz_core.specs.declared.requests.RowStep.TheVariants.{FastVote, Promise, ClassicVote, Decide, Trim}
 use Rattle.gz_core.specs.declared.requests.Op.{Op}
-use Rattle.gz_core.specs.declared.requests.Op.TheVariants.{ReadRow, WriteRow}
+use Rattle.gz_core.specs.declared.requests.Op.TheVariants.{WriteRow}
 use Rattle.gz_core.specs.declared.calls.Phase.TheVariants.{Look as NotBegun}
-use Rattle.gz_round.specs.Sent.{voted, voted_at, vote_by, phase_by, promise_by, of_step, of_sent, or_earlier, last_sent, passes_sent, phase_of, phase_or_look, has_promised_at}
+use Rattle.gz_round.specs.Sent.{voted, voted_at, vote_by, phase_by, promise_by, of_step, of_sent, or_earlier, last_sent, passes_sent, phase_of, phase_or_look, has_promised_at, IsUnpromised}
 use Rattle.gz_round.specs.Shown.{heard_at, IsShown, IsCurrent, IsClear}
 use Rattle.gz_round.specs.Sending.{MayFastVote}
 use Rattle.gz_round.specs.Causes.{is_blank, rows_known}
 use Rattle.gz_round.specs.Counting.{known_count}
 use Rattle.gz_round.specs.declared.run.Stage.{Stage}
 use Rattle.gz_round.specs.declared.run.Stage.TheVariants.{Look, Fast, Prepare, Accept}
-use Rattle.gz_round.specs.Standing.{Stands, StageStands, IsUnpromised}
+use Rattle.gz_round.specs.Standing.{Stands, StageStands}
 use Rattle.gz_round.specs.Evidence.{NoneEvident, EvidentAt}
 use Rattle.gz_round.specs.Following.{NoEvidence, NextMeans, MayPass, IsUnwritten, IsFound, IsStageAt, IsUnmet, is_topless, is_blank_known}
 use Rattle.gz_round.proofs.Lists.{all_at}
@@ -62,11 +61,11 @@ own_none None h = refl
 own_none (Some x) h = absurd (true≢false h)
 
 -- the call writes a value
-pub own_of : (c : Config) (w : Caller) (past : List Trace) (run : Run) (ms : List Action) → Stands c w past run ms → is_some run.own ≡ true → (x : Value) × (own_value w.name w.call ≡ Some x)
+pub own_of : (c : Config) (w : Caller) (past : List Trace) (run : Run) (ms : List Action) → Stands c w past run ms → is_some run.own ≡ true → (x : Value) × (w.own ≡ Some x)
 own_of c w past run ms h some = let k = own_some run.own some in (k.0, sym h.own_is ∙ k.1)
 
 -- it writes none
-pub no_own : (c : Config) (w : Caller) (past : List Trace) (run : Run) (ms : List Action) → Stands c w past run ms → is_some run.own ≡ false → own_value w.name w.call ≡ None
+pub no_own : (c : Config) (w : Caller) (past : List Trace) (run : Run) (ms : List Action) → Stands c w past run ms → is_some run.own ≡ false → w.own ≡ None
 no_own c w past run ms h none = sym h.own_is ∙ own_none run.own none
 
 -- the call's own value is chosen
@@ -188,8 +187,8 @@ earlier_looks (Decide v x) ms e = e
 earlier_looks (Trim to x) ms e = absurd (cc)
 
 op_unpromised : (op : Op) (ms : List Action) (u : ℕ) (d : BallotAt) → phase_or_look (or_earlier (of_step phase_by op) (last_sent phase_by ms)) ≡ NotBegun → (phase_of ms ≡ NotBegun → has_promised_at ms u d ≡ false) → (passes_sent (λ p. (p.0 == u) && same_ballot p.1 d) (of_step promise_by op) || has_promised_at ms u d) ≡ false
-op_unpromised (ReadRow key) ms u d e h = h e
 op_unpromised (WriteRow key expect step row) ms u d e h = step_unpromised step ms u d e (h (earlier_looks step ms e))
+op_unpromised op ms u d e h = h e
 
 none_promised : (ms : List Action) (u : ℕ) (d : BallotAt) → phase_of ms ≡ NotBegun → has_promised_at ms u d ≡ false
 none_promised [] u d e = refl

@@ -20,7 +20,7 @@ use Rattle.gz_pick.specs.Looks.{highest_of}
 use Rattle.gz_round.specs.declared.run.Run.{Run}
 use Rattle.gz_round.specs.declared.run.Stage.{Stage}
 use Rattle.gz_round.specs.declared.run.Stage.TheVariants.{Look, Fast, Prepare, Accept}
-use Rattle.gz_round.specs.History.{Action, GaveIn, Caller, Trace}
+use Rattle.gz_core.specs.History.{Action, GaveIn, Caller, Trace}
 use Rattle.gz_round.specs.Rounds.{promises_known, above_known}
 use Rattle.gz_round.specs.Sent.{last_promise}
 use Rattle.gz_round.specs.Sending.{MayGiveIn, NoPromise, NoVote, Collected, IsIdle, IsStuck, IsShort, NoEvidence, rows_known, answer_of}
@@ -81,7 +81,7 @@ prepared_out c w past run ms v b found at r =
     let last = last_of past run ms v b found r.stands.round_is s.0.used ahead in
     let above = none_above_listed c run ms v b r.stands.knows (or_parts (nat_lt run.round b.round) (list_any (above_known v b) run.rows) ahead).1 in
     elim (gone_or_kept c ms v) [
-      | inl gone ↦ Collected v b (record { going = r.going; idle = idle; promise = last_may c w past ms v b s.0.works last; gone = gone })
+      | inl gone ↦ Collected v b (record { going = r.going; idle = idle; promise = last_may c w past ms v b s.0.works last; gone = gone; works = inl last })
       | inr kept ↦ NoPromise v b (stuck_from c w past run ms v b (Promise v b) r (ap (λ st. step_in st run.own) at) idle last (λ (site : ℕ) (row : RowAt) (l : site < c.n) (e : rows_known ms site ≡ Some row). promise_untaken row v b (kept site row l e) (undecided_known c ms v site row idle.undecided l e) (above site row l e))) s.0.uncast (short_known c run ms v b r.stands.knows short)
     ]
 
@@ -92,7 +92,7 @@ voted_out c w past run ms v b x at r =
     let idle = idle_from c w past run ms v r (ap (λ st. version_in st (highest_of run.rows)) at) in
     let above = none_above_listed c run ms v b r.stands.knows ahead in
     elim (gone_or_kept c ms v) [
-      | inl gone ↦ Collected v b (record { going = r.going; idle = idle; promise = last_may c w past ms v b s.1.works s.1.last; gone = gone })
+      | inl gone ↦ Collected v b (record { going = r.going; idle = idle; promise = last_may c w past ms v b s.1.works s.1.last; gone = gone; works = inl s.1.last })
       | inr kept ↦ NoVote v b x (stuck_from c w past run ms v b (ClassicVote v b x) r (ap (λ st. step_in st run.own) at) idle s.1.last (λ (site : ℕ) (row : RowAt) (l : site < c.n) (e : rows_known ms site ≡ Some row). classic_untaken row v b (kept site row l e) (undecided_known c ms v site row idle.undecided l e) (above site row l e))) s.0
     ]
 

@@ -10,9 +10,9 @@ use Rattle.gz_config.specs.declared.Config.{Config}
 use Rattle.gz_core.specs.declared.requests.RowStep.{RowStep}
 use Rattle.gz_core.specs.declared.requests.RowStep.TheVariants.{FastVote, Promise, ClassicVote, Decide, Trim}
 use Rattle.gz_core.specs.declared.requests.Op.{Op}
-use Rattle.gz_core.specs.declared.requests.Op.TheVariants.{ReadRow, WriteRow}
+use Rattle.gz_core.specs.declared.requests.Op.TheVariants.{WriteRow}
 use Rattle.gz_core.proofs.Ballots.{same_means, name_means}
-use Rattle.gz_round.specs.History.{Asked, Action, Sent, Caller, Trace}
+use Rattle.gz_core.specs.History.{Asked, Action, Sent, Caller, Trace}
 use Rattle.gz_round.specs.Sent.{vote_by, promise_by, of_step, or_earlier, passes_sent, voted_at, has_promised_at, last_promise, top_round, round_after}
 use Rattle.gz_round.specs.Shown.{IsClear}
 use Rattle.gz_round.specs.Rounds.{MayPromise, MayClassicVote, MayPropose, IsLeft, IsPromiseHeard, passed_since, ClassicCast, cast_by, has_classic_cast, is_promise, IsValueKnown, round_known, greatest, next_round, rounds_used, top_rounds}
@@ -59,12 +59,12 @@ clear_vote c x ms a v only clear u n h =
 
 -- the version that a request votes at, where the step votes at one
 only_vote : (x : Name) (op : Op) (v : ℕ) (value : Value) (u : ℕ) → IsOf op (Some (FastVote v value)) → passes_sent (λ k. k == u) (of_step (vote_by x) op) ≡ true → v ≡ u
-only_vote x (ReadRow key) v value u is h = absurd (false≢true h)
 only_vote x (WriteRow key expect step row) v value u is h = vote_version x v u value (subst (λ s. passes_sent (λ k. k == u) (vote_by x s) ≡ true) (sym (same_Some (FastVote v value) step (is.writes step refl))) h)
+only_vote x op v value u is h = absurd (false≢true h)
 
 pub only_classic : (x : Name) (op : Op) (v : ℕ) (b : BallotAt) (value : Value) (u : ℕ) → IsOf op (Some (ClassicVote v b value)) → passes_sent (λ k. k == u) (of_step (vote_by x) op) ≡ true → v ≡ u
-only_classic x (ReadRow key) v b value u is h = absurd (false≢true h)
 only_classic x (WriteRow key expect step row) v b value u is h = classic_version x v u b value (subst (λ s. passes_sent (λ k. k == u) (vote_by x s) ≡ true) (sym (same_Some (ClassicVote v b value) step (is.writes step refl))) h)
+only_classic x op v b value u is h = absurd (false≢true h)
 
 pub fast_kept : (c : Config) (w : Caller) (ms : List Action) (a : Asked) (v : ℕ) (value : Value) → IsOf a.op (Some (FastVote v value)) → MayFastVote c w ms v → MayFastVote c w (Sent a ∷ ms) v
 fast_kept c w ms a v value is h = record {
@@ -75,8 +75,8 @@ fast_kept c w ms a v value is h = record {
 }
 
 pub promise_sent : (op : Op) (v : ℕ) (b : BallotAt) → IsOf op (Some (Promise v b)) → (of_step promise_by op ≡ None) ⊎ (of_step promise_by op ≡ Some (v, b))
-promise_sent (ReadRow key) v b is = inl refl
 promise_sent (WriteRow key expect step row) v b is = inr (sym (ap (λ o. of_some promise_by o) (is.writes step refl)))
+promise_sent op v b is = inl refl
 
 other_promise : (o : Option (ℕ × BallotAt)) (v : ℕ) (b d : BallotAt) → (o ≡ None) ⊎ (o ≡ Some (v, b)) → d ≢ b → is_promise v d o ≡ false
 other_promise o v b d (inl e) n = ap (is_promise v d) e
@@ -129,8 +129,8 @@ pub promise_kept : (c : Config) (w : Caller) (past : List Trace) (ms : List Acti
 promise_kept c w past ms a v b is h = promise_still c w past ms a v b (promise_sent a.op v b is) h
 
 cast_sent : (op : Op) (v : ℕ) (b : BallotAt) (value : Value) → IsOf op (Some (ClassicVote v b value)) → (of_step cast_by op ≡ None) ⊎ (of_step cast_by op ≡ cast_by (ClassicVote v b value))
-cast_sent (ReadRow key) v b value is = inl refl
 cast_sent (WriteRow key expect step row) v b value is = inr (sym (ap (λ o. of_some cast_by o) (is.writes step refl)))
+cast_sent op v b value is = inl refl
 
 one_cast : (o : Option ClassicCast) (v : ℕ) (b : BallotAt) (value : Value) (y : Name) (old : Bool) → (o ≡ None) ⊎ (o ≡ cast_by (ClassicVote v b value)) → (old ≡ true → y ≡ name_of value) →
     (passes_sent (λ k. (k.version == v) && same_ballot k.ballot b && same_name k.name y) o || old) ≡ true → y ≡ name_of value

@@ -9,7 +9,7 @@ use Rattle.gz_core.proofs.Counting.{count_weaker, count_within}
 use Rattle.gz_pick.specs.Looks.{row_top}
 use Rattle.gz_pick.specs.Evidences.{votes_for, decides}
 use Rattle.gz_round.specs.declared.hearing.Seen.{Seen}
-use Rattle.gz_round.specs.History.{Action}
+use Rattle.gz_core.specs.History.{Action}
 use Rattle.gz_round.specs.Sites.{heard_in, concerns, passes, some_heard, WasHeard}
 use Rattle.gz_round.specs.Shown.{heard_at, IsShown, IsCurrent, IsNext}
 

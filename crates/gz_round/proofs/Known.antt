@@ -4,27 +4,26 @@ use Rattle.std.specs.List.{slice_get, count_by}
 use Rattle.std.proofs.lemmas.Bool.{cases_Bool, cond-true, cond-false, le-leb}
 use Rattle.std.proofs.lemmas.Option.{same_Some, none-some, slice_get_within}
 use Rattle.gz_core.specs.Names.{Name, BallotAt}
-use Rattle.gz_core.specs.Rows.{RowAt, empty_row}
+use Rattle.gz_core.specs.Rows.{RowAt}
 use Rattle.gz_core.specs.Counts.{count_sites}
 use Rattle.gz_config.specs.declared.Config.{Config}
-use Rattle.gz_core.specs.declared.requests.Reply.{Reply}
-use Rattle.gz_core.specs.declared.requests.Reply.TheVariants.{Row, NoRow, Written, Changed, Failed}
 use Rattle.gz_pick.specs.Looks.{row_top, highest_of}
 use Rattle.gz_pick.specs.Evidences.{votes_for, decides, IsEvident, row_at}
 use Rattle.gz_round.specs.declared.hearing.Seen.{Seen}
 use Rattle.gz_round.specs.declared.run.Run.{Run}
-use Rattle.gz_round.specs.History.{Asked, Action, Sent, Handed, GaveUp, Rested, GaveIn}
-use Rattle.gz_round.specs.Sites.{SiteNow, site_now, after, after_reply, after_sent, known, row_seen, seen_in, seen_under, seen_written, written_by, is_changed, concerns, heard_in, WasHeard, can_stand}
+use Rattle.gz_core.specs.History.{Asked, Action, Sent, Handed, GaveUp, Rested, GaveIn, Caller, Trace}
+use Rattle.gz_round.specs.Sites.{SiteNow, site_now, after, after_reply, after_sent, known, row_seen, seen_in, written_by, is_changed, concerns, heard_in, WasHeard}
 use Rattle.gz_round.specs.Shown.{heard_at, IsShown, IsCurrent}
 use Rattle.gz_round.specs.Counting.{known_count, outs}
 use Rattle.gz_round.specs.Causes.{rows_known}
-use Rattle.gz_round.specs.Standing.{Knows, mark_of}
+use Rattle.gz_round.specs.Standing.{Knows, Stands, mark_of}
 use Rattle.gz_round.specs.Evidence.{NoneEvident}
 use Rattle.gz_round.specs.Following.{NoEvidence}
 use Rattle.gz_round.proofs.Lists.{count_same, count_told}
 use Rattle.gz_round.proofs.Actions.{now_here, now_other, each_site}
 use Rattle.gz_round.proofs.Heard.{counted_heard}
-use Rattle.gz_round.proofs.Columns.{stands_low, empty_stands, highest_below}
+use Rattle.gz_round.proofs.Columns.{stands_low, highest_below}
+use Rattle.gz_round.proofs.AsHeard.{heard_stands}
 
 -- a reply that shows no row leaves the last one
 kept_row : (changed : Bool) (now : SiteNow) → (after_reply None changed now).row ≡ now.row
@@ -78,40 +77,6 @@ last_heard (m ∷ ms) s last e =
           last_here m ms s last k (last_heard ms s last) (last_after m (site_now ms s) last here))
       | inr k ↦ inr (last_heard ms s last (sym (ap (λ n. n.row) (now_other m ms s k)) ∙ e))
     ]
-
-under_stands : (etag : Option ℕ) (row : RowAt) (seen : Seen) → seen_under etag row ≡ Some seen → can_stand seen.row ≡ true
-under_stands etag row seen e =
-    elim (cases_Bool (can_stand row)) [
-      | inl h ↦ (
-          let made : Seen = record { etag = etag; row = row } in
-          let same : made ≡ seen = same_Some made seen (sym (cond-true (can_stand row) (Some made) None h) ∙ e) in
-          subst (λ (z : Seen). can_stand z.row ≡ true) same h)
-      | inr h ↦ absurd (none-some seen (sym (cond-false (can_stand row) (Some (let made : Seen = record { etag = etag; row = row } in made)) None h) ∙ e))
-    ]
-
-written_stands : (etag : ℕ) (written : Option RowAt) (seen : Seen) → seen_written etag written ≡ Some seen → can_stand seen.row ≡ true
-written_stands etag None seen e = absurd (none-some seen e)
-written_stands etag (Some row) seen e = under_stands (Some etag) row seen e
-
-reply_stands : (written : Option RowAt) (reply : Reply) (seen : Seen) → seen_in written reply ≡ Some seen → can_stand seen.row ≡ true
-reply_stands written (Row etag row) seen e = under_stands (Some etag) row seen e
-reply_stands written NoRow seen e = let made : Seen = record { etag = None; row = empty_row } in subst (λ (z : Seen). can_stand z.row ≡ true) (same_Some made seen e) empty_stands
-reply_stands written (Written etag) seen e = written_stands etag written seen e
-reply_stands written Changed seen e = absurd (none-some seen e)
-reply_stands written Failed seen e = absurd (none-some seen e)
-
-action_stands : (m : Action) (seen : Seen) → heard_in m ≡ Some seen → can_stand seen.row ≡ true
-action_stands (Sent a) seen e = absurd (none-some seen e)
-action_stands (Handed a reply) seen e = reply_stands (written_by a.op) reply seen e
-action_stands (GaveUp a) seen e = absurd (none-some seen e)
-action_stands Rested seen e = absurd (none-some seen e)
-action_stands GaveIn seen e = absurd (none-some seen e)
-
--- a row that was heard is one that a run can hold
-pub heard_stands : (ms : List Action) (s : ℕ) (row : RowAt) → WasHeard ms s row → can_stand row ≡ true
-heard_stands [] s row w = absurd w
-heard_stands (m ∷ ms) s row (inl k) = subst (λ r. can_stand r ≡ true) k.3 (action_stands m k.0 k.2)
-heard_stands (m ∷ ms) s row (inr k) = heard_stands ms s row k
 
 seen_from : (o : Option Seen) (row : RowAt) → row_seen o ≡ Some row → (seen : Seen) × (o ≡ Some seen) × (seen.row ≡ row)
 seen_from None row e = absurd (none-some row e)
@@ -194,11 +159,11 @@ known_current c run ms k v enough low =
     omega arith
 
 -- no known row shows a version beyond those that a run reaches
-pub known_low : (c : Config) (run : Run) (ms : List Action) → Knows c run ms → highest_of run.rows < 2 ^ 62
-known_low c run ms k =
+pub known_low : (c : Config) (w : Caller) (past : List Trace) (run : Run) (ms : List Action) → Stands c w past run ms → highest_of run.rows < 2 ^ 62
+known_low c w past run ms h =
     highest_below run.rows (2 ^ 62) (omega arith) (λ (s : ℕ) (row : RowAt) (e : slice_get run.rows s ≡ Some (Some row)).
-    let inside : s < c.n = slice_inside run.rows s c.n (Some row) k.rows_len e in
-    stands_low row (heard_stands ms s row (known_heard ms s row (listed_known c run ms k s row inside e))))
+    let inside : s < c.n = slice_inside run.rows s c.n (Some row) h.knows.rows_len e in
+    stands_low row (heard_stands c w past ms s row h.allowed (known_heard ms s row (listed_known c run ms h.knows s row inside e))))
 
 -- the counts that the lists have
 pub known_counted : (c : Config) (run : Run) (ms : List Action) → Knows c run ms → count_by (λ row. is_some row) run.rows ≡ known_count c ms

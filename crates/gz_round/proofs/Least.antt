@@ -8,7 +8,7 @@ use Rattle.gz_config.specs.declared.Config.{Config}
 use Rattle.gz_core.proofs.Counting.{count_within, count_added, count_new}
 use Rattle.gz_round.specs.declared.run.Mark.{Mark}
 use Rattle.gz_round.specs.declared.run.Run.{Run}
-use Rattle.gz_round.specs.History.{Asked, Action}
+use Rattle.gz_core.specs.History.{Asked, Action}
 use Rattle.gz_round.specs.Sites.{site_now}
 use Rattle.gz_round.specs.Standing.{Knows, AreSound, mark_of, awaited_of}
 use Rattle.gz_round.specs.Numbering.{AreNumbered, awaits_number, live_where, IsLiveAt}

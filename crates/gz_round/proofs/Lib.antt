@@ -1,5 +1,7 @@
 pub mod Actions
 pub mod Arms
+pub mod AsHeard
+pub mod Awaits
 pub mod Bounds
 pub mod Columns
 pub mod Endings
@@ -13,6 +15,7 @@ pub mod Lists
 pub mod LookBacks
 pub mod Numbers
 pub mod Opens
+pub mod Owns
 pub mod Passes
 pub mod Prepares
 pub mod Proposals

@@ -11,13 +11,13 @@ use Rattle.gz_core.specs.declared.rows.Column.{Column}
 use Rattle.gz_core.specs.declared.rows.Column.TheVariants.{Open, Decided}
 use Rattle.gz_config.specs.declared.Config.{Config}
 use Rattle.gz_core.proofs.Ballots.{same_refl}
-use Rattle.gz_core.specs.Slots.{slots, slot_of, slot_vote, slot_name}
+use Rattle.gz_core.specs.Slots.{slot_of, slot_vote}
 use Rattle.gz_pick.specs.Looks.{row_top, row_vote}
 use Rattle.gz_round.specs.declared.hearing.Seen.{Seen}
 use Rattle.gz_round.specs.declared.run.Mark.{Mark}
 use Rattle.gz_round.specs.declared.run.Run.{Run}
 use Rattle.gz_core.specs.declared.requests.Out.{Out}
-use Rattle.gz_round.specs.History.{Asked, Action, Sent, IsEarlier, asked_of, sent_from}
+use Rattle.gz_core.specs.History.{Asked, Action, Sent, IsEarlier, asked_of, sent_from}
 use Rattle.gz_round.specs.Sites.{SiteNow, site_now, known, row_seen, WasHeard}
 use Rattle.gz_round.specs.Sent.{promise_by, of_sent, passes_sent, or_earlier, has_promised_at, last_promise}
 use Rattle.gz_round.specs.Shown.{heard_at, row_value, column_value}

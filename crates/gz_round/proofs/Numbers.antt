@@ -1,29 +1,13 @@
 -- The numbers of the requests that are awaited.
-use Rattle.std.proofs.Common.{◌≡◌, ◌==◌, ℕ, ◌+◌, ◌<◌, ◌≤◌, Bool, true, false, List, [], ◌∷◌, ◌++◌, length, Option, Some, None, refl, sym, ap, ◌∙◌, subst, inl, inr, ◌⊎◌, arith}
-use Rattle.std.proofs.lemmas.Bool.{cases_Bool, cond-true, cond-false, eqb-true, and_parts}
-use Rattle.std.proofs.lemmas.Option.{same_Some, none-some}
+use Rattle.std.proofs.Common.{◌≡◌, ℕ, ◌+◌, ◌<◌, ◌≤◌, List, [], ◌∷◌, ◌++◌, length, Some, None, refl, sym, ap, ◌∙◌, subst, inl, inr, arith}
+use Rattle.std.proofs.lemmas.Option.{none-some}
 use Rattle.gz_config.specs.declared.Config.{Config}
 use Rattle.gz_core.specs.declared.requests.Out.{Out}
 use Rattle.gz_core.specs.declared.requests.Reply.{Reply}
-use Rattle.gz_round.specs.declared.hearing.Seen.{Seen}
-use Rattle.gz_round.specs.History.{Asked, Action, Sent, Handed, GaveUp, GaveIn, IsClosing, asked_of, sent_from, is_row_request}
-use Rattle.gz_round.specs.Sites.{SiteNow, site_now, after, after_reply, after_sent, concerns, is_to, seen_in, written_by, is_changed}
+use Rattle.gz_core.specs.History.{Asked, Action, Sent, Handed, GaveUp, GaveIn, IsClosing, asked_of, sent_from}
+use Rattle.gz_round.specs.Sites.{SiteNow, site_now, after, seen_in, written_by, is_changed}
 use Rattle.gz_round.specs.Numbering.{AreNumbered}
-use Rattle.gz_round.proofs.Actions.{now_here, now_other}
-
--- a request that is awaited after one was sent is that one, or was awaited before
-awaits_sent : (ms : List Action) (a b : Asked) (s : ℕ) → (site_now (Sent a ∷ ms) s).awaits ≡ Some b → ((a ≡ b) × (a.site ≡ s)) ⊎ ((site_now ms s).awaits ≡ Some b)
-awaits_sent ms a b s e =
-    elim (cases_Bool (is_to a s)) [
-      | inl k ↦ (
-          let here : (after_sent a (site_now ms s)).awaits ≡ Some b = sym (ap (λ n. n.awaits) (now_here (Sent a) ms s k)) ∙ e in
-          let same : a.site ≡ s = eqb-true a.site s (and_parts (is_row_request a.op) (a.site == s) k).1 in
-          elim (cases_Bool a.awaited) [
-            | inl t ↦ inl (same_Some a b (sym (ap (λ n. n.awaits) (cond-true a.awaited _ (site_now ms s) t)) ∙ here), same)
-            | inr t ↦ inr (sym (ap (λ n. n.awaits) (cond-false a.awaited _ (site_now ms s) t)) ∙ here)
-          ])
-      | inr k ↦ inr (sym (ap (λ n. n.awaits) (now_other (Sent a) ms s k)) ∙ e)
-    ]
+use Rattle.gz_round.proofs.Awaits.{to_site, awaits_sent, reply_idle, ended_awaits}
 
 one_sent : (c : Config) (ms : List Action) (a : Asked) (next : ℕ) → next ≤ a.number → AreNumbered c ms next → AreNumbered c (Sent a ∷ ms) (a.number + 1)
 one_sent c ms a next l h = record {
@@ -34,7 +18,7 @@ one_sent c ms a next l h = record {
   apart = λ (s u : ℕ) (b d : Asked) (i : s < c.n) (j : u < c.n) (e : (site_now (Sent a ∷ ms) s).awaits ≡ Some b) (f : (site_now (Sent a ∷ ms) u).awaits ≡ Some d) (same : b.number ≡ d.number).
       elim (awaits_sent ms a b s e) [
         | inl k ↦ elim (awaits_sent ms a d u f) [
-          | inl m ↦ sym k.1 ∙ m.1
+          | inl m ↦ sym (to_site a s k.1) ∙ to_site a u m.1
           | inr m ↦ (let n : a.number ≡ b.number = ap (λ (z : Asked). z.number) k.0 in absurd (omega (arith, h.below u d j m)))
         ]
         | inr k ↦ elim (awaits_sent ms a d u f) [
@@ -53,19 +37,6 @@ numbered_sent c first [] ms h = numbered_later c ms first (first + 0) (omega ari
 numbered_sent c first (o ∷ os) ms h =
     let rest = numbered_sent c (first + 1) os (Sent (asked_of first o) ∷ ms) (one_sent c ms (asked_of first o) first (omega arith) h) in
     numbered_later c (sent_from (first + 1) os (Sent (asked_of first o) ∷ ms)) (first + 1 + length os) (first + length (o ∷ os)) (omega arith) rest
-
-reply_idle : (seen : Option Seen) (changed : Bool) (now : SiteNow) → (after_reply seen changed now).awaits ≡ None
-reply_idle (Some seen) changed now = refl
-reply_idle None true now = refl
-reply_idle None false now = refl
-
--- an action that ends a request leaves the others awaited
-ended_awaits : (ms : List Action) (m : Action) (b : Asked) (s : ℕ) → ((now : SiteNow) → (after m now).awaits ≡ None) → (site_now (m ∷ ms) s).awaits ≡ Some b → (site_now ms s).awaits ≡ Some b
-ended_awaits ms m b s idle e =
-    elim (cases_Bool (concerns m s)) [
-      | inl k ↦ absurd (none-some b (sym (ap (λ n. n.awaits) (now_here m ms s k) ∙ idle (site_now ms s)) ∙ e))
-      | inr k ↦ sym (ap (λ n. n.awaits) (now_other m ms s k)) ∙ e
-    ]
 
 pub numbered_ended : (c : Config) (ms : List Action) (m : Action) (next : ℕ) → ((now : SiteNow) → (after m now).awaits ≡ None) → AreNumbered c ms next → AreNumbered c (m ∷ ms) next
 numbered_ended c ms m next idle h = record {

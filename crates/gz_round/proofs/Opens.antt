@@ -6,7 +6,7 @@ use Rattle.gz_config.specs.declared.Config.{Config}
 use Rattle.gz_core.specs.declared.requests.Out.{Out}
 use Rattle.gz_round.specs.declared.run.Run.{Run}
 use Rattle.gz_round.specs.declared.run.Stage.TheVariants.{Look}
-use Rattle.gz_round.specs.History.{Asked, Action, Caller, Trace, sent_from}
+use Rattle.gz_core.specs.History.{Asked, Action, Caller, Trace, sent_from}
 use Rattle.gz_round.specs.Sites.{site_now}
 use Rattle.gz_round.specs.Counting.{outs, IsGoing}
 use Rattle.gz_round.specs.Asking.{IsLeftBy}

@@ -9,7 +9,7 @@ use Rattle.gz_core.specs.declared.requests.RowStep.{RowStep}
 use Rattle.gz_core.specs.declared.requests.Out.{Out}
 use Rattle.gz_round.specs.declared.run.Mark.{Mark}
 use Rattle.gz_round.specs.declared.run.Run.{Run}
-use Rattle.gz_round.specs.History.{Action, Caller, Trace, sent_from}
+use Rattle.gz_core.specs.History.{Action, Caller, Trace, sent_from}
 use Rattle.gz_core.specs.Names.{BallotAt}
 use Rattle.gz_round.specs.Sent.{of_step, vote_by, phase_by, promise_by, round_after, passes_sent}
 use Rattle.gz_round.specs.Asking.{asks_of, sent_run, marked_as, phase_after, AskedBy, IsAskedAt, IsLeftBy, round_of}

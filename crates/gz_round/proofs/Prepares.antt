@@ -2,7 +2,7 @@
 use Rattle.std.proofs.Common.{◌≡◌, ◌≢◌, ℕ, zero, suc, ◌+◌, ◌<◌, ◌≤◌, ◌^◌, Bool, true, false, ◌&&◌, ◌==◌, List, [], ◌∷◌, Option, Some, None, is_some, refl, sym, ap, ◌∙◌, subst, inl, inr, ◌⊎◌, arith, leb}
 use Rattle.std.specs.List.{slice_get, list_any}
 use Rattle.std.specs.Prelude.{nat_lt}
-use Rattle.std.proofs.lemmas.Bool.{cases_Bool, cases_lt, cond-true, cond-false, false≢true, both_ways, or_cases, or_right, and_parts, ltb-true, eqb-true, false_from_ne_true, le-leb}
+use Rattle.std.proofs.lemmas.Bool.{cases_Bool, cases_lt, cond-true, cond-false, false≢true, both_ways, or_cases, or_right, and_parts, ltb-true, eqb-true, false_from_ne_true, le-leb, leb-true}
 use Rattle.std.proofs.lemmas.Bool.Decides.{nat_tests}
 use Rattle.std.proofs.lemmas.Option.{same_Some, none-some, slice_get_within}
 use Rattle.gz_core.specs.Names.{Name, BallotAt, same_ballot, same_name}
@@ -11,44 +11,43 @@ use Rattle.gz_core.specs.Rows.{RowAt}
 use Rattle.gz_core.specs.Slots.{slots}
 use Rattle.gz_core.specs.declared.slots.Slot.{Slot}
 use Rattle.gz_core.specs.declared.slots.Slot.TheVariants.{Gone, DecidedAs, OpenAt}
-use Rattle.gz_core.specs.Counts.{count_sites}
 use Rattle.gz_accept.specs.declared.answers.Step.TheVariants.{Done}
 use Rattle.gz_accept.specs.Steps.{promise_answer}
 use Rattle.gz_core.specs.Configurations.{IsConfig}
-use Rattle.gz_core.specs.Calls.{own_value}
 use Rattle.gz_core.specs.declared.values.Value.{Value}
 use Rattle.gz_core.specs.declared.requests.Out.{Out}
 use Rattle.gz_config.specs.declared.Config.{Config}
 use Rattle.gz_core.specs.declared.requests.RowStep.{RowStep}
 use Rattle.gz_core.specs.declared.requests.RowStep.TheVariants.{FastVote, Promise, ClassicVote, Decide, Trim}
 use Rattle.gz_core.specs.declared.requests.Op.{Op}
-use Rattle.gz_core.specs.declared.requests.Op.TheVariants.{ReadRow, WriteRow}
+use Rattle.gz_core.specs.declared.requests.Op.TheVariants.{WriteRow}
 use Rattle.gz_core.proofs.Ballots.{same_means, same_from}
 use Rattle.gz_core.proofs.Counting.{count_found}
 use Rattle.gz_pick.specs.Looks.{row_top, highest_of}
 use Rattle.gz_round.specs.declared.run.Run.{Run}
 use Rattle.gz_round.specs.declared.run.Stage.{Stage}
 use Rattle.gz_round.specs.declared.run.Stage.TheVariants.{Look, Fast, Prepare, Accept}
-use Rattle.gz_round.specs.History.{Action, Sent, Handed, GaveUp, Rested, GaveIn, Caller, Trace, sent_from}
+use Rattle.gz_core.specs.History.{Action, Sent, Handed, GaveUp, Rested, GaveIn, Caller, Trace, sent_from}
 use Rattle.gz_round.specs.Sites.{SiteNow, site_now, some_heard}
-use Rattle.gz_round.specs.Sent.{promise_by, of_step, of_sent, passes_sent, some_sent, has_promised, has_promised_at, top_round, round_after}
+use Rattle.gz_round.specs.Sent.{promise_by, of_step, of_sent, passes_sent, some_sent, has_promised, has_promised_at, IsUnpromised, top_round, round_after}
 use Rattle.gz_round.specs.Shown.{heard_at}
 use Rattle.gz_round.specs.LookBack.{lowest_vote, IsLookedBack}
 use Rattle.gz_round.specs.Rounds.{IsUnused, ClassicCast, cast_by, has_classic_cast, passed_since, above_known, round_known, slot_round, slot_promises_above, greatest, next_round, top_rounds}
-use Rattle.gz_round.specs.Sending.{Collected, IsIdle, NoEvidence, NoneAbove, AreAllowed, MayAsk, MayMake, rows_known}
+use Rattle.gz_round.specs.Sending.{Collected, IsBarred, IsIdle, NoEvidence, NoneAbove, AreAllowed, MayAsk, MayMake, rows_known}
 use Rattle.gz_round.specs.Counting.{known_count, IsGoing}
 use Rattle.gz_round.specs.Asking.{IsLeftBy}
-use Rattle.gz_round.specs.Standing.{Knows, Stands, StageStands, ArePassed, IsUnpromised, IsWorking, MayPass}
+use Rattle.gz_round.specs.Standing.{Knows, Stands, StageStands, ArePassed, IsWorking, MayPass}
 use Rattle.gz_round.specs.Following.{Asks, AreServed, IsUnmet, HasTurned}
 use Rattle.gz_round.specs.Acting.{Prepares, RunsOut, Carries, IsBallotAbove, round_in, given_in_of, prepared_of, is_waiting, ended_of, ended_in, is_overtaken, is_overtaken_in, working_version, version_in}
 use Rattle.gz_round.proofs.Lists.{any_found}
 use Rattle.gz_round.proofs.Heard.{heard_passes}
-use Rattle.gz_round.proofs.Known.{listed_known, known_heard, known_current, heard_stands}
+use Rattle.gz_round.proofs.AsHeard.{heard_stands}
+use Rattle.gz_round.proofs.Known.{listed_known, known_heard, known_current}
 use Rattle.gz_round.proofs.Columns.{top_highest, highest_reached, stands_round}
 use Rattle.gz_round.proofs.Follows.{unvoted_clear, looks_unpromised, unpromised_from, pass_from}
 use Rattle.gz_round.proofs.Arms.{stands_stage}
 use Rattle.gz_round.proofs.LookBacks.{before_none, back_sent_from, begun_new, begun_heard}
-use Rattle.gz_round.proofs.Untaken.{HasGone, count_one, gone_or_kept, undecided_known, fresh_taken}
+use Rattle.gz_round.proofs.Untaken.{count_one, undecided_known, fresh_taken}
 use Rattle.gz_round.proofs.Turns.{again_from, waits_from, idle_of, heard_from, quorum_known, none_passed, untaken_from}
 use Rattle.gz_round.proofs.GivingIn.{given_in_turned}
 
@@ -104,8 +103,8 @@ step_cast c w past ms (Decide u x) v b y may e = absurd (false≢true e)
 step_cast c w past ms (Trim to x) v b y may e = absurd may
 
 op_cast : (c : Config) (w : Caller) (past : List Trace) (ms : List Action) (now : SiteNow) (op : Op) (v : ℕ) (b : BallotAt) (y : Name) → MayAsk c w past ms now op → passes_sent (λ k. (k.version == v) && same_ballot k.ballot b && same_name k.name y) (of_step cast_by op) ≡ true → has_promised_at ms v b ≡ true
-op_cast c w past ms now (ReadRow key) v b y may e = absurd (false≢true e)
 op_cast c w past ms now (WriteRow key expect step row) v b y may e = step_cast c w past ms step v b y may.1.guard e
+op_cast c w past ms now op v b y may e = absurd (false≢true e)
 
 -- a call votes in a classic ballot only once it has promised it
 pub cast_promised : (c : Config) (w : Caller) (past : List Trace) (ms : List Action) (v : ℕ) (b : BallotAt) (y : Name) → AreAllowed c w past ms → has_classic_cast ms v b y ≡ true → has_promised_at ms v b ≡ true
@@ -170,18 +169,20 @@ round_greatest c run ms v k =
     ] in
     omega arith
 
-round_below : (c : Config) (run : Run) (ms : List Action) (v s : ℕ) (o : Option RowAt) → Knows c run ms → s < c.n → rows_known ms s ≡ o → round_known v o < 2 ^ 31
-round_below c run ms v s None k l e = omega arith
-round_below c run ms v s (Some row) k l e = stands_round row v (heard_stands ms s row (known_heard ms s row e))
-
 -- a known row promises no round beyond those that a run reaches
-pub rounds_below : (c : Config) (run : Run) (ms : List Action) (v : ℕ) → Knows c run ms → round_in v run.rows < 2 ^ 31
-rounds_below c run ms v k =
+pub round_below : (c : Config) (w : Caller) (past : List Trace) (ms : List Action) (v s : ℕ) (o : Option RowAt) → AreAllowed c w past ms → rows_known ms s ≡ o → round_known v o < 2 ^ 31
+round_below c w past ms v s None allowed e = omega arith
+round_below c w past ms v s (Some row) allowed e = stands_round row v (heard_stands c w past ms s row allowed (known_heard ms s row e))
+
+-- nor does the list of rows
+pub rounds_below : (c : Config) (w : Caller) (past : List Trace) (run : Run) (ms : List Action) (v : ℕ) → Stands c w past run ms → round_in v run.rows < 2 ^ 31
+rounds_below c w past run ms v h =
+    let k : Knows c run ms = h.knows in
     elim (round_reached v run.rows) [
       | inl zero_is ↦ omega arith
-      | inr w ↦ (
-          let inside : w.0 < c.n = let len = k.rows_len in omega (arith, slice_get_within run.rows w.0 w.1 w.2) in
-          omega (arith, w.3, round_below c run ms v w.0 w.1 k inside (same_Some (rows_known ms w.0) w.1 (sym (k.rows w.0 inside) ∙ w.2))))
+      | inr x ↦ (
+          let inside : x.0 < c.n = let len = k.rows_len in omega (arith, slice_get_within run.rows x.0 x.1 x.2) in
+          omega (arith, x.3, round_below c w past ms v x.0 x.1 h.allowed (same_Some (rows_known ms x.0) x.1 (sym (k.rows x.0 inside) ∙ x.2))))
     ]
 
 low_above : (slot : Slot) (b : BallotAt) → slot_round slot < b.round → slot_promises_above slot b ≡ false
@@ -232,20 +233,26 @@ known_some : (o : Option RowAt) → is_some o ≡ true → (row : RowAt) × (o �
 known_some None e = absurd (false≢true e)
 known_some (Some row) e = (row, refl)
 
--- where no known row takes a ballot above all that they promise, one has its version collected
-prepared_gone : (c : Config) (w : Caller) (new : Run) (ns : List Action) (v : ℕ) (b : BallotAt) → IsConfig c → Knows c new ns → IsGoing c ns → IsIdle c ns v → round_in v new.rows < b.round → ((s : ℕ) (row : RowAt) → s < c.n → rows_known ns s ≡ Some row → promise_answer row v b ≢ Done) → HasGone c ns v
-prepared_gone c w new ns v b config k going idle low untaken =
+-- where no known row takes a ballot above all that they promise, each has its version collected
+prepared_gone : (c : Config) (new : Run) (ns : List Action) (v : ℕ) (b : BallotAt) → Knows c new ns → NoEvidence c ns v → round_in v new.rows < b.round → ((s : ℕ) (row : RowAt) → s < c.n → rows_known ns s ≡ Some row → promise_answer row v b ≢ Done) →
+    (s : ℕ) (row : RowAt) → s < c.n → rows_known ns s ≡ Some row → v ≤ row.floor
+prepared_gone c new ns v b k none low untaken s row l e =
+    elim (cases_Bool (leb v row.floor)) [
+      | inl gone ↦ leb-true v row.floor gone
+      | inr kept ↦ absurd (untaken s row l e (fresh_taken row v b kept (undecided_known c ns v s row none l e) (low_listed c new ns v b s row k low l e)))
+    ]
+
+-- a row is known while a call can go on that has heard every site
+known_one : (c : Config) (ns : List Action) (v : ℕ) → IsConfig c → IsGoing c ns → IsIdle c ns v → (s : ℕ) × (row : RowAt) × (s < c.n) × (rows_known ns s ≡ Some row)
+known_one c ns v config going idle =
     let enough : c.qc ≤ known_count c ns = quorum_known c ns idle.heard going.enough in
     let one : 0 < known_count c ns = let q = config.quorums in omega (arith, config.some, q.majority) in
     let site = count_found c.n (λ s. is_some (rows_known ns s)) one in
     let row = known_some (rows_known ns site.0) site.2 in
-    elim (gone_or_kept c ns v) [
-      | inl gone ↦ gone
-      | inr kept ↦ absurd (untaken site.0 row.0 site.1 row.1 (fresh_taken row.0 v b (kept site.0 row.0 site.1 row.1) (undecided_known c ns v site.0 row.0 idle.undecided site.1 row.1) (low_listed c new ns v b site.0 row.0 k low site.1 row.1)))
-    ]
+    (site.0, row.0, site.1, row.1)
 
 -- once the new ballot was promised at each site that takes it, the call waits, or gives in
-pub prepared_turned : (c : Config) (w : Caller) (past : List Trace) (run new : Run) (ms : List Action) (v : ℕ) (b : BallotAt) (found : Option Value) (ns : List Action) → IsConfig c → Prepares c w past run ms v → IsBallotAbove run v b → IsGoing c ns → NoEvidence c ns v → (own_value w.name w.call ≡ None → IsLookedBack c ns v b found) →
+pub prepared_turned : (c : Config) (w : Caller) (past : List Trace) (run new : Run) (ms : List Action) (v : ℕ) (b : BallotAt) (found : Option Value) (ns : List Action) → IsConfig c → Prepares c w past run ms v → IsBallotAbove run v b → IsGoing c ns → NoEvidence c ns v → (w.own ≡ None → IsLookedBack c ns v b found) →
     Asks c w past new ns (Some (Promise v b)) → AreServed c w ns (Some (Promise v b)) → IsLeftBy (record run { stage = Prepare v b found }) new (Some (Promise v b)) → HasTurned c w past new ns (prepared_of new)
 prepared_turned c w past run new ms v b found ns config p n going none back asks served left =
     let round = n.round in
@@ -257,9 +264,12 @@ prepared_turned c w past run new ms v b found ns config p n going none back asks
       | inr e ↦ (
           let awaits : (s : ℕ) → s < c.n → (site_now ns s).awaits ≡ None = λ (s : ℕ) (l : s < c.n). idle_of c new ns s (site_now ns s).awaits k.knows e l refl in
           let idle : IsIdle c ns v = record { awaits = awaits; heard = heard_from c w ns (Some (Promise v b)) served awaits; undecided = none } in
-          let gone = prepared_gone c w new ns v b config k.knows going idle low (untaken_from c w ns (Promise v b) refl served awaits) in
+          let gone = prepared_gone c new ns v b k.knows none low (untaken_from c w ns (Promise v b) refl served awaits) in
+          let one = known_one c ns v config going idle in
+          let pass = asks.held.0.works.pass in
+          let barred : IsBarred c ns v = record { current = pass.current; later = pass.later; gone = gone } in
           subst (HasTurned c w past new ns) (sym (cond-false (is_waiting new) None (Some (given_in_of new)) e))
-          (given_in_turned c w past new ns config k going (Collected v b (record { going = going; idle = idle; promise = asks.may; gone = gone }))))
+          (given_in_turned c w past new ns config k going (Collected v b (record { going = going; idle = idle; promise = asks.may; gone = (one.0, one.1, one.2, one.3, gone one.0 one.1 one.2 one.3); works = inr barred }))))
     ]
 
 heard_one : (c : Config) (p : RowAt → Bool) (ms : List Action) (s : ℕ) (row : RowAt) → s < c.n → rows_known ms s ≡ Some row → p row ≡ true → 1 ≤ heard_at c p ms

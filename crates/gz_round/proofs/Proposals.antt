@@ -27,9 +27,8 @@ use Rattle.gz_pick.specs.declared.heard.Heard.{Heard}
 use Rattle.gz_pick.specs.declared.heard.Pick.TheVariants.{Forced, Free}
 use Rattle.gz_round.specs.declared.run.Run.{Run}
 use Rattle.gz_round.specs.declared.run.Stage.TheVariants.{Prepare, Accept}
-use Rattle.gz_round.specs.History.{Action, Caller, Trace}
+use Rattle.gz_core.specs.History.{Action, Caller, Trace}
 use Rattle.gz_round.specs.Sent.{last_promise}
-use Rattle.gz_core.specs.Calls.{own_value}
 use Rattle.gz_round.specs.LookBack.{or_next, IsLookedBack}
 use Rattle.gz_round.specs.Rounds.{MayClassicVote, MayPropose, IsPromiseHeard, IsLeft, promises_known, slot_promises, has_classic_cast, rounds_used, IsValueKnown}
 use Rattle.gz_round.specs.Causes.{row_value, column_value, vote_value}
@@ -221,11 +220,11 @@ forced_free : (at : ℕ) → Forced at ≡ Free → ⊥
 forced_free at e = cc
 
 -- what a call proposes where no value is forced: its own, or what it looked back at
-free_may : (c : Config) (w : Caller) (past : List Trace) (run : Run) (ms : List Action) (v : ℕ) (b : BallotAt) (found : Option Value) (x : Value) (own : Option Value) → own_value w.name w.call ≡ own → Stands c w past run ms → MayPass c w ms v → (own_value w.name w.call ≡ None → IsLookedBack c ms v b found) → Some x ≡ or_next run.own found →
-    MayPropose c w ms v x × IsValueKnown w ms v x × (own_value w.name w.call ≡ None → IsLookedBack c ms v b (Some x))
+free_may : (c : Config) (w : Caller) (past : List Trace) (run : Run) (ms : List Action) (v : ℕ) (b : BallotAt) (found : Option Value) (x : Value) (own : Option Value) → w.own ≡ own → Stands c w past run ms → MayPass c w ms v → (w.own ≡ None → IsLookedBack c ms v b found) → Some x ≡ or_next run.own found →
+    MayPropose c w ms v x × IsValueKnown w ms v x × (w.own ≡ None → IsLookedBack c ms v b (Some x))
 free_may c w past run ms v b found x (Some y) is h pass back e =
     let same : y ≡ x = next_some run.own found x y (h.own_is ∙ is) e in
-    let own : own_value w.name w.call ≡ Some x = is ∙ ap (λ z. Some z) same in
+    let own : w.own ≡ Some x = is ∙ ap (λ z. Some z) same in
     (inl (own, pass.current, pass.clear), inl own, λ reads. absurd (none-some x (sym reads ∙ own)))
 free_may c w past run ms v b found x None is h pass back e =
     let same : found ≡ Some x = sym (e ∙ next_none run.own found (h.own_is ∙ is)) in
@@ -234,10 +233,10 @@ free_may c w past run ms v b found x None is h pass back e =
     (inr (w'.0, w'.1, w'.2, is, w'.3, w'.4), inr (w'.0, w'.1, w'.3, w'.5), λ reads. looked)
 
 -- what is proposed is left to the call, which knows it
-proposed_may : (c : Config) (w : Caller) (past : List Trace) (run : Run) (ms : List Action) (v : ℕ) (b : BallotAt) (found : Option Value) (heard : List Heard) (x : Value) → Stands c w past run ms → MayPass c w ms v → (own_value w.name w.call ≡ None → IsLookedBack c ms v b found) → All (IsHeardIn run.rows v b) heard → IsProposal c run v found heard (Some x) →
-    IsLeft c w ms v heard x × IsValueKnown w ms v x × (own_value w.name w.call ≡ None → pick_of c.n c.qf heard ≡ Free → IsLookedBack c ms v b (Some x))
+proposed_may : (c : Config) (w : Caller) (past : List Trace) (run : Run) (ms : List Action) (v : ℕ) (b : BallotAt) (found : Option Value) (heard : List Heard) (x : Value) → Stands c w past run ms → MayPass c w ms v → (w.own ≡ None → IsLookedBack c ms v b found) → All (IsHeardIn run.rows v b) heard → IsProposal c run v found heard (Some x) →
+    IsLeft c w ms v heard x × IsValueKnown w ms v x × (w.own ≡ None → pick_of c.n c.qf heard ≡ Free → IsLookedBack c ms v b (Some x))
 proposed_may c w past run ms v b found heard x h pass back all (inl k) =
-    let may = free_may c w past run ms v b found x (own_value w.name w.call) refl h pass back k.1 in
+    let may = free_may c w past run ms v b found x (w.own) refl h pass back k.1 in
     (inr (k.0, may.0), may.1, λ reads free. may.2 reads)
 proposed_may c w past run ms v b found heard x h pass back all (inr k) =
     let one : Heard = k.1 in
@@ -251,7 +250,7 @@ proposed_may c w past run ms v b found heard x h pass back all (inr k) =
     (inl (k.0, k.3, (one, named.0, k.4, named.1, named.2)), inr (one.site, k.2, known_heard ms one.site k.2 (listed_known c run ms h.knows one.site k.2 inside k.5), value), λ reads free. absurd (forced_free k.0 (sym k.3 ∙ free)))
 
 -- where nothing is proposed, the call writes nothing and looked back at nothing
-proposed_none : (c : Config) (w : Caller) (past : List Trace) (run : Run) (ms : List Action) (v : ℕ) (b : BallotAt) (found : Option Value) (heard : List Heard) → Stands c w past run ms → IsProposal c run v found heard None → (own_value w.name w.call ≡ None) × (found ≡ None) × (pick_of c.n c.qf heard ≡ Free)
+proposed_none : (c : Config) (w : Caller) (past : List Trace) (run : Run) (ms : List Action) (v : ℕ) (b : BallotAt) (found : Option Value) (heard : List Heard) → Stands c w past run ms → IsProposal c run v found heard None → (w.own ≡ None) × (found ≡ None) × (pick_of c.n c.qf heard ≡ Free)
 proposed_none c w past run ms v b found heard h (inl k) = let both = next_both run.own found (sym k.1) in (sym h.own_is ∙ both.0, both.1, k.0)
 proposed_none c w past run ms v b found heard h (inr k) = absurd (none-some k.6 k.8)
 

@@ -7,12 +7,12 @@ use Rattle.std.proofs.lemmas.Option.{none-some}
 use Rattle.gz_core.specs.Rows.{RowAt}
 use Rattle.gz_config.specs.declared.Config.{Config}
 use Rattle.gz_core.specs.declared.requests.Reply.{Reply}
-use Rattle.gz_core.specs.declared.requests.Reply.TheVariants.{Row, NoRow, Written, Changed, Failed}
+use Rattle.gz_core.specs.declared.requests.Reply.TheVariants.{Row, NoRow, Written}
 use Rattle.gz_round.specs.declared.hearing.Seen.{Seen}
 use Rattle.gz_round.specs.declared.run.Mark.{Mark}
 use Rattle.gz_round.specs.declared.run.Run.{Run}
-use Rattle.gz_round.specs.History.{Asked, Action, Handed, GaveUp, Caller, Trace}
-use Rattle.gz_round.specs.Sites.{SiteNow, site_now, after_reply, known, row_seen, written_by, seen_in, is_changed}
+use Rattle.gz_core.specs.History.{Asked, Action, Handed, GaveUp, Caller, Trace}
+use Rattle.gz_round.specs.Sites.{SiteNow, site_now, after_reply, known, row_seen, written_by, as_heard, seen_in, is_changed}
 use Rattle.gz_round.specs.Sent.{met, voted, phase_of, top_round}
 use Rattle.gz_round.specs.Rounds.{top_rounds}
 use Rattle.gz_round.specs.Sending.{IsAllowed, IsAwaitedOf}
@@ -20,7 +20,9 @@ use Rattle.gz_round.specs.Noting.{left_run, noted_by, written_at, written_of, Is
 use Rattle.gz_round.specs.Standing.{Knows, Stands, StageStands, IsSound, mark_of, etag_seen, awaited_of}
 use Rattle.gz_round.specs.Following.{Ready}
 use Rattle.gz_round.proofs.Lists.{told_after_set, told_same}
-use Rattle.gz_round.proofs.Actions.{is_to_same, is_to_other, now_here, now_other}
+use Rattle.gz_round.proofs.Actions.{is_to_other, now_here, now_other}
+use Rattle.gz_round.proofs.AsHeard.{changed_heard, heard_again}
+use Rattle.gz_round.proofs.Awaits.{awaits_to}
 use Rattle.gz_round.proofs.Stages.{Ends, stage_more}
 
 abbrev pub met_by : Option Seen → Bool → ℕ → ℕ
@@ -114,6 +116,7 @@ stands_ended c w past run ms m at seen changed e l kept votes phase rounds met_t
       name_is = rest.name ∙ h.name_is;
       key_is = rest.key ∙ h.key_is;
       own_is = rest.own ∙ h.own_is;
+      named = h.named;
       knows = record {
         rows_len = ended_rows_len run at (mark_of (site_now ms at)) (known (site_now ms at)) seen changed ∙ h.knows.rows_len;
         marks_len = ended_marks_len run at (mark_of (site_now ms at)) (known (site_now ms at)) seen changed ∙ h.knows.marks_len;
@@ -135,34 +138,40 @@ seen_unchanged : (written : Option RowAt) (reply : Reply) (seen : Seen) → seen
 seen_unchanged written (Row etag row) seen e = refl
 seen_unchanged written NoRow seen e = refl
 seen_unchanged written (Written etag) seen e = refl
-seen_unchanged written Changed seen e = absurd (none-some seen e)
-seen_unchanged written Failed seen e = absurd (none-some seen e)
+seen_unchanged written reply seen e = absurd (none-some seen e)
 
 met_handed : (a : Asked) (reply : Reply) (ms : List Action) (seen : Option Seen) (changed : Bool) → seen_in (written_by a.op) reply ≡ seen → is_changed reply ≡ changed → met (Handed a reply ∷ ms) ≡ met_by seen changed (met ms)
 met_handed a reply ms (Some seen) changed e f = cond-false (is_changed reply) (met ms + 1) (met ms) (seen_unchanged (written_by a.op) reply seen e)
 met_handed a reply ms None true e f = cond-true (is_changed reply) (met ms + 1) (met ms) f
 met_handed a reply ms None false e f = cond-false (is_changed reply) (met ms + 1) (met ms) f
 
--- a reply that is handed
-pub ready_handed : (c : Config) (w : Caller) (past : List Trace) (run new : Run) (ms : List Action) (at : ℕ) (a : Asked) (reply : Reply) → at < c.n → (site_now ms at).awaits ≡ Some a → Ready c w past run ms → IsReplyNoted run at reply new → Ready c w past new (Handed a reply ∷ ms)
-ready_handed c w past run new ms at a reply l awaits r noted =
+-- a reply that is heard as it is
+ready_heard : (c : Config) (w : Caller) (past : List Trace) (run new : Run) (ms : List Action) (at : ℕ) (a : Asked) (reply : Reply) → at < c.n → (site_now ms at).awaits ≡ Some a → Ready c w past run ms → as_heard (written_by a.op) reply ≡ reply → new ≡ noted_by run at (mark_of (site_now ms at)) (known (site_now ms at)) (seen_in (written_by a.op) reply) (is_changed reply) → Ready c w past new (Handed a reply ∷ ms)
+ready_heard c w past run new ms at a reply l awaits r same new_is =
     let sound = (r.stands.sites at).inside a awaits in
-    let mark : Mark = mark_of (site_now ms at) in
-    let written : written_at (mark_of (site_now ms at)) ≡ written_by a.op = ap (λ (o : Option Asked). written_of (option_map awaited_of o)) awaits in
-    let seen : Option Seen = seen_in (written_by a.op) reply in
-    let new_is : new ≡ noted_by run at (mark_of (site_now ms at)) (known (site_now ms at)) (seen_in (written_by a.op) reply) (is_changed reply) = noted (mark_of (site_now ms at)) (known (site_now ms at)) (r.stands.knows.marks at l) (r.stands.knows.rows at l) ∙ ap (λ o. noted_by run at (mark_of (site_now ms at)) (known (site_now ms at)) (seen_in o reply) (is_changed reply)) written in
-    let ends : Ends (Handed a reply) at (seen_in (written_by a.op) reply) (is_changed reply) = record { here = is_to_same a at sound.1; others = λ (s : ℕ) (n : s ≢ at). is_to_other a s (λ (q : s ≡ a.site). n (q ∙ sound.1)); after_is = λ now. refl } in
-    let may : IsAwaitedOf ms a = subst (λ (z : ℕ). (site_now ms z).awaits ≡ Some a) (sym sound.1) awaits in
+    let ends : Ends (Handed a reply) at (seen_in (written_by a.op) reply) (is_changed reply) = record { here = awaits_to ms at a awaits; others = λ (s : ℕ) (n : s ≢ at). is_to_other a s (λ (q : s ≡ a.site). n (q ∙ sound.1)); after_is = λ now. refl } in
+    let awaited : IsAwaitedOf ms a = subst (λ (z : ℕ). (site_now ms z).awaits ≡ Some a) (sym sound.1) awaits in
     let stands : Stands c w past (noted_by run at (mark_of (site_now ms at)) (known (site_now ms at)) (seen_in (written_by a.op) reply) (is_changed reply)) (Handed a reply ∷ ms) =
-    stands_ended c w past run ms (Handed a reply) at (seen_in (written_by a.op) reply) (is_changed reply) ends l sound.0 refl refl refl (met_handed a reply ms (seen_in (written_by a.op) reply) (is_changed reply) refl refl) may r.stands in
+    stands_ended c w past run ms (Handed a reply) at (seen_in (written_by a.op) reply) (is_changed reply) ends l sound.0 refl refl refl (met_handed a reply ms (seen_in (written_by a.op) reply) (is_changed reply) refl refl) (awaited, same) r.stands in
     let stage : StageStands c w past run.stage (Handed a reply ∷ ms) = stage_more c w past (Handed a reply) ms at (seen_in (written_by a.op) reply) (is_changed reply) run.stage ends refl (record { voted = refl; voted_at = λ u. refl; phase = refl; promise = refl; cast = refl }) r.stage in
     subst (λ (n : Run). Ready c w past n (Handed a reply ∷ ms)) (sym new_is) (record { stands = stands; stage = subst (λ st. StageStands c w past st (Handed a reply ∷ ms)) (sym (ended_else run at (mark_of (site_now ms at)) (known (site_now ms at)) (seen_in (written_by a.op) reply) (is_changed reply)).stage) stage })
+
+-- a reply that is handed, as the call hears it
+pub ready_handed : (c : Config) (w : Caller) (past : List Trace) (run new : Run) (ms : List Action) (at : ℕ) (a : Asked) (reply : Reply) → at < c.n → (site_now ms at).awaits ≡ Some a → Ready c w past run ms → IsReplyNoted run at reply new → Ready c w past new (Handed a (as_heard (written_by a.op) reply) ∷ ms)
+ready_handed c w past run new ms at a reply l awaits r noted =
+    let mark : Mark = mark_of (site_now ms at) in
+    let row : Option RowAt = known (site_now ms at) in
+    let written : written_at (mark_of (site_now ms at)) ≡ written_by a.op = ap (λ (o : Option Asked). written_of (option_map awaited_of o)) awaits in
+    let heard : Reply = as_heard (written_by a.op) reply in
+    let new_is : new ≡ noted_by run at (mark_of (site_now ms at)) (known (site_now ms at)) (seen_in (written_by a.op) (as_heard (written_by a.op) reply)) (is_changed (as_heard (written_by a.op) reply)) =
+    noted mark row (r.stands.knows.marks at l) (r.stands.knows.rows at l) ∙ (ap (λ o. noted_by run at mark row (seen_in o (as_heard o reply)) (is_changed reply)) written ∙ ap (noted_by run at mark row (seen_in (written_by a.op) heard)) (sym (changed_heard (written_by a.op) reply))) in
+    ready_heard c w past run new ms at a heard l awaits r (heard_again (written_by a.op) reply) new_is
 
 -- a request that is given up
 pub ready_gave_up : (c : Config) (w : Caller) (past : List Trace) (run new : Run) (ms : List Action) (at : ℕ) (a : Asked) → at < c.n → (site_now ms at).awaits ≡ Some a → Ready c w past run ms → new ≡ left_run run at (mark_of (site_now ms at)) (known (site_now ms at)) → Ready c w past new (GaveUp a ∷ ms)
 ready_gave_up c w past run new ms at a l awaits r new_is =
     let sound = (r.stands.sites at).inside a awaits in
-    let ends : Ends (GaveUp a) at None false = record { here = is_to_same a at sound.1; others = λ (s : ℕ) (n : s ≢ at). is_to_other a s (λ (q : s ≡ a.site). n (q ∙ sound.1)); after_is = λ now. refl } in
+    let ends : Ends (GaveUp a) at None false = record { here = awaits_to ms at a awaits; others = λ (s : ℕ) (n : s ≢ at). is_to_other a s (λ (q : s ≡ a.site). n (q ∙ sound.1)); after_is = λ now. refl } in
     let may : IsAwaitedOf ms a = subst (λ (z : ℕ). (site_now ms z).awaits ≡ Some a) (sym sound.1) awaits in
     let stands : Stands c w past (left_run run at (mark_of (site_now ms at)) (known (site_now ms at))) (GaveUp a ∷ ms) = stands_ended c w past run ms (GaveUp a) at None false ends l sound.0 refl refl refl refl may r.stands in
     let stage : StageStands c w past run.stage (GaveUp a ∷ ms) = stage_more c w past (GaveUp a) ms at None false run.stage ends refl (record { voted = refl; voted_at = λ u. refl; phase = refl; promise = refl; cast = refl }) r.stage in

@@ -17,7 +17,7 @@ use Rattle.gz_accept.specs.declared.answers.Step.TheVariants.{Done, Already, Bel
 use Rattle.gz_round.specs.declared.hearing.Seen.{Seen}
 use Rattle.gz_round.specs.declared.run.Mark.{Mark}
 use Rattle.gz_round.specs.declared.run.Run.{Run}
-use Rattle.gz_round.specs.History.{Asked, Action, Sent, Caller, Trace, asked_of, is_row_request}
+use Rattle.gz_core.specs.History.{Asked, Action, Sent, Caller, Trace, asked_of, is_row_request}
 use Rattle.gz_round.specs.Sites.{SiteNow, site_now, after_sent, is_to, known, row_seen}
 use Rattle.gz_round.specs.Sent.{is_notice, vote_by, phase_by, of_step, or_earlier, last_sent, passes_sent, phase_of, phase_or_look, promise_by, round_after, top_round}
 use Rattle.gz_round.specs.Rounds.{top_rounds}
@@ -95,6 +95,11 @@ pub kind_site : (run : Run) (at : ℕ) (mark : Mark) (step : Option RowStep) (ro
 kind_site run at mark step row out (reads e why) = ap (λ o. o.site) e
 kind_site run at mark step row out (writes made before new s r same made_is e) = ap (λ o. o.site) e
 
+-- it is about a row
+pub kind_row : (run : Run) (at : ℕ) (mark : Mark) (step : Option RowStep) (row : Option RowAt) (out : Out) → Kind run at mark step row out → is_row_request out.op ≡ true
+kind_row run at mark step row out (reads e why) = ap (λ (o : Out). is_row_request o.op) e
+kind_row run at mark step row out (writes made before new s r same made_is e) = ap (λ (o : Out). is_row_request o.op) e
+
 -- a request of a pass reads or makes the step
 pub kind_of : (run : Run) (at : ℕ) (mark : Mark) (step : Option RowStep) (row : Option RowAt) (out : Out) → Kind run at mark step row out → IsOf out.op step
 kind_of run at mark step row out (reads e why) = record { writes = λ (made : RowStep) (h : of_step (λ s. Some s) out.op ≡ Some made). absurd (none-some made (sym (ap (λ o. of_step (λ s. Some s) o.op) e) ∙ h)) }
@@ -151,13 +156,13 @@ mark_sent number out now kept e =
     ap (λ (o : Option RowAt). let m : Mark = record { etag = etag_seen now.row; changed = now.changed; out = now.out; left = o; awaited = Some (awaited_of (asked_of number out)) } in m) (sym (cond-false now.out (row_seen now.row) None kept))
     ∙ ap mark_of (sym (cond-true out.awaited (record { row = now.row; changed = now.changed; out = now.out; awaits = Some (asked_of number out); unanswered = true }) now e))
 
-marks_sent : (c : Config) (run : Run) (ms : List Action) (at number : ℕ) (out : Out) → Knows c run ms → at < c.n → out.site ≡ at → (site_now ms at).out ≡ false →
+marks_sent : (c : Config) (run : Run) (ms : List Action) (at number : ℕ) (out : Out) → Knows c run ms → at < c.n → is_row_request out.op ≡ true → out.site ≡ at → (site_now ms at).out ≡ false →
     (s : ℕ) → s < c.n → slice_get (cond out.awaited (set run.marks at (marked_as (mark_of (site_now ms at)) number out)) run.marks) s ≡ Some (mark_of (site_now (Sent (asked_of number out) ∷ ms) s))
-marks_sent c run ms at number out k l here kept =
+marks_sent c run ms at number out k l row here kept =
     elim (cases_Bool out.awaited) [
       | inl e ↦ (
           let told = told_after_set c.n run.marks (λ s. mark_of (site_now ms s)) (λ s. mark_of (site_now (Sent (asked_of number out) ∷ ms) s)) at (marked_as (mark_of (site_now ms at)) number out) k.marks_len k.marks
-          (mark_sent number out (site_now ms at) kept e ∙ ap mark_of (sym (now_here (Sent (asked_of number out)) ms at (is_to_same (asked_of number out) at here))))
+          (mark_sent number out (site_now ms at) kept e ∙ ap mark_of (sym (now_here (Sent (asked_of number out)) ms at (is_to_same (asked_of number out) at row here))))
           (λ (s : ℕ) (n : s ≢ at). ap mark_of (sym (now_other (Sent (asked_of number out)) ms s (is_to_other (asked_of number out) s (λ (q : s ≡ out.site). n (q ∙ here)))))) in
           λ (s : ℕ) (i : s < c.n). ap (λ xs. slice_get xs s) (cond-true out.awaited (set run.marks at (marked_as (mark_of (site_now ms at)) number out)) run.marks e) ∙ told s i)
       | inr e ↦ (
@@ -170,12 +175,13 @@ round_sent None round used top e = e
 round_sent (Some p) round used top e = omega (arith, e)
 
 -- what is kept once a request has gone out
-pub stands_sent : (c : Config) (w : Caller) (past : List Trace) (run : Run) (ms : List Action) (at number : ℕ) (out : Out) → at < c.n → out.site ≡ at → Stands c w past run ms → MaySend c w past ms (asked_of number out) →
+pub stands_sent : (c : Config) (w : Caller) (past : List Trace) (run : Run) (ms : List Action) (at number : ℕ) (out : Out) → at < c.n → is_row_request out.op ≡ true → out.site ≡ at → Stands c w past run ms → MaySend c w past ms (asked_of number out) →
     Stands c w past (sent_run run at number (mark_of (site_now ms at)) out) (Sent (asked_of number out) ∷ ms)
-stands_sent c w past run ms at number out l here h may = record {
+stands_sent c w past run ms at number out l row here h may = record {
   name_is = h.name_is;
   key_is = h.key_is;
   own_is = h.own_is;
+  named = h.named;
   knows = record {
     rows_len = h.knows.rows_len;
     marks_len = elim (cases_Bool out.awaited) [
@@ -183,7 +189,7 @@ stands_sent c w past run ms at number out l here h may = record {
       | inr e ↦ ap length (cond-false out.awaited (set run.marks at (marked_as (mark_of (site_now ms at)) number out)) run.marks e) ∙ h.knows.marks_len
     ];
     rows = told_same c.n run.rows (λ s. known (site_now ms s)) (λ s. known (site_now (Sent (asked_of number out) ∷ ms) s)) h.knows.rows (known_after_sent (asked_of number out) ms);
-    marks = marks_sent c run ms at number out h.knows l here (subst (λ (z : ℕ). (site_now ms z).out ≡ false) here may.kept);
+    marks = marks_sent c run ms at number out h.knows l row here (subst (λ (z : ℕ). (site_now ms z).out ≡ false) here may.kept);
   };
   met_is = h.met_is;
   voted_is = ap (λ (n : Name). passes_sent (λ u. true) (of_step (vote_by n) out.op) || run.voted) h.name_is ∙ ap (λ b. passes_sent (λ u. true) (of_step (vote_by w.name) out.op) || b) h.voted_is;

@@ -11,7 +11,7 @@ use Rattle.gz_core.specs.declared.requests.Out.{Out}
 use Rattle.gz_accept.specs.declared.answers.Step.TheVariants.{Done}
 use Rattle.gz_round.specs.declared.hearing.Seen.{Seen}
 use Rattle.gz_round.specs.declared.run.Run.{Run}
-use Rattle.gz_round.specs.History.{Asked, Action, Sent, Caller, Trace, asked_of, sent_from}
+use Rattle.gz_core.specs.History.{Asked, Action, Sent, Caller, Trace, asked_of, is_row_request, sent_from}
 use Rattle.gz_round.specs.Sites.{SiteNow, site_now, known, row_seen}
 use Rattle.gz_round.specs.Sending.{MaySend, answer_of, made_by}
 use Rattle.gz_round.specs.Asking.{asks_of, row_out, step_out, write_out, read_out, made_of, is_notice, sent_run, AskedBy, IsAskedAt}
@@ -21,7 +21,7 @@ use Rattle.gz_round.proofs.Actions.{is_to_same, is_to_other, now_here, now_other
 use Rattle.gz_round.proofs.Known.{last_known, known_last}
 use Rattle.gz_round.proofs.Guards.{may_kept_of}
 use Rattle.gz_round.proofs.Stages.{held_kept_of}
-use Rattle.gz_round.proofs.Sends.{Kind, reads, writes, asked_kind, kind_site, kind_of, kind_may, stands_sent, undone_means}
+use Rattle.gz_round.proofs.Sends.{Kind, reads, writes, asked_kind, kind_site, kind_row, kind_of, kind_may, stands_sent, undone_means}
 
 write_none : (run : Run) (at : ℕ) (etag : Option ℕ) (step : RowStep) (o : Option RowAt) → write_out run at etag step o ≡ None → o ≡ None
 write_none run at etag step None h = refl
@@ -53,15 +53,15 @@ served_none w run ms at step h idle kept =
     let test : ((mark_of (site_now ms at)).out || is_some (mark_of (site_now ms at)).awaited) ≡ false = or_from (site_now ms at).out (is_some (option_map awaited_of (site_now ms at).awaits)) kept (idle_mark (site_now ms at) idle) in
     served_row w run ms at step (site_now ms at).row refl kept (sym (cond-false ((mark_of (site_now ms at)).out || is_some (mark_of (site_now ms at)).awaited) None (row_out run at (mark_of (site_now ms at)) step (known (site_now ms at))) test) ∙ h)
 
-awaits_here : (ms : List Action) (a : Asked) (at : ℕ) → a.site ≡ at → a.awaited ≡ true → (site_now (Sent a ∷ ms) at).awaits ≡ Some a
-awaits_here ms a at here e = ap (λ n. n.awaits) (now_here (Sent a) ms at (is_to_same a at here) ∙ cond-true a.awaited _ (site_now ms at) e)
+awaits_here : (ms : List Action) (a : Asked) (at : ℕ) → is_row_request a.op ≡ true → a.site ≡ at → a.awaited ≡ true → (site_now (Sent a ∷ ms) at).awaits ≡ Some a
+awaits_here ms a at row here e = ap (λ n. n.awaits) (now_here (Sent a) ms at (is_to_same a at row here) ∙ cond-true a.awaited _ (site_now ms at) e)
 
-same_here : (ms : List Action) (a : Asked) (at : ℕ) → a.site ≡ at → a.awaited ≡ false → site_now (Sent a ∷ ms) at ≡ site_now ms at
-same_here ms a at here e = now_here (Sent a) ms at (is_to_same a at here) ∙ cond-false a.awaited _ (site_now ms at) e
+same_here : (ms : List Action) (a : Asked) (at : ℕ) → is_row_request a.op ≡ true → a.site ≡ at → a.awaited ≡ false → site_now (Sent a ∷ ms) at ≡ site_now ms at
+same_here ms a at row here e = now_here (Sent a) ms at (is_to_same a at row here) ∙ cond-false a.awaited _ (site_now ms at) e
 
 -- a site that was asked for something that is awaited is served
-served_awaits : (w : Caller) (ms : List Action) (a : Asked) (at : ℕ) (step : Option RowStep) → a.site ≡ at → a.awaited ≡ true → IsServed w (Sent a ∷ ms) step at
-served_awaits w ms a at step here e idle kept = absurd (none-some a (sym idle ∙ awaits_here ms a at here e))
+served_awaits : (w : Caller) (ms : List Action) (a : Asked) (at : ℕ) (step : Option RowStep) → is_row_request a.op ≡ true → a.site ≡ at → a.awaited ≡ true → IsServed w (Sent a ∷ ms) step at
+served_awaits w ms a at step row here e idle kept = absurd (none-some a (sym idle ∙ awaits_here ms a at row here e))
 
 notice_last : (now : SiteNow) (before : RowAt) → known now ≡ Some before → (seen : Seen) × (now.row ≡ Some seen) × (seen.row ≡ before) × (seen.etag ≡ etag_seen now.row)
 notice_last now before r = let last = known_last now before r in (last.0, last.1, last.2, sym (ap etag_seen last.1))
@@ -76,13 +76,13 @@ notice_sent number out at key etag made row p q r =
 
 -- and so is one that got a notice
 pub served_some : (w : Caller) (run : Run) (ms : List Action) (at number : ℕ) (step : Option RowStep) (out : Out) → run.key ≡ key_of w.call → Kind run at (mark_of (site_now ms at)) step (known (site_now ms at)) out → IsServed w (Sent (asked_of number out) ∷ ms) step at
-served_some w run ms at number step out key (reads e why) = served_awaits w ms (asked_of number out) at step (ap (λ o. o.site) e) (ap (λ o. o.awaited) e)
+served_some w run ms at number step out key (reads e why) = served_awaits w ms (asked_of number out) at step (ap (λ (o : Out). is_row_request o.op) e) (ap (λ o. o.site) e) (ap (λ o. o.awaited) e)
 served_some w run ms at number step out key (writes made before new s r same made_is e) =
     elim (cases_Bool (is_notice made)) [
-      | inr n ↦ served_awaits w ms (asked_of number out) at step (ap (λ o. o.site) e) (ap (λ o. o.awaited) e ∙ ap not n)
+      | inr n ↦ served_awaits w ms (asked_of number out) at step (ap (λ (o : Out). is_row_request o.op) e) (ap (λ o. o.site) e) (ap (λ o. o.awaited) e ∙ ap not n)
       | inl n ↦ (λ idle kept.
           let here : out.site ≡ at = ap (λ o. o.site) e in
-          let stays : site_now (Sent (asked_of number out) ∷ ms) at ≡ site_now ms at = same_here ms (asked_of number out) at here (ap (λ o. o.awaited) e ∙ ap not n) in
+          let stays : site_now (Sent (asked_of number out) ∷ ms) at ≡ site_now ms at = same_here ms (asked_of number out) at (ap (λ (o : Out). is_row_request o.op) e) here (ap (λ o. o.awaited) e ∙ ap not n) in
           let last = notice_last (site_now ms at) before r in
           let op_is : out.op ≡ WriteRow (key_of w.call) last.0.etag made (made_by made last.0.row) =
           ap (λ o. o.op) e ∙ write_same made run.key (key_of w.call) (etag_seen (site_now ms at).row) last.0.etag new (made_by made last.0.row) key (sym last.3) (made_is.1 ∙ ap (made_by made) (sym last.2)) in (
@@ -127,7 +127,7 @@ asked_some c w past run ms step at number out l h p =
     let may : MaySend c w past ms (asked_of number out) = kind_may c w past run ms at number step out l p.asks.stands.key_is p.asks.may h in
     record {
       asks = record {
-        stands = stands_sent c w past run ms at number out l here p.asks.stands may;
+        stands = stands_sent c w past run ms at number out l (kind_row run at (mark_of (site_now ms at)) step (known (site_now ms at)) out k.2) here p.asks.stands may;
         may = may_kept_of c w past ms (asked_of number out) step (kind_of run at (mark_of (site_now ms at)) step (known (site_now ms at)) out k.2) p.asks.may;
         held = held_kept_of c w past ms (asked_of number out) step (kind_of run at (mark_of (site_now ms at)) step (known (site_now ms at)) out k.2) p.asks.held;
       };

@@ -9,20 +9,20 @@ use Rattle.gz_config.specs.declared.Config.{Config}
 use Rattle.gz_core.specs.declared.requests.RowStep.{RowStep}
 use Rattle.gz_core.specs.declared.requests.RowStep.TheVariants.{FastVote, Promise, ClassicVote, Decide, Trim}
 use Rattle.gz_core.specs.declared.requests.Op.{Op}
-use Rattle.gz_core.specs.declared.requests.Op.TheVariants.{ReadRow, WriteRow}
+use Rattle.gz_core.specs.declared.requests.Op.TheVariants.{WriteRow}
 use Rattle.gz_pick.specs.Looks.{row_top}
 use Rattle.gz_pick.specs.declared.heard.Heard.{Heard}
 use Rattle.gz_round.specs.declared.hearing.Seen.{Seen}
 use Rattle.gz_round.specs.declared.run.Stage.{Stage}
 use Rattle.gz_round.specs.declared.run.Stage.TheVariants.{Look, Fast, Prepare, Accept}
-use Rattle.gz_round.specs.History.{Asked, Action, Sent, Caller, Trace}
+use Rattle.gz_core.specs.History.{Asked, Action, Sent, Caller, Trace}
 use Rattle.gz_round.specs.Sites.{SiteNow, site_now, after, after_reply, concerns, known, heard_in, passes}
-use Rattle.gz_round.specs.Sent.{voted, voted_at, vote_by, promise_by, of_step, of_sent, or_earlier, passes_sent, some_sent, has_promised_at, last_promise, top_round, round_after, phase_of}
+use Rattle.gz_round.specs.Sent.{voted, voted_at, vote_by, promise_by, of_step, of_sent, or_earlier, passes_sent, some_sent, has_promised_at, last_promise, IsUnpromised, top_round, round_after, phase_of}
 use Rattle.gz_round.specs.Shown.{IsClear, IsGrounded}
 use Rattle.gz_round.specs.LookBack.{IsLookedBack}
 use Rattle.gz_round.specs.Rounds.{MayClassicVote, MayPropose, IsLeft, passed_since, is_promise, promises_above, cast_by, has_classic_cast, top_rounds, rounds_used, IsValueKnown}
 use Rattle.gz_round.specs.Sending.{NoneAbove}
-use Rattle.gz_round.specs.Standing.{StageStands, IsUnpromised, ArePassed, MayPass, IsWorking, IsPreparing, IsVoting}
+use Rattle.gz_round.specs.Standing.{StageStands, ArePassed, MayPass, IsWorking, IsPreparing, IsVoting}
 use Rattle.gz_round.specs.Following.{HeldBy, HeldOf}
 use Rattle.gz_round.proofs.Heard.{current_more, next_more, shown_more, heard_at_more}
 use Rattle.gz_round.proofs.Actions.{now_here, now_other}
@@ -171,8 +171,8 @@ stage_more c w past m ms at seen changed (Prepare v b found) e heard q s = (prep
 stage_more c w past m ms at seen changed (Accept v b x) e heard q s = (classic_more c w m ms v b x q s.0, voting_more c w past m ms v b q s.1, passed_known c m ms at seen changed v b e heard q.promise s.2)
 
 none_of : {T : Type 0} (f : RowStep → Option T) (op : Op) (step : RowStep) → f step ≡ None → IsOf op (Some step) → of_step f op ≡ None
-none_of f (ReadRow key) step e is = refl
 none_of f (WriteRow key expect made row) step e is = ap f (sym (same_Some step made (is.writes made refl))) ∙ e
+none_of f op step e is = refl
 
 other_version : (o : Option (ℕ × BallotAt)) (v u : ℕ) (b d : BallotAt) (old : Bool) → (o ≡ None) ⊎ (o ≡ Some (v, b)) → v < u → old ≡ false → (passes_sent (λ p. (p.0 == u) && same_ballot p.1 d) o || old) ≡ false
 other_version o v u b d old (inl e) l h = ap (λ z. passes_sent (λ p. (p.0 == u) && same_ballot p.1 d) z || old) e ∙ h

@@ -7,14 +7,12 @@ use Rattle.std.proofs.lemmas.Option.{same_Some, none-some, slice_get_within}
 use Rattle.gz_core.specs.Names.{Name, BallotAt}
 use Rattle.gz_core.specs.Values.{name_of}
 use Rattle.gz_core.specs.Rows.{RowAt}
-use Rattle.gz_core.specs.Calls.{key_of, own_value}
+use Rattle.gz_core.specs.Calls.{key_of}
 use Rattle.gz_core.specs.Counts.{count_sites}
-use Rattle.gz_core.specs.declared.calls.Call.{Call}
-use Rattle.gz_core.specs.declared.calls.Call.TheVariants.{Put, Delete, Get}
 use Rattle.gz_core.specs.declared.calls.Answer.{Answer}
 use Rattle.gz_core.specs.declared.calls.Answer.TheVariants.{Ok, Bytes, Gone, Absent, NoQuorum, Contended, Unsure}
 use Rattle.gz_core.specs.declared.calls.UnsureWhy.{UnsureWhy}
-use Rattle.gz_core.specs.declared.calls.UnsureWhy.TheVariants.{NoQuorum as UnsureNoQuorum, Contended as UnsureContended}
+use Rattle.gz_core.specs.declared.calls.UnsureWhy.TheVariants.{NoQuorum as UnsureNoQuorum, Contended as UnsureContended, Trimmed as UnsureTrimmed}
 use Rattle.gz_core.specs.declared.calls.Phase.{Phase}
 use Rattle.gz_core.specs.declared.values.Value.{Value}
 use Rattle.gz_config.specs.declared.Config.{Config}
@@ -31,7 +29,7 @@ use Rattle.gz_round.specs.declared.run.Mark.{Mark}
 use Rattle.gz_round.specs.declared.run.Run.{Run}
 use Rattle.gz_round.specs.declared.run.Stage.{Stage}
 use Rattle.gz_round.specs.declared.run.Stage.TheVariants.{Look, Fast, Prepare, Accept}
-use Rattle.gz_round.specs.History.{Asked, Action, Sent, Caller, Trace, IsEarlier, asked_of, sent_from}
+use Rattle.gz_core.specs.History.{Asked, Action, Sent, Caller, Trace, IsEarlier, asked_of, sent_from}
 use Rattle.gz_round.specs.Steps.{IsStepOf}
 use Rattle.gz_round.specs.Sites.{site_now, known}
 use Rattle.gz_round.specs.Sent.{met, last_promise}
@@ -118,6 +116,7 @@ overtaken_sent c ms ns m same h = (omega (arith, h.0), h.1 ∙ same)
 unsure_sent : (c : Config) (w : Caller) (past : List Trace) (run new : Run) (ms ns : List Action) (why : UnsureWhy) → Stands c w past run ms → Stands c w past new ns → new.wrote ≡ run.wrote → met ms ≡ met ns → outs c ms ≡ outs c ns → known_count c ms ≡ known_count c ns → UnsureCause c ms why → UnsureCause c ns why
 unsure_sent c w past run new ms ns (UnsureNoQuorum phase heard) h k wrote same_met same_outs same_known cause = cut_sent c w past run new ms ns phase heard h k wrote same_met same_outs same_known cause
 unsure_sent c w past run new ms ns (UnsureContended m) h k wrote same_met same_outs same_known cause = overtaken_sent c ms ns m same_met cause
+unsure_sent c w past run new ms ns (UnsureTrimmed floor) h k wrote same_met same_outs same_known cause = absurd cause
 
 learnt_sent : (c : Config) (w : Caller) (v : ℕ) (x : Value) (first : ℕ) (sent : List Out) (ms : List Action) → IsLearnt c w ms v x → IsLearnt c w (sent_from first sent ms) v x
 learnt_sent c w v x first sent ms h = record { reads = h.reads; shown = shown_sent c v (name_of x) first sent ms h.shown; current = current_sent c v first sent ms h.current; heard = value_sent v x first sent ms h.heard }
@@ -136,6 +135,7 @@ plain_sent c w past run new first sent ms (Contended m) h k voted_same wrote_sam
     (sym k.voted_is ∙ (voted_same ∙ (h.voted_is ∙ cause.0)), overtaken_sent c ms (sent_from first sent ms) m (met_sent first sent ms) cause.1)
 plain_sent c w past run new first sent ms (Unsure why) h k voted_same wrote_same cause plain =
     (sym k.voted_is ∙ (voted_same ∙ (h.voted_is ∙ cause.0)), unsure_sent c w past run new ms (sent_from first sent ms) why h k wrote_same (met_sent first sent ms) (outs_sent c first sent ms) (known_sent c first sent ms) cause.1)
+plain_sent c w past run new first sent ms answer h k voted_same wrote_same cause plain = absurd cause
 
 -- a call that ends after its reads
 pub close_turned : (c : Config) (w : Caller) (past : List Trace) (run new : Run) (ms : List Action) (first : ℕ) (sent : List Out) (answer : Answer) → Stands c w past run ms → HasCause c w ms answer × IsPlain answer →
@@ -143,17 +143,11 @@ pub close_turned : (c : Config) (w : Caller) (past : List Trace) (run new : Run)
 close_turned c w past run new ms first sent answer h cause asks left =
     (asks.stands.allowed, plain_sent c w past run new first sent ms answer h asks.stands (left.voted refl) (left.wrote refl) cause.0 cause.1, asks.stands.round_is)
 
--- a call's value is under its own name
-pub own_name : (name : Name) (call : Call) (x : Value) → own_value name call ≡ Some x → name_of x ≡ name
-own_name name (Put key bytes) x e = sym (ap name_of (same_Some _ x e))
-own_name name (Delete key) x e = sym (ap name_of (same_Some _ x e))
-own_name name (Get key) x e = absurd (none-some x e)
-
 idle_from : (o : Option Asked) (b : Bool) → b ≡ is_some o → b ≡ false → o ≡ None
 idle_from None b e f = refl
 idle_from (Some a) b e f = absurd (true≢false (sym e ∙ f))
 
-noticed_from : (c : Config) (w : Caller) (past : List Trace) (run : Run) (ms : List Action) (v : ℕ) (x : Value) → Stands c w past run ms → own_value w.name w.call ≡ Some x → AreServed c w ms (Some (Decide v x)) → IsNoticed c w ms v
+noticed_from : (c : Config) (w : Caller) (past : List Trace) (run : Run) (ms : List Action) (v : ℕ) (x : Value) → Stands c w past run ms → w.own ≡ Some x → AreServed c w ms (Some (Decide v x)) → IsNoticed c w ms v
 noticed_from c w past run ms v x h own served s l kept quiet seen last other is_own done =
     let idle : (site_now ms s).awaits ≡ None = idle_from (site_now ms s).awaits (site_now ms s).unanswered (h.sites s).answered quiet in
     let k = served s l idle kept in
@@ -177,9 +171,9 @@ finish_step run v step l is = subst IsStepOf (sym is) (notice_is_step v run.own 
 pub finish_asks : (c : Config) (w : Caller) (past : List Trace) (run : Run) (ms : List Action) (v : ℕ) (step : Option RowStep) → Finishes c w past run ms v → step ≡ notice_for v run.own → Asks c w past run ms step
 finish_asks c w past run ms v step f is =
     let x : Value = f.own.0 in
-    let own : own_value w.name w.call ≡ Some x = f.own.1 in
+    let own : w.own ≡ Some x = f.own.1 in
     let step_is : step ≡ Some (Decide v x) = is ∙ ap (notice_for v) (f.stands.own_is ∙ own) in
-    let shown : IsShown c ms v (name_of x) = subst (λ (n : Name). IsShown c ms v n) (sym (own_name w.name w.call x own)) f.shown in
+    let shown : IsShown c ms v (name_of x) = subst (λ (n : Name). IsShown c ms v n) (sym (f.stands.named x own)) f.shown in
     record { stands = f.stands; may = subst (MayMakeOf c w past ms) (sym step_is) (shown, inl own); held = subst (HeldOf c w past ms) (sym step_is) tt }
 
 -- a call whose value is chosen, once the others got a notice
@@ -187,7 +181,7 @@ pub finish_turned : (c : Config) (w : Caller) (past : List Trace) (run new : Run
     (Asks c w past run ms step → Asks c w past new (sent_from first sent ms) step × AreServed c w (sent_from first sent ms) step) → Turned c w past new (sent_from first sent ms) (Some (Ok v))
 finish_turned c w past run new ms first sent v step f is asked =
     let x : Value = f.own.0 in
-    let own : own_value w.name w.call ≡ Some x = f.own.1 in
+    let own : w.own ≡ Some x = f.own.1 in
     let step_is : step ≡ Some (Decide v x) = is ∙ ap (notice_for v) (f.stands.own_is ∙ own) in
     let done = asked (finish_asks c w past run ms v step f is) in
     let served : AreServed c w (sent_from first sent ms) (Some (Decide v x)) = subst (AreServed c w (sent_from first sent ms)) step_is done.1 in

@@ -10,7 +10,6 @@ use Rattle.gz_core.specs.Slots.{slots, slot_of, slot_decision, vote_pair}
 use Rattle.gz_core.specs.declared.slots.Slot.{Slot}
 use Rattle.gz_core.specs.declared.slots.Slot.TheVariants.{Gone, DecidedAs}
 use Rattle.gz_core.specs.Counts.{count_sites}
-use Rattle.gz_core.specs.declared.values.Value.{Value}
 use Rattle.gz_core.specs.declared.rows.Column.{Column}
 use Rattle.gz_core.specs.declared.rows.Column.TheVariants.{Open, Decided}
 use Rattle.gz_config.specs.declared.Config.{Config}
@@ -20,9 +19,9 @@ use Rattle.gz_accept.specs.Steps.{open_answer, is_cast_in, promise_at, classic_a
 use Rattle.gz_core.proofs.Ballots.{same_means, name_refl}
 use Rattle.gz_core.proofs.Counting.{count_found}
 use Rattle.gz_pick.specs.Evidences.{decides, is_named}
-use Rattle.gz_round.specs.History.{Action}
+use Rattle.gz_core.specs.History.{Action}
 use Rattle.gz_round.specs.Rounds.{slot_round, slot_promises_above, promises_above}
-use Rattle.gz_round.specs.Sending.{rows_known, NoEvidence}
+use Rattle.gz_round.specs.Sending.{rows_known, NoEvidence, HasGone}
 
 count_step : (b : Bool) (k : ℕ) → k ≤ cond b (suc k) k
 count_step true k = omega arith
@@ -54,11 +53,7 @@ gone_row : (v : ℕ) (o : Option RowAt) → is_gone v o ≡ true → (row : RowA
 gone_row v None e = absurd (false≢true e)
 gone_row v (Some row) e = (row, refl, leb-true v row.floor e)
 
--- a known row has the version collected
-abbrev pub HasGone : Config → List Action → ℕ → Type 0
-HasGone c ms v = (s : ℕ) × (row : RowAt) × (s < c.n) × (rows_known ms s ≡ Some row) × (v ≤ row.floor)
-
--- or none has
+-- a known row has the version collected, or none has
 pub gone_or_kept : (c : Config) (ms : List Action) (v : ℕ) → HasGone c ms v ⊎ ((s : ℕ) (row : RowAt) → s < c.n → rows_known ms s ≡ Some row → leb v row.floor ≡ false)
 gone_or_kept c ms v =
     elim (some_or_none c.n (λ s. is_gone v (rows_known ms s))) [

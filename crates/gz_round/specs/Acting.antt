@@ -1,12 +1,11 @@
 -- What a call does at an event, once what came was noted.
 use Rattle.std.specs.Prelude.{ℕ, ◌≡◌, ◌≢◌, ◌≤◌, ◌<◌, ◌+◌, ◌⊎◌, ◌||◌, nat_lt, nat_le, max, Bool, true, false, List, [], ◌∷◌, if◌then◌else◌, Option, Some, None, is_some, IsSome, slice_get}
 use Rattle.gz_core.specs.Names.{BallotAt, IsClassic}
-use Rattle.gz_core.specs.Calls.{own_value}
 use Rattle.gz_core.specs.Rows.{RowAt}
 use Rattle.gz_core.specs.declared.values.Value.{Value}
 use Rattle.gz_core.specs.declared.values.Value.TheVariants.{Tomb, Put}
 use Rattle.gz_core.specs.declared.calls.Answer.{Answer}
-use Rattle.gz_core.specs.declared.calls.Answer.TheVariants.{Ok, Bytes, Gone, Absent, NoQuorum, Contended, Unsure}
+use Rattle.gz_core.specs.declared.calls.Answer.TheVariants.{Ok, Bytes, Gone, NoQuorum, Contended, Unsure}
 use Rattle.std.specs.List.{count_by, list_any}
 use Rattle.gz_core.specs.declared.calls.UnsureWhy.TheVariants.{NoQuorum as UnsureNoQuorum, Contended as UnsureContended}
 use Rattle.gz_config.specs.declared.Config.{Config}
@@ -20,7 +19,7 @@ use Rattle.gz_round.specs.declared.choosing.Choice.{Choice}
 use Rattle.gz_round.specs.declared.choosing.Choice.TheVariants.{Wait, Accept as AcceptNext, GiveIn}
 use Rattle.gz_core.specs.declared.requests.Out.{Out}
 use Rattle.gz_accept.specs.declared.answers.Step.TheVariants.{Done}
-use Rattle.gz_round.specs.History.{Action, Caller, Trace, sent_from}
+use Rattle.gz_core.specs.History.{Action, Caller, Trace, sent_from}
 use Rattle.gz_round.specs.Sites.{site_now}
 use Rattle.gz_round.specs.Sent.{has_promised_at}
 use Rattle.gz_round.specs.Shown.{heard_at, IsShown, IsGrounded}
@@ -34,12 +33,7 @@ use Rattle.gz_round.specs.Following.{Ready, IsUnmet}
 -- an answer that says nothing of notices, nor of what every site was asked
 abbrev pub IsPlain : Answer → Type 0
 IsPlain (Ok v) = ⊥
-IsPlain (Bytes v x bytes) = Unit {0}
-IsPlain (Gone v x) = Unit {0}
-IsPlain Absent = Unit {0}
-IsPlain (NoQuorum phase heard) = Unit {0}
-IsPlain (Contended m) = Unit {0}
-IsPlain (Unsure why) = Unit {0}
+IsPlain answer = Unit {0}
 
 abbrev pub vote_for : ℕ → Option Value → Option RowStep
 vote_for v None = None
@@ -152,7 +146,7 @@ pub record Prepares (c : Config) (w : Caller) (past : List Trace) (run : Run) (m
   pub pass : MayPass c w ms v
   pub grounded : IsGrounded c ms v
   pub passed : (d : BallotAt) → has_promised_at ms v d ≡ true → passed_since v d ms ≡ true
-  pub begun : own_value w.name w.call ≡ None → 1 ≤ heard_at c (λ r. nat_le v (row_top r)) ms
+  pub begun : w.own ≡ None → 1 ≤ heard_at c (λ r. nat_le v (row_top r)) ms
   pub none : NoEvidence c ms v
 
 abbrev pub CanPrepare : Config → Run → ℕ → List Out → ℕ → Type 0
@@ -175,7 +169,7 @@ pub record Finishes (c : Config) (w : Caller) (past : List Trace) (run : Run) (m
   pub going : IsGoing c ms
   pub above : 1 ≤ v
   pub shown : IsShown c ms v w.name
-  pub own : (x : Value) × (own_value w.name w.call ≡ Some x)
+  pub own : (x : Value) × (w.own ≡ Some x)
 
 abbrev pub CanFinish : Config → Run → ℕ → Type 0
 CanFinish c run v = (w : Caller) × (past : List Trace) × (ms : List Action) × Finishes c w past run ms v

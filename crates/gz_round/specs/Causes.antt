@@ -1,18 +1,17 @@
 -- When each answer of a call comes, by what the call has sent and heard.
 use Rattle.std.specs.Prelude.{ℕ, Bool, true, false, ◌≡◌, ◌≤◌, ◌<◌, ◌+◌, ◌&&◌, ◌==◌, List, Some, None}
-use Rattle.gz_core.specs.Calls.{own_value}
 use Rattle.gz_core.specs.Values.{name_of}
 use Rattle.gz_core.specs.Rows.{RowAt}
 use Rattle.gz_core.specs.declared.values.Value.{Value}
 use Rattle.gz_core.specs.declared.values.Value.TheVariants.{Tomb, Put}
 use Rattle.gz_core.specs.declared.calls.Answer.{Answer}
-use Rattle.gz_core.specs.declared.calls.Answer.TheVariants.{Ok, Bytes, Gone, Absent, NoQuorum, Contended, Unsure}
+use Rattle.gz_core.specs.declared.calls.Answer.TheVariants.{Ok, Thin, Short, Bytes, Incomplete, Gone, Absent, Unborn, Collected, Swept, Held, NoQuorum, Contended, Unsure}
 use Rattle.gz_core.specs.declared.calls.UnsureWhy.{UnsureWhy}
-use Rattle.gz_core.specs.declared.calls.UnsureWhy.TheVariants.{NoQuorum as UnsureNoQuorum, Contended as UnsureContended}
+use Rattle.gz_core.specs.declared.calls.UnsureWhy.TheVariants.{NoQuorum as UnsureNoQuorum, Contended as UnsureContended, Trimmed as UnsureTrimmed}
 use Rattle.gz_core.specs.declared.calls.Phase.{Phase}
 use Rattle.gz_config.specs.declared.Config.{Config}
 use Rattle.gz_pick.specs.Looks.{row_top}
-use Rattle.gz_round.specs.History.{Action, Caller}
+use Rattle.gz_core.specs.History.{Action, Caller}
 use Rattle.gz_round.specs.Sent.{met, voted, phase_of}
 use Rattle.gz_round.specs.Shown.{heard_at, IsShown, IsCurrent}
 pub use Rattle.gz_round.specs.Shown.{vote_value, column_value, row_value, IsValueHeard}
@@ -21,11 +20,11 @@ use Rattle.gz_round.specs.Counting.{outs, known_count, IsGoing, IsNoticed}
 
 -- the call writes a value, which is shown at the version
 abbrev pub IsChosenOwn : Config → Caller → List Action → ℕ → Type 0
-IsChosenOwn c w ms v = (x : Value) × (own_value w.name w.call ≡ Some x) × IsShown c ms v w.name
+IsChosenOwn c w ms v = (x : Value) × (w.own ≡ Some x) × IsShown c ms v w.name
 
 -- the call writes nothing; the value is shown at the version, no later one has begun, and the value itself was heard there
 pub record IsLearnt (c : Config) (w : Caller) (ms : List Action) (v : ℕ) (x : Value) : Type 0 where
-  pub reads : own_value w.name w.call ≡ None
+  pub reads : w.own ≡ None
   pub shown : IsShown c ms v (name_of x)
   pub current : IsCurrent c ms v
   pub heard : IsValueHeard ms v x
@@ -36,7 +35,7 @@ is_blank row = (row_top row == 0) && (row.floor == 0)
 
 -- the object was never written, as rows of a classic quorum show
 abbrev pub IsAbsent : Config → Caller → List Action → Type 0
-IsAbsent c w ms = (own_value w.name w.call ≡ None) × (c.qc ≤ heard_at c is_blank ms)
+IsAbsent c w ms = (w.own ≡ None) × (c.qc ≤ heard_at c is_blank ms)
 
 -- too few sites are left, and the call was overtaken less often than it tries
 pub record IsCutOff (c : Config) (ms : List Action) (phase : Phase) (heard : ℕ) : Type 0 where
@@ -53,13 +52,22 @@ IsOvertaken c ms m = (c.tries ≤ met ms) × (m ≡ met ms)
 abbrev pub UnsureCause : Config → List Action → UnsureWhy → Type 0
 UnsureCause c ms (UnsureNoQuorum phase heard) = IsCutOff c ms phase heard
 UnsureCause c ms (UnsureContended m) = IsOvertaken c ms m
+UnsureCause c ms (UnsureTrimmed floor) = ⊥
 
--- when each answer comes. An answer other than the last three comes only while the call could go on.
+-- when each answer comes. An answer other than the last three comes only while the call could go on. No call of this
+-- store stores fragments, reads an old version or collects one yet.
 abbrev pub HasCause : Config → Caller → List Action → Answer → Type 0
 HasCause c w ms (Ok v) = IsGoing c ms × IsChosenOwn c w ms v × IsNoticed c w ms v
+HasCause c w ms (Thin v stored) = ⊥
+HasCause c w ms (Short stored) = ⊥
 HasCause c w ms (Bytes v x bytes) = IsGoing c ms × IsLearnt c w ms v (Put (record { name = x; bytes = bytes }))
+HasCause c w ms (Incomplete v x fates) = ⊥
 HasCause c w ms (Gone v x) = IsGoing c ms × IsLearnt c w ms v (Tomb x)
 HasCause c w ms Absent = IsGoing c ms × IsAbsent c w ms
+HasCause c w ms (Unborn latest) = ⊥
+HasCause c w ms (Collected floor) = ⊥
+HasCause c w ms (Swept floor dropped) = ⊥
+HasCause c w ms (Held why) = ⊥
 HasCause c w ms (NoQuorum phase heard) = (voted w.name ms ≡ false) × IsCutOff c ms phase heard
 HasCause c w ms (Contended m) = (voted w.name ms ≡ false) × IsOvertaken c ms m
 HasCause c w ms (Unsure why) = (voted w.name ms ≡ true) × UnsureCause c ms why

@@ -1,7 +1,7 @@
 -- The counts of a call by which it ends: how many sites are out, how many are known, and how often it was overtaken.
 use Rattle.std.specs.Prelude.{ℕ, false, ◌≡◌, ◌≤◌, ◌<◌, ◌+◌, ◌⊎◌, List, [], ◌∷◌, Some, is_some}
 use Rattle.gz_core.specs.Counts.{count_sites}
-use Rattle.gz_core.specs.Calls.{key_of, own_value}
+use Rattle.gz_core.specs.Calls.{key_of}
 use Rattle.gz_core.specs.declared.values.Value.{Value}
 use Rattle.gz_config.specs.declared.Config.{Config}
 use Rattle.gz_core.specs.declared.requests.RowStep.TheVariants.{Decide}
@@ -9,7 +9,7 @@ use Rattle.gz_core.specs.declared.requests.Op.{Op}
 use Rattle.gz_core.specs.declared.requests.Op.TheVariants.{WriteRow}
 use Rattle.gz_accept.specs.declared.answers.Step.TheVariants.{Done}
 use Rattle.gz_accept.specs.Steps.{decide_answer, decided}
-use Rattle.gz_round.specs.History.{Asked, Action, Sent, Caller}
+use Rattle.gz_core.specs.History.{Asked, Action, Sent, Caller}
 use Rattle.gz_round.specs.declared.hearing.Seen.{Seen}
 use Rattle.gz_round.specs.Sites.{site_now, known}
 use Rattle.gz_round.specs.Sent.{met}
@@ -40,5 +40,5 @@ HasNotice ms s op = (number : ℕ) × WasSent ms (record { number = number; site
 -- row, and that has answered all that is awaited of it, where the last row that it heard there takes the decision
 abbrev pub IsNoticed : Config → Caller → List Action → ℕ → Type 0
 IsNoticed c w ms v = (s : ℕ) → s < c.n → (site_now ms s).out ≡ false → (site_now ms s).unanswered ≡ false →
-    (seen : Seen) → (site_now ms s).row ≡ Some seen → (x : Value) → own_value w.name w.call ≡ Some x → decide_answer seen.row v ≡ Done →
+    (seen : Seen) → (site_now ms s).row ≡ Some seen → (x : Value) → w.own ≡ Some x → decide_answer seen.row v ≡ Done →
     HasNotice ms s (WriteRow (key_of w.call) seen.etag (Decide v x) (decided seen.row v x))

@@ -2,7 +2,7 @@
 use Rattle.std.specs.Prelude.{ℕ, ◌≡◌, ◌≤◌, ◌<◌, ◌⊎◌, ◌==◌, Bool, true, false, List, ◌∷◌, ◌++◌, Option, Some, None, slice_get}
 use Rattle.gz_core.specs.Names.{Name}
 use Rattle.gz_core.specs.Rows.{RowAt}
-use Rattle.gz_core.specs.Calls.{key_of, own_value}
+use Rattle.gz_core.specs.Calls.{key_of}
 use Rattle.gz_core.specs.declared.values.Value.{Value}
 use Rattle.gz_core.specs.declared.calls.Answer.{Answer}
 use Rattle.gz_config.specs.declared.Config.{Config}
@@ -18,9 +18,9 @@ use Rattle.gz_round.specs.declared.run.Stage.TheVariants.{Look, Fast, Prepare, A
 use Rattle.gz_round.specs.declared.following.Next.{Next}
 use Rattle.gz_round.specs.declared.following.Next.TheVariants.{Wait, Vote, Chosen, Learnt, Absent}
 use Rattle.gz_round.specs.declared.hearing.Seen.{Seen}
-use Rattle.gz_round.specs.History.{Asked, Action, Sent, Caller, Trace, IsClosing, sent_from}
+use Rattle.gz_core.specs.History.{Asked, Action, Sent, Caller, Trace, IsClosing, sent_from}
 use Rattle.gz_round.specs.Sites.{site_now}
-use Rattle.gz_round.specs.Sent.{voted}
+use Rattle.gz_round.specs.Sent.{voted, IsUnpromised}
 use Rattle.gz_round.specs.Shown.{heard_at, IsShown, IsCurrent}
 use Rattle.gz_round.specs.Rounds.{rounds_used}
 pub use Rattle.gz_round.specs.Sending.{NoEvidence}
@@ -29,7 +29,7 @@ use Rattle.gz_round.specs.Counting.{known_count, HasNotice}
 use Rattle.gz_round.specs.Causes.{HasCause, IsAbsent, is_blank}
 use Rattle.gz_round.specs.Asking.{is_notice}
 pub use Rattle.gz_round.specs.Standing.{MayPass}
-use Rattle.gz_round.specs.Standing.{Stands, StageStands, Runs, IsUnpromised, IsPreparing, IsVoting}
+use Rattle.gz_round.specs.Standing.{Stands, StageStands, Runs, IsPreparing, IsVoting}
 
 -- a site whose row is known shows a row without a vote, a decision or a floor
 abbrev pub is_blank_known : Option RowAt → Bool
@@ -72,7 +72,7 @@ IsUnmet c run (Accept v b x) ms = NoEvidence c ms v
 
 -- a call that writes nothing knows the value of a version, from the row of a site, and nothing above it has begun
 pub record IsFound (c : Config) (w : Caller) (run : Run) (ms : List Action) (v : ℕ) (s : ℕ) : Type 0 where
-  pub reads : own_value w.name w.call ≡ None
+  pub reads : w.own ≡ None
   pub current : IsCurrent c ms v
   pub name : Name
   pub shown : IsShown c ms v name
@@ -84,8 +84,8 @@ pub record IsFound (c : Config) (w : Caller) (run : Run) (ms : List Action) (v :
 -- what the rows that are known come to
 abbrev pub NextMeans : Config → Caller → Run → List Action → Next → Type 0
 NextMeans c w run ms Wait = IsUnmet c run run.stage ms
-NextMeans c w run ms (Vote v) = MayFastVote c w ms v × NoEvidence c ms v × ((x : Value) × (own_value w.name w.call ≡ Some x)) × IsUnpromised ms v
-NextMeans c w run ms (Chosen v) = (1 ≤ v) × IsShown c ms v w.name × ((x : Value) × (own_value w.name w.call ≡ Some x))
+NextMeans c w run ms (Vote v) = MayFastVote c w ms v × NoEvidence c ms v × ((x : Value) × (w.own ≡ Some x)) × IsUnpromised ms v
+NextMeans c w run ms (Chosen v) = (1 ≤ v) × IsShown c ms v w.name × ((x : Value) × (w.own ≡ Some x))
 NextMeans c w run ms (Learnt v s) = IsFound c w run ms v s
 NextMeans c w run ms Absent = IsAbsent c w ms
 

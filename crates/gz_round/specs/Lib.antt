@@ -6,7 +6,6 @@ pub mod Choosing
 pub mod Counting
 pub mod Evidence
 pub mod Following
-pub mod History
 pub mod LookBack
 pub mod Noting
 pub mod Numbering

@@ -6,7 +6,7 @@ use Rattle.gz_core.specs.declared.rows.Column.{Column}
 use Rattle.gz_core.specs.declared.rows.Column.TheVariants.{Open, Decided}
 use Rattle.gz_core.specs.declared.values.Value.{Value}
 use Rattle.gz_config.specs.declared.Config.{Config}
-use Rattle.gz_round.specs.History.{Action}
+use Rattle.gz_core.specs.History.{Action}
 use Rattle.gz_round.specs.Sites.{site_now, row_seen}
 use Rattle.gz_round.specs.Sent.{has_promised_at}
 use Rattle.gz_round.specs.Shown.{vote_value}

@@ -6,7 +6,7 @@ use Rattle.gz_round.specs.declared.run.Awaited.{Awaited}
 use Rattle.gz_round.specs.declared.hearing.Seen.{Seen}
 use Rattle.gz_round.specs.declared.run.Mark.{Mark}
 use Rattle.gz_round.specs.declared.run.Run.{Run}
-use Rattle.gz_round.specs.Sites.{seen_in, is_changed}
+use Rattle.gz_round.specs.Sites.{as_heard, seen_in, is_changed}
 
 -- a row is the site's last one from now on
 abbrev pub heard_run : Run → ℕ → Seen → Run
@@ -45,4 +45,4 @@ written_at mark = written_of mark.awaited
 
 -- a reply was noted
 abbrev pub IsReplyNoted : Run → ℕ → Reply → Run → Type 0
-IsReplyNoted old at reply new = (mark : Mark) (row : Option RowAt) → slice_get old.marks at ≡ Some mark → slice_get old.rows at ≡ Some row → new ≡ noted_by old at mark row (seen_in (written_at mark) reply) (is_changed reply)
+IsReplyNoted old at reply new = (mark : Mark) (row : Option RowAt) → slice_get old.marks at ≡ Some mark → slice_get old.rows at ≡ Some row → new ≡ noted_by old at mark row (seen_in (written_at mark) (as_heard (written_at mark) reply)) (is_changed reply)

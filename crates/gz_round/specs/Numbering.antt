@@ -2,7 +2,7 @@
 use Rattle.std.specs.Prelude.{ℕ, ◌≡◌, ◌<◌, ◌≤◌, nat_lt, Bool, true, false, List, Option, Some, None}
 use Rattle.gz_core.specs.Counts.{count_sites}
 use Rattle.gz_config.specs.declared.Config.{Config}
-use Rattle.gz_round.specs.History.{Asked, Action}
+use Rattle.gz_core.specs.History.{Asked, Action}
 use Rattle.gz_round.specs.Sites.{site_now}
 
 -- the requests that are awaited have numbers of their own, below the next one

@@ -3,7 +3,6 @@ use Rattle.std.specs.Prelude.{ℕ, zero, suc, ◌+◌, max, Bool, true, false, n
 use Rattle.std.specs.List.{All}
 use Rattle.gz_core.specs.Names.{Name, BallotAt, IsClassic, is_below, same_ballot, same_name}
 use Rattle.gz_core.specs.Values.{name_of}
-use Rattle.gz_core.specs.Calls.{own_value}
 use Rattle.gz_core.specs.Slots.{slots, IsVoteOf}
 use Rattle.gz_core.specs.declared.slots.Slot.{Slot}
 use Rattle.gz_core.specs.declared.slots.Slot.TheVariants.{Gone, DecidedAs, OpenAt}
@@ -17,7 +16,7 @@ use Rattle.gz_pick.specs.Evidences.{is_in}
 use Rattle.gz_pick.specs.Choices.{pick_of, AreHeardSites}
 use Rattle.gz_pick.specs.declared.heard.Heard.{Heard}
 use Rattle.gz_pick.specs.declared.heard.Pick.TheVariants.{Forced, Free}
-use Rattle.gz_round.specs.History.{Action, Caller, Trace}
+use Rattle.gz_core.specs.History.{Action, Caller, Trace}
 use Rattle.gz_round.specs.Sites.{passes, heard_in, WasHeard, rows_known}
 use Rattle.gz_round.specs.Sent.{of_sent, some_sent, promise_by, has_promised, has_promised_at, last_promise, top_round}
 use Rattle.gz_round.specs.Shown.{IsCurrent, IsGrounded, IsClear, IsValueHeard}
@@ -129,8 +128,8 @@ IsNamedAt heard at x = (h : Heard) × (vote : BallotAt × Name) × (slice_get he
 -- where the choice is free, a call that writes proposes its own value, and another one that it heard a vote for
 abbrev pub MayPropose : Config → Caller → List Action → ℕ → Value → Type 0
 MayPropose c w ms v x =
-    ((own_value w.name w.call ≡ Some x) × IsCurrent c ms v × IsClear c w.name ms v)
-    ⊎ ((s : ℕ) × (row : RowAt) × (b : BallotAt) × (own_value w.name w.call ≡ None) × WasHeard ms s row × (row_vote row v ≡ Some (b, name_of x)))
+    ((w.own ≡ Some x) × IsCurrent c ms v × IsClear c w.name ms v)
+    ⊎ ((s : ℕ) × (row : RowAt) × (b : BallotAt) × (w.own ≡ None) × WasHeard ms s row × (row_vote row v ≡ Some (b, name_of x)))
 
 -- the promises that were heard leave the value to the call
 abbrev pub IsLeft : Config → Caller → List Action → ℕ → List Heard → Value → Type 0
@@ -140,7 +139,7 @@ IsLeft c w ms v heard x =
 
 -- the value itself is the call's own, or was heard at the version
 abbrev pub IsValueKnown : Caller → List Action → ℕ → Value → Type 0
-IsValueKnown w ms v x = (own_value w.name w.call ≡ Some x) ⊎ IsValueHeard ms v x
+IsValueKnown w ms v x = (w.own ≡ Some x) ⊎ IsValueHeard ms v x
 
 -- a vote in a classic ballot that the call promised: rows of a classic quorum promise it, their votes leave the
 -- value to the call, which knows it, and all its votes of the ballot are for one value; where they leave it to a call
@@ -155,4 +154,4 @@ pub record MayClassicVote (c : Config) (w : Caller) (ms : List Action) (v : ℕ)
   pub choice : IsLeft c w ms v heard x
   pub known : IsValueKnown w ms v x
   pub one : (y : Name) → has_classic_cast ms v b y ≡ true → y ≡ name_of x
-  pub back : own_value w.name w.call ≡ None → pick_of c.n c.qf heard ≡ Free → IsLookedBack c ms v b (Some x)
+  pub back : w.own ≡ None → pick_of c.n c.qf heard ≡ Free → IsLookedBack c ms v b (Some x)

@@ -1,9 +1,9 @@
 -- Which requests a call may send, by what it has sent and heard so far.
-use Rattle.std.specs.Prelude.{ℕ, Bool, true, false, not, nat_le, ◌≡◌, ◌≤◌, ◌<◌, ◌⊎◌, List, [], ◌∷◌, length, Option, Some, None}
+use Rattle.std.specs.Prelude.{ℕ, Bool, true, false, not, nat_le, ◌≡◌, ◌≤◌, ◌<◌, ◌+◌, ◌⊎◌, List, [], ◌∷◌, length, Option, Some, None}
 use Rattle.std.specs.List.{All}
 use Rattle.gz_core.specs.Names.{Name, BallotAt}
 use Rattle.gz_core.specs.Values.{name_of}
-use Rattle.gz_core.specs.Calls.{key_of, own_value}
+use Rattle.gz_core.specs.Calls.{key_of}
 use Rattle.gz_core.specs.Rows.{RowAt}
 use Rattle.gz_core.specs.declared.values.Value.{Value}
 use Rattle.gz_config.specs.declared.Config.{Config}
@@ -23,10 +23,10 @@ use Rattle.gz_pick.specs.declared.heard.Pick.TheVariants.{Free}
 use Rattle.gz_round.specs.Counting.{IsGoing}
 use Rattle.gz_round.specs.LookBack.{before_promise, IsLookedBack}
 use Rattle.gz_round.specs.Rounds.{MayPromise, MayClassicVote, IsPromiseHeard, has_classic_cast, promises_known, promises_above, IsValueKnown}
-use Rattle.gz_round.specs.History.{Asked, Action, Sent, Handed, GaveUp, Rested, GaveIn, Caller, Trace}
+use Rattle.gz_core.specs.History.{Asked, Action, Sent, Handed, GaveUp, Rested, GaveIn, Caller, Trace}
 pub use Rattle.gz_round.specs.Sites.{rows_known}
-use Rattle.gz_round.specs.Sites.{SiteNow, site_now}
-use Rattle.gz_round.specs.Sent.{is_notice, last_promise}
+use Rattle.gz_round.specs.Sites.{SiteNow, site_now, as_heard, written_by}
+use Rattle.gz_round.specs.Sent.{is_notice, last_promise, IsUnpromised}
 use Rattle.gz_round.specs.Shown.{heard_at, IsShown, IsCurrent, IsNext, IsClear}
 
 -- what a step answers on a row
@@ -59,7 +59,7 @@ pub record MayFastVote (c : Config) (w : Caller) (ms : List Action) (v : ℕ) : 
 
 -- the guard of each step; the store doesn't collect versions yet
 abbrev pub MayMake : Config → Caller → List Trace → List Action → RowStep → Type 0
-MayMake c w past ms (FastVote v x) = (own_value w.name w.call ≡ Some x) × MayFastVote c w ms v
+MayMake c w past ms (FastVote v x) = (w.own ≡ Some x) × MayFastVote c w ms v
 MayMake c w past ms (Promise v b) = MayPromise c w past ms v b
 MayMake c w past ms (ClassicVote v b x) = MayClassicVote c w ms v b x
 MayMake c w past ms (Decide v x) = IsShown c ms v (name_of x) × IsValueKnown w ms v x
@@ -80,11 +80,12 @@ MayRead now = (now.row ≡ None) ⊎ (now.changed ≡ true)
 abbrev pub MayAsk : Config → Caller → List Trace → List Action → SiteNow → Op → Type 0
 MayAsk c w past ms now (ReadRow key) = (key ≡ key_of w.call) × MayRead now
 MayAsk c w past ms now (WriteRow key expect step row) = (key ≡ key_of w.call) × MayWrite c w past ms now expect step row
+MayAsk c w past ms now op = ⊥
 
 -- whether a reply of a request is awaited: of each one but a decision that the call tells
 abbrev pub is_awaited : Op → Bool
-is_awaited (ReadRow key) = true
 is_awaited (WriteRow key expect step row) = not (is_notice step)
+is_awaited op = true
 
 -- a request goes out only to a site that isn't out, and of which no row request is awaited
 pub record MaySend (c : Config) (w : Caller) (past : List Trace) (ms : List Action) (a : Asked) : Type 0 where
@@ -135,7 +136,7 @@ IsBegun c ms v b = 1 ≤ heard_at c (λ r. nat_le v (row_top r)) (before_promise
 -- looked back at no vote, though the version had begun
 pub record IsWithoutValue (c : Config) (w : Caller) (ms : List Action) (v : ℕ) (b : BallotAt) : Type 0 where
   pub going : IsGoing c ms
-  pub reads : own_value w.name w.call ≡ None
+  pub reads : w.own ≡ None
   pub last : last_promise ms ≡ Some (v, b)
   pub uncast : IsUncast ms v b
   pub heard : List Heard
@@ -147,13 +148,25 @@ pub record IsWithoutValue (c : Config) (w : Caller) (ms : List Action) (v : ℕ)
   pub back : IsLookedBack c ms v b None
   pub undecided : NoEvidence c ms v
 
--- a known row has the version collected, at which the call may promise the ballot, or promised it last. No row of this
--- store has: it collects no version yet.
+-- a known row has the version collected
+abbrev pub HasGone : Config → List Action → ℕ → Type 0
+HasGone c ms v = (s : ℕ) × (row : RowAt) × (s < c.n) × (rows_known ms s ≡ Some row) × (v ≤ row.floor)
+
+-- no row is left that could promise a ballot at the version: each known one has it collected. The call has promised
+-- nothing above it, and rows of a classic quorum had nothing above it.
+pub record IsBarred (c : Config) (ms : List Action) (v : ℕ) : Type 0 where
+  pub current : IsCurrent c ms v
+  pub later : IsUnpromised ms (v + 1)
+  pub gone : (s : ℕ) (row : RowAt) → s < c.n → rows_known ms s ≡ Some row → v ≤ row.floor
+
+-- a known row has the version collected for which the call promised the ballot last; or every one has, and so the call
+-- can't promise its next ballot there. No row of this store has: it collects no version yet.
 pub record IsCollected (c : Config) (w : Caller) (past : List Trace) (ms : List Action) (v : ℕ) (b : BallotAt) : Type 0 where
   pub going : IsGoing c ms
   pub idle : IsIdle c ms v
   pub promise : MayPromise c w past ms v b
-  pub gone : (s : ℕ) × (row : RowAt) × (s < c.n) × (rows_known ms s ≡ Some row) × (v ≤ row.floor)
+  pub gone : HasGone c ms v
+  pub works : (last_promise ms ≡ Some (v, b)) ⊎ IsBarred c ms v
 
 -- a call gives in where its promise leads no further, short of a quorum of promises, and nothing was cast in the
 -- ballot; where its vote in the ballot leads no further, short of a value that is chosen; where it has no value to
@@ -164,13 +177,13 @@ pub data MayGiveIn (c : Config) (w : Caller) (past : List Trace) (ms : List Acti
   NoValue : (v : ℕ) (b : BallotAt) → IsWithoutValue c w ms v b → MayGiveIn c w past ms
   Collected : (v : ℕ) (b : BallotAt) → IsCollected c w past ms v b → MayGiveIn c w past ms
 
--- a reply or a give-up is of a request that is awaited
+-- a reply or a give-up is of a request that is awaited, and a reply is one as the call hears it
 abbrev pub IsAwaitedOf : List Action → Asked → Type 0
 IsAwaitedOf ms a = (site_now ms a.site).awaits ≡ Some a
 
 abbrev pub IsAllowed : Config → Caller → List Trace → List Action → Action → Type 0
 IsAllowed c w past ms (Sent a) = MaySend c w past ms a
-IsAllowed c w past ms (Handed a reply) = IsAwaitedOf ms a
+IsAllowed c w past ms (Handed a reply) = IsAwaitedOf ms a × (as_heard (written_by a.op) reply ≡ reply)
 IsAllowed c w past ms (GaveUp a) = IsAwaitedOf ms a
 IsAllowed c w past ms Rested = MayRest c ms
 IsAllowed c w past ms GaveIn = MayGiveIn c w past ms

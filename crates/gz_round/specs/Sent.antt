@@ -1,5 +1,5 @@
 -- What a call has sent: votes for its own value, promises, its last row write, and how often it was overtaken.
-use Rattle.std.specs.Prelude.{ℕ, ◌+◌, max, Bool, true, false, ◌&&◌, ◌||◌, ◌==◌, if◌then◌else◌, List, [], ◌∷◌, Option, Some, None}
+use Rattle.std.specs.Prelude.{ℕ, ◌+◌, ◌≡◌, ◌≤◌, max, Bool, true, false, ◌&&◌, ◌||◌, ◌==◌, if◌then◌else◌, List, [], ◌∷◌, Option, Some, None}
 use Rattle.gz_core.specs.Names.{Name, BallotAt, same_ballot, same_name}
 use Rattle.gz_core.specs.Values.{name_of}
 use Rattle.gz_core.specs.declared.calls.Phase.{Phase}
@@ -7,8 +7,8 @@ use Rattle.gz_core.specs.declared.calls.Phase.TheVariants.{Look, Fast, Prepare, 
 use Rattle.gz_core.specs.declared.requests.RowStep.{RowStep}
 use Rattle.gz_core.specs.declared.requests.RowStep.TheVariants.{FastVote, Promise, ClassicVote, Decide, Trim}
 use Rattle.gz_core.specs.declared.requests.Op.{Op}
-use Rattle.gz_core.specs.declared.requests.Op.TheVariants.{ReadRow, WriteRow}
-use Rattle.gz_round.specs.History.{Action, Sent, Handed, GaveUp, Rested, GaveIn}
+use Rattle.gz_core.specs.declared.requests.Op.TheVariants.{WriteRow}
+use Rattle.gz_core.specs.History.{Action, Sent, Handed, GaveUp, Rested, GaveIn}
 use Rattle.gz_round.specs.Sites.{is_changed}
 
 -- a step that nobody awaits: the others get notice of what is chosen
@@ -45,8 +45,8 @@ phase_by (Trim to value) = Some TrimPhase
 
 -- what is read off the step of a write
 abbrev pub of_step : {T : Type 0} → (RowStep → Option T) → Op → Option T
-of_step f (ReadRow key) = None
 of_step f (WriteRow key expect step row) = f step
+of_step f op = None
 
 -- what is read off the step of a write that is sent at an action
 abbrev pub of_sent : {T : Type 0} → (RowStep → Option T) → Action → Option T
@@ -93,6 +93,10 @@ has_promised ms b = some_sent promise_by (λ p. same_ballot p.1 b) ms
 -- whether it sent a promise of this ballot at this version
 abbrev pub has_promised_at : List Action → ℕ → BallotAt → Bool
 has_promised_at ms v b = some_sent promise_by (λ p. (p.0 == v) && same_ballot p.1 b) ms
+
+-- no promise was sent at this version, or above
+abbrev pub IsUnpromised : List Action → ℕ → Type 0
+IsUnpromised ms v = (u : ℕ) (d : BallotAt) → v ≤ u → has_promised_at ms u d ≡ false
 
 -- the version and ballot that it promised last
 abbrev pub last_promise : List Action → Option (ℕ × BallotAt)

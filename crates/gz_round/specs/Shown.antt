@@ -12,7 +12,7 @@ use Rattle.gz_core.specs.Configurations.{need}
 use Rattle.gz_config.specs.declared.Config.{Config}
 use Rattle.gz_pick.specs.Looks.{row_top}
 use Rattle.gz_pick.specs.Evidences.{votes_for, decides}
-use Rattle.gz_round.specs.History.{Action}
+use Rattle.gz_core.specs.History.{Action}
 use Rattle.gz_round.specs.Sites.{some_heard, WasHeard}
 use Rattle.gz_round.specs.Sent.{voted_at}
 

@@ -6,11 +6,11 @@ use Rattle.gz_core.specs.Rows.{RowAt, empty_row}
 use Rattle.gz_core.specs.declared.rows.Column.{Column}
 use Rattle.gz_core.specs.declared.rows.Column.TheVariants.{Open, Decided}
 use Rattle.gz_core.specs.declared.requests.Op.{Op}
-use Rattle.gz_core.specs.declared.requests.Op.TheVariants.{ReadRow, WriteRow}
+use Rattle.gz_core.specs.declared.requests.Op.TheVariants.{WriteRow}
 use Rattle.gz_core.specs.declared.requests.Reply.{Reply}
 use Rattle.gz_core.specs.declared.requests.Reply.TheVariants.{Row, NoRow, Written, Changed, Failed}
 use Rattle.gz_round.specs.declared.hearing.Seen.{Seen}
-use Rattle.gz_round.specs.History.{Asked, Action, Sent, Handed, GaveUp, Rested, GaveIn, is_row_request}
+use Rattle.gz_core.specs.History.{Asked, Action, Sent, Handed, GaveUp, Rested, GaveIn, is_row_request}
 
 -- a promise below the rounds that no run reaches
 abbrev pub column_stands : Column → Bool
@@ -25,34 +25,36 @@ entry_stands c = nat_lt c.0 (2 ^ 62) && column_stands c.1
 abbrev pub can_stand : RowAt → Bool
 can_stand row = nat_lt row.floor (2 ^ 62) && (nat_lt (length row.columns) (2 ^ 22) && list_all entry_stands row.columns)
 
--- a row that no run can hold isn't heard
-abbrev pub seen_under : Option ℕ → RowAt → Option Seen
-seen_under etag row = if can_stand row then Some (record { etag = etag; row = row }) else None
-
 -- the row that a request writes
 abbrev pub written_by : Op → Option RowAt
-written_by (ReadRow key) = None
 written_by (WriteRow key expect step row) = Some row
+written_by op = None
+
+-- a row that no run can hold isn't heard: the reply that shows it is heard as a failure
+abbrev pub if_it_stands : RowAt → Reply → Reply
+if_it_stands row reply = if can_stand row then reply else Failed
+
+-- a reply as the call hears it, where this is the row that its request writes
+abbrev pub as_heard : Option RowAt → Reply → Reply
+as_heard written (Row etag row) = if_it_stands row (Row etag row)
+as_heard (Some row) (Written etag) = if_it_stands row (Written etag)
+as_heard written reply = reply
 
 abbrev pub seen_written : ℕ → Option RowAt → Option Seen
 seen_written etag None = None
-seen_written etag (Some row) = seen_under (Some etag) row
+seen_written etag (Some row) = Some (record { etag = Some etag; row = row })
 
 -- the row that a reply shows: that of a read, the empty one where there is none, and the one that was sent once it is written
 abbrev pub seen_in : Option RowAt → Reply → Option Seen
-seen_in written (Row etag row) = seen_under (Some etag) row
+seen_in written (Row etag row) = Some (record { etag = Some etag; row = row })
 seen_in written NoRow = Some (record { etag = None; row = empty_row })
 seen_in written (Written etag) = seen_written etag written
-seen_in written Changed = None
-seen_in written Failed = None
+seen_in written reply = None
 
 -- the reply of a write that was overtaken
 abbrev pub is_changed : Reply → Bool
-is_changed (Row etag row) = false
-is_changed NoRow = false
-is_changed (Written etag) = false
 is_changed Changed = true
-is_changed Failed = false
+is_changed reply = false
 
 -- a site as the call knows it
 pub record SiteNow : Type 0 where

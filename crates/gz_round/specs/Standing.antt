@@ -2,7 +2,8 @@
 use Rattle.std.specs.Prelude.{ℕ, true, false, if◌then◌else◌, ◌≡◌, ◌≢◌, ◌≤◌, ◌<◌, ◌+◌, ◌⊎◌, List, length, slice_get, Option, Some, None, is_some, option_map}
 use Rattle.gz_core.specs.Names.{BallotAt, IsClassic}
 use Rattle.gz_core.specs.Rows.{RowAt}
-use Rattle.gz_core.specs.Calls.{key_of, own_value}
+use Rattle.gz_core.specs.Calls.{key_of}
+use Rattle.gz_core.specs.Values.{name_of}
 use Rattle.gz_core.specs.declared.values.Value.{Value}
 use Rattle.gz_core.specs.declared.calls.Phase.TheVariants.{Look as NotBegun}
 use Rattle.gz_config.specs.declared.Config.{Config}
@@ -11,10 +12,10 @@ use Rattle.gz_round.specs.declared.run.Mark.{Mark}
 use Rattle.gz_round.specs.declared.run.Run.{Run}
 use Rattle.gz_round.specs.declared.run.Stage.{Stage}
 use Rattle.gz_round.specs.declared.run.Stage.TheVariants.{Look, Fast, Prepare, Accept}
-use Rattle.gz_round.specs.History.{Asked, Action, Caller, Trace}
+use Rattle.gz_core.specs.History.{Asked, Action, Caller, Trace}
 use Rattle.gz_round.specs.declared.hearing.Seen.{Seen}
 use Rattle.gz_round.specs.Sites.{SiteNow, site_now, known, row_seen, written_by}
-use Rattle.gz_round.specs.Sent.{met, voted, phase_of, has_promised_at, last_promise}
+use Rattle.gz_round.specs.Sent.{met, voted, phase_of, has_promised_at, last_promise, IsUnpromised}
 use Rattle.gz_round.specs.Shown.{IsCurrent, IsClear, IsGrounded}
 use Rattle.gz_round.specs.LookBack.{IsLookedBack}
 use Rattle.gz_round.specs.Rounds.{MayClassicVote, IsUnused, rounds_used, promises_above, passed_since}
@@ -56,7 +57,8 @@ AreSound ms = (s : ℕ) → IsSound (site_now ms s) s
 pub record Stands (c : Config) (w : Caller) (past : List Trace) (run : Run) (ms : List Action) : Type 0 where
   pub name_is : run.name ≡ w.name
   pub key_is : run.key ≡ key_of w.call
-  pub own_is : run.own ≡ own_value w.name w.call
+  pub own_is : run.own ≡ w.own
+  pub named : (x : Value) → w.own ≡ Some x → name_of x ≡ w.name
   pub knows : Knows c run ms
   pub met_is : run.met ≡ met ms
   pub voted_is : run.voted ≡ voted w.name ms
@@ -64,10 +66,6 @@ pub record Stands (c : Config) (w : Caller) (past : List Trace) (run : Run) (ms 
   pub round_is : run.round ≡ rounds_used past ms
   pub sites : AreSound ms
   pub allowed : AreAllowed c w past ms
-
--- no promise was sent at this version, or above
-abbrev pub IsUnpromised : List Action → ℕ → Type 0
-IsUnpromised ms v = (u : ℕ) (d : BallotAt) → v ≤ u → has_promised_at ms u d ≡ false
 
 -- where a row that is known promises a ballot above this one, such a row was heard since the last promise of it
 abbrev pub ArePassed : Config → List Action → ℕ → BallotAt → Type 0
@@ -89,7 +87,7 @@ pub record IsWorking (c : Config) (w : Caller) (past : List Trace) (ms : List Ac
   pub unused : IsUnused past b
   pub grounded : IsGrounded c ms v
   pub passed : (d : BallotAt) → d ≢ b → has_promised_at ms v d ≡ true → passed_since v d ms ≡ true
-  pub begun : own_value w.name w.call ≡ None → IsBegun c ms v b
+  pub begun : w.own ≡ None → IsBegun c ms v b
 
 -- it has not voted in the ballot, which it promised last, or else no session has used its round
 pub record IsPreparing (c : Config) (w : Caller) (past : List Trace) (ms : List Action) (v : ℕ) (b : BallotAt) : Type 0 where
@@ -105,8 +103,8 @@ pub record IsVoting (c : Config) (w : Caller) (past : List Trace) (ms : List Act
 -- the phase has what its step wants, and what a call that writes nothing looked back at
 abbrev pub StageStands : Config → Caller → List Trace → Stage → List Action → Type 0
 StageStands c w past Look ms = (voted w.name ms ≡ false) × (phase_of ms ≡ NotBegun)
-StageStands c w past (Fast v) ms = MayFastVote c w ms v × ((x : Value) × (own_value w.name w.call ≡ Some x)) × IsUnpromised ms v
-StageStands c w past (Prepare v b found) ms = IsPreparing c w past ms v b × ArePassed c ms v b × (own_value w.name w.call ≡ None → last_promise ms ≡ Some (v, b) → IsLookedBack c ms v b found)
+StageStands c w past (Fast v) ms = MayFastVote c w ms v × ((x : Value) × (w.own ≡ Some x)) × IsUnpromised ms v
+StageStands c w past (Prepare v b found) ms = IsPreparing c w past ms v b × ArePassed c ms v b × (w.own ≡ None → last_promise ms ≡ Some (v, b) → IsLookedBack c ms v b found)
 StageStands c w past (Accept v b x) ms = MayClassicVote c w ms v b x × IsVoting c w past ms v b × ArePassed c ms v b
 
 -- each site that may be read is being read, or is out

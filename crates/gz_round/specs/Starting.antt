@@ -4,17 +4,19 @@ use Rattle.gz_core.specs.Names.{Name}
 use Rattle.gz_core.specs.Rows.{RowAt}
 use Rattle.gz_core.specs.Calls.{key_of, own_value}
 use Rattle.gz_core.specs.declared.calls.Call.{Call}
-use Rattle.gz_core.specs.declared.calls.Call.TheVariants.{Put, Delete, Get}
+use Rattle.gz_core.specs.declared.calls.Call.TheVariants.{Put, Delete, Get, GetAt, Collect}
 use Rattle.gz_core.specs.declared.calls.Phase.TheVariants.{Look as NotBegun}
 use Rattle.gz_round.specs.declared.run.Mark.{Mark}
 use Rattle.gz_round.specs.declared.run.Run.{Run}
 use Rattle.gz_round.specs.declared.run.Stage.TheVariants.{Look}
 
--- an object's bytes are within the bound
+-- an object's bytes are within the bound; no call of this store reads an old version or collects one yet
 abbrev pub IsWithin : Call → Type 0
 IsWithin (Put key bytes) = length bytes ≤ 1048576
 IsWithin (Delete key) = Unit {0}
 IsWithin (Get key) = Unit {0}
+IsWithin (GetAt key version) = ⊥
+IsWithin (Collect key keep) = ⊥
 
 -- a site of which nothing is known
 abbrev pub fresh_mark : Mark

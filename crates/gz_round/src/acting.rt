@@ -2,7 +2,7 @@
 ghost use Rattle.std.specs.Prelude.{IsSome, ◌≡◌, ◌≤◌, ◌<◌, ◌+◌, ◌^◌, ℕ, List, [], length, Some, slice_get, IfOk, MatchOption};
 ghost use Rattle.gz_core.specs.Rows.{RowAt};
 ghost use Rattle.gz_core.specs.Configurations.{IsConfig};
-ghost use Rattle.gz_round.specs.History.{Action, Caller, Trace, sent_from};
+ghost use Rattle.gz_core.specs.History.{Action, Caller, Trace, sent_from};
 ghost use Rattle.gz_round.specs.Standing.{Stands, Runs, IsKept};
 ghost use Rattle.gz_round.specs.Counting.{IsGoing};
 ghost use Rattle.std.specs.Option.{option_copied};

@@ -152,8 +152,8 @@ impl Run {
         ensures { self.new ≡ noted self.old op.now }
     {
         match op {
-            Op::ReadRow { .. } => {},
             Op::WriteRow { step, .. } => self.note_write(step),
+            _ => {},
         }
     }
 
@@ -184,10 +184,10 @@ fn written(op: &Op) -> Result<Option<Row>, AllocError>
     ensures { IfOk result (λ row. row ≡ written_by op.now) }
 {
     match op {
-        Op::ReadRow { .. } => Ok(None),
         Op::WriteRow { row, .. } => {
             let row = row.clone()?;
             Ok(Some(row))
         },
+        _ => Ok(None),
     }
 }

@@ -1,7 +1,7 @@
 //! Which requests a call awaits.
 ghost use Rattle.std.specs.Prelude.{◌≡◌, ℕ, List, Some, count_by, MatchOption};
 ghost use Rattle.gz_config.specs.declared.Config.{Config};
-ghost use Rattle.gz_round.specs.History.{Action};
+ghost use Rattle.gz_core.specs.History.{Action};
 ghost use Rattle.gz_round.specs.Standing.{Knows, AreSound};
 ghost use Rattle.gz_round.specs.Numbering.{AreNumbered, IsLiveAt};
 ghost use Rattle.gz_round.specs.Awaiting.{has_number, IsSiteOf, is_mark_live, number_of, lower_of, IsLeastFrom};

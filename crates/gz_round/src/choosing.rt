@@ -9,7 +9,7 @@ ghost use Rattle.gz_core.specs.Configurations.{IsConfig};
 ghost use Rattle.gz_config.specs.declared.Config.{Config};
 ghost use Rattle.gz_pick.specs.Choices.{AreHeardSites};
 ghost use Rattle.gz_pick.specs.Evidences.{is_in};
-ghost use Rattle.gz_round.specs.History.{Action, Caller, Trace};
+ghost use Rattle.gz_core.specs.History.{Action, Caller, Trace};
 ghost use Rattle.gz_round.specs.Causes.{row_value};
 ghost use Rattle.gz_round.specs.Acting.{IsGoalUnmet, CanAct, ChoiceMeans, choice_of};
 ghost use Rattle.gz_round.specs.LookBack.{or_next};

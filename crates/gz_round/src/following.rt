@@ -3,7 +3,7 @@ ghost use Rattle.std.specs.Prelude.{◌≡◌, ◌≤◌, ◌<◌, ◌+◌, ◌^
 ghost use Rattle.gz_core.specs.Rows.{RowAt};
 ghost use Rattle.gz_pick.specs.Looks.{row_name};
 ghost use Rattle.gz_core.specs.Configurations.{IsConfig};
-ghost use Rattle.gz_round.specs.History.{Action, Caller, Trace};
+ghost use Rattle.gz_core.specs.History.{Action, Caller, Trace};
 ghost use Rattle.gz_round.specs.Following.{IsReady, Ready, NextMeans, MayPass, IsUnwritten, IsStageAt};
 ghost use Rattle.gz_config.specs.declared.Config.{Config};
 ghost use Rattle.gz_round.specs.Evidence.{NoneEvident, EvidentAt};

@@ -1,8 +1,8 @@
 //! What a reply shows of a site.
-ghost use Rattle.std.specs.Prelude.{◌≡◌, ◌<◌, ◌+◌, ◌^◌, length, slice_get, Option, Some, IfOk};
+ghost use Rattle.std.specs.Prelude.{◌≡◌, ◌<◌, ◌+◌, ◌^◌, length, slice_get, Option, Some, None, IfOk};
 ghost use Rattle.gz_core.specs.Rows.{RowAt};
 ghost use Rattle.std.specs.List.{list_all};
-ghost use Rattle.gz_round.specs.Sites.{column_stands, entry_stands, can_stand, seen_in, seen_under, seen_written};
+ghost use Rattle.gz_round.specs.Sites.{column_stands, entry_stands, can_stand, if_it_stands, as_heard, seen_in};
 ghost use Rattle.gz_round.specs.declared.run.Mark.{Mark};
 ghost use Rattle.gz_round.specs.Noting.{heard_run, overtaken_run, left_run};
 
@@ -65,37 +65,41 @@ pub fn shown_by(
     written: &Option<Row>,
     answer: &Reply,
 ) -> Result<Option<Seen>, AllocError>
-    ensures { IfOk result (λ seen. seen ≡ seen_in written.now answer.now) }
+    ensures { IfOk result (λ seen. seen ≡ seen_in written.now (as_heard written.now answer.now)) }
 {
     match answer {
-        Reply::Row { etag, row } => seen_under(Some(*etag), row),
+        Reply::Row { etag, row } => seen_under(*etag, row),
         Reply::NoRow => Ok(Some(Seen {
             etag: None,
             row: Row::empty(alloc),
         })),
         Reply::Written { etag } => seen_written(*etag, written),
-        Reply::Changed => Ok(None),
-        Reply::Failed => Ok(None),
+        _ => Ok(None),
     }
 }
 
-fn seen_under(etag: Option<Etag>, row: &Row) -> Result<Option<Seen>, AllocError>
-    ensures { IfOk result (λ seen. seen ≡ seen_under etag row.now) }
+/// The row, under its tag, if a run can hold it.
+fn seen_under(etag: Etag, row: &Row) -> Result<Option<Seen>, AllocError>
+    ensures { IfOk result (λ seen. seen ≡ seen_in None (if_it_stands row.now (Reply.Row etag row.now))) }
 {
     if can_stand(row) {
         let row = row.clone()?;
-        Ok(Some(Seen { etag, row }))
+        Ok(Some(Seen {
+            etag: Some(etag),
+            row,
+        }))
     } else {
         Ok(None)
     }
 }
 
+/// The row that was written, under its new tag, if a run can hold it.
 fn seen_written(etag: Etag, written: &Option<Row>) -> Result<Option<Seen>, AllocError>
-    ensures { IfOk result (λ seen. seen ≡ seen_written etag written.now) }
+    ensures { IfOk result (λ seen. seen ≡ seen_in written.now (as_heard written.now (Reply.Written etag))) }
 {
     match written {
         None => Ok(None),
-        Some(row) => seen_under(Some(etag), row),
+        Some(row) => seen_under(etag, row),
     }
 }
 

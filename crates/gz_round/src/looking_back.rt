@@ -2,11 +2,10 @@
 ghost use Rattle.std.specs.Prelude.{◌≡◌, ◌<◌, ℕ, List, Option, length, slice_get, Some, None, IfOk};
 ghost use Rattle.std.specs.Option.{option_copied};
 ghost use Rattle.gz_core.specs.Rows.{RowAt};
-ghost use Rattle.gz_core.specs.Calls.{own_value};
 ghost use Rattle.gz_core.specs.Configurations.{IsConfig};
 ghost use Rattle.gz_core.specs.declared.values.Value.{Value};
 ghost use Rattle.gz_round.specs.declared.run.Mark.{Mark};
-ghost use Rattle.gz_round.specs.History.{Action, Caller, Trace};
+ghost use Rattle.gz_core.specs.History.{Action, Caller, Trace};
 ghost use Rattle.gz_round.specs.LookBack.{column_cast, row_cast, or_next, lowest, lowest_vote};
 ghost use Rattle.gz_round.specs.Choosing.{AreLastVotes};
 ghost use Rattle.gz_round.specs.Standing.{Stands};
@@ -24,7 +23,7 @@ impl Run {
         requires rows { length self.now.rows ≡ config.now.n }
         requires marks { length self.now.marks ≡ config.now.n }
         ensures { IfOk result (λ found. (w : Caller) (past : List Trace) (ms : List Action) → Stands config.now w past self.now ms
-            → own_value w.name w.call ≡ None → found ≡ lowest_vote config.now.n version ms) }
+            → w.own ≡ None → found ≡ lowest_vote config.now.n version ms) }
     {
         if self.own.is_some() {
             return Ok(None);

@@ -2,8 +2,8 @@
 ghost use Rattle.std.specs.Prelude.{◌≡◌, ◌≤◌, ◌<◌, ◌+◌, ◌^◌, List, length, slice_get, ◌∷◌, Option, Some, None, IfOk, OnOk};
 ghost use Rattle.gz_core.specs.Rows.{RowAt};
 ghost use Rattle.gz_config.specs.declared.Config.{Config};
-ghost use Rattle.gz_round.specs.History.{Asked, Action, Handed, GaveUp, Caller, Trace};
-ghost use Rattle.gz_round.specs.Sites.{is_changed, site_now, seen_in};
+ghost use Rattle.gz_core.specs.History.{Asked, Action, Handed, GaveUp, Caller, Trace};
+ghost use Rattle.gz_round.specs.Sites.{as_heard, is_changed, site_now, seen_in, written_by};
 ghost use Rattle.gz_round.specs.Noting.{noted_by, written_at, IsReplyNoted};
 ghost use Rattle.gz_round.specs.Following.{Ready};
 ghost use Rattle.gz_round.specs.declared.run.Mark.{Mark};
@@ -21,7 +21,7 @@ impl Run {
         requires met { self.old.met + 1 < 2 ^ 32 }
         ensures noted { OnOk result (IsReplyNoted self.old at answer.now self.new) }
         ensures ready { OnOk result ((c : Config) (w : Caller) (past : List Trace) (ms : List Action) (a : Asked) → at < c.n
-            → (site_now ms at).awaits ≡ Some a → Ready c w past self.old ms → Ready c w past self.new (Handed a answer.now ∷ ms)) }
+            → (site_now ms at).awaits ≡ Some a → Ready c w past self.old ms → Ready c w past self.new (Handed a (as_heard (written_by a.op) answer.now) ∷ ms)) }
     {
         let seen = self.shown_at(alloc, at, answer)?;
         self.note(at, seen, is_changed(answer));
@@ -41,7 +41,7 @@ impl Run {
     /// The row that a reply of a site's request shows.
     fn shown_at(&self, alloc: Global, at: usize, answer: &Reply) -> Result<Option<Seen>, AllocError>
         requires { at < length self.now.marks }
-        ensures { IfOk result (λ seen. (mark : Mark) → slice_get self.now.marks at ≡ Some mark → seen ≡ seen_in (written_at mark) answer.now) }
+        ensures { IfOk result (λ seen. (mark : Mark) → slice_get self.now.marks at ≡ Some mark → seen ≡ seen_in (written_at mark) (as_heard (written_at mark) answer.now)) }
     {
         match &self.marks.at(at).awaited {
             None => shown_by(alloc, &None, answer),

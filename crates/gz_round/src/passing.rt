@@ -1,7 +1,7 @@
 //! One pass over the sites: each is asked for all that it may be asked for.
 ghost use Rattle.std.specs.Prelude.{◌≡◌, ◌≤◌, ◌<◌, ◌+◌, ◌^◌, ℕ, List, [], length, IfOk, OnOk};
 ghost use Rattle.gz_core.specs.Configurations.{IsConfig};
-ghost use Rattle.gz_round.specs.History.{Action, Caller, Trace, sent_from};
+ghost use Rattle.gz_core.specs.History.{Action, Caller, Trace, sent_from};
 ghost use Rattle.gz_round.specs.Steps.{IsStepOf};
 ghost use Rattle.gz_round.specs.Asking.{IsAskedAt, IsLeftBy};
 ghost use Rattle.gz_round.specs.Following.{Asks, AreServed, CanAsk};

@@ -1,7 +1,7 @@
 //! How a call goes on by a classic ballot, where a phase ended without its goal. (Lamport 2006, "Fast Paxos", section 2.2.)
 ghost use Rattle.std.specs.Prelude.{◌≡◌, ◌≤◌, ◌<◌, ◌+◌, ◌^◌, List, [], length, None, IfOk};
 ghost use Rattle.gz_core.specs.Configurations.{IsConfig};
-ghost use Rattle.gz_round.specs.History.{Action, Caller, Trace, sent_from};
+ghost use Rattle.gz_core.specs.History.{Action, Caller, Trace, sent_from};
 ghost use Rattle.gz_round.specs.Following.{HasTurned};
 ghost use Rattle.gz_round.specs.Acting.{TakesStep, CanStep, RunsOut, CanRunOut, Prepares, CanPrepare, IsBallotAbove, given_in_of, ended_of, prepared_of, is_overtaken};
 

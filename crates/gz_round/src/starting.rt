@@ -1,7 +1,7 @@
 //! How a call begins.
 ghost use Rattle.std.specs.Prelude.{◌≡◌, ℕ, ◌≤◌, ◌<◌, List, [], length, slice_get, Some, None, IfOk};
-ghost use Rattle.gz_core.specs.Calls.{key_of, own_value};
-ghost use Rattle.gz_round.specs.History.{Caller, Trace};
+ghost use Rattle.gz_core.specs.Calls.{IsOwn, key_of, own_value};
+ghost use Rattle.gz_core.specs.History.{Caller, Trace};
 ghost use Rattle.gz_round.specs.Rounds.{top_rounds};
 ghost use Rattle.gz_round.specs.Following.{Ready};
 ghost use Rattle.gz_round.specs.Starting.{IsWithin, fresh_mark, idle_run};
@@ -20,7 +20,8 @@ impl Run {
         round: u32,
     ) -> Result<Run, AllocError>
         requires { IsWithin call }
-        ensures ready { IfOk result (λ run. (w : Caller) (past : List Trace) → w.name ≡ name → w.call ≡ call → top_rounds past ≡ round → Ready config.now w past run []) }
+        ensures own { IfOk result (λ run. IsOwn name call run.own) }
+        ensures ready { IfOk result (λ run. (w : Caller) (past : List Trace) → w.name ≡ name → w.call ≡ call → w.own ≡ run.own → top_rounds past ≡ round → Ready config.now w past run []) }
         ensures stage { IfOk result (λ run. run.stage ≡ Stage.Look) }
     {
         let mut run = Run::idle(alloc, name, call, round);
@@ -60,6 +61,7 @@ fn parts(name: PutName, call: Call) -> (Key, Option<Value>)
         Call::Put { key, bytes } => (key, Some(Value::Put(PutValue { name, bytes }))),
         Call::Delete { key } => (key, Some(Value::Tomb { name })),
         Call::Get { key } => (key, None),
+        Call::GetAt { .. } | Call::Collect { .. } => unreachable!(),
     }
 }
 

@@ -76,7 +76,7 @@ kept_set old new at r q there later is = λ i p h.
 -- what one event does
 does_keep : (old : State) (event : Event) (effect : Effect) (new : State) → Does old event effect new → AreKept old.net new.net
 does_keep old events.OpenSession effect new h = kept_same old.net new.net h.net
-does_keep old (events.Begin session call) effect new h = kept_more old.net new.net _ h.1.net
+does_keep old (events.Begin session call) effect new h = kept_more old.net new.net _ h.1.1.net
 does_keep old (events.Deliver n) effect new h =
     let d = h.1.1 in
     kept_set old.net new.net (n - 1) h.0 _ (found old.net n h.0 d.request) (record { name = refl; replies = omega (arith, length-append h.0.replies ((length old.journal + 1, h.1.0) ∷ [])) }) d.net

@@ -3,7 +3,7 @@ use Rattle.std.proofs.Common.{ℕ, ◌≡◌, ◌+◌, ◌≤◌, ◌<◌, List,
 use Rattle.std.specs.Prelude.{suc, Option, Some, None, Result, OnOk, IfErr, slice_get, option_map}
 use Rattle.std.proofs.lemmas.List.{take_more, take_all, take-map, map-append, length-map}
 use Rattle.std.proofs.lemmas.Option.{slice_get-get_or, slice_get-map}
-use Rattle.gz_round.specs.History.{Trace}
+use Rattle.gz_core.specs.History.{Trace}
 use Rattle.gz_client.specs.Lowest.{IsLowestLive}
 use Rattle.gz_site.specs.Told.{Told}
 use Rattle.gz_world.specs.Bridge.{state_of}

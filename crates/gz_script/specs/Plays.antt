@@ -1,7 +1,7 @@
 -- What the lines of a schedule do to the world: the events of each are read off the world in which the line is reached.
 use Rattle.std.specs.Prelude.{ℕ, ◌≡◌, ◌+◌, ◌≤◌, ◌<◌, ◌==◌, ◌⊎◌, Bool, false, zero, suc, not, nat_lt, if◌then◌else◌, List, [], ◌∷◌, length, map, filter, take, Option, Some, None, slice_get}
 use Rattle.std.specs.List.{list_any}
-use Rattle.gz_round.specs.History.{Trace}
+use Rattle.gz_core.specs.History.{Trace}
 use Rattle.gz_client.specs.Lowest.{IsLowestLive}
 use Rattle.gz_site.specs.Told.{Told}
 use Rattle.gz_world.specs.Bridge.{state_of}

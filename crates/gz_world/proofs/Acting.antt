@@ -9,7 +9,8 @@ use Rattle.gz_core.specs.declared.calls.Call.{Call}
 use Rattle.gz_config.specs.declared.Config.{Config}
 use Rattle.gz_core.specs.declared.requests.Out.{Out}
 use Rattle.gz_core.specs.declared.requests.Turn.{Turn}
-use Rattle.gz_round.specs.History.{Asked, Action, Trace, begun, turned, sent_from}
+use Rattle.gz_core.specs.declared.values.Value.{Value}
+use Rattle.gz_core.specs.History.{Asked, Action, Trace, begun, turned, sent_from}
 use Rattle.gz_client.specs.declared.client.Client.{Client}
 use Rattle.gz_client.specs.Traces.{Holds, AllKeepRules, IsAwaited}
 use Rattle.gz_history.specs.declared.record.CallRec.{CallRec}
@@ -233,14 +234,16 @@ begun_turn told old new traces session call effect fits small began =
     let ts = traces session in
     let s = member_stands old traces session m fits (place_numbered old.clients.items session m b.opened b.member) in
     let after : Member = record { client = client; crashed = m.crashed; last = Some (length old.calls.items) } in
-    let more : List Trace = begun session call first turn ts ∷ ts in
-    let holds : Holds client (first + length turn.send) more = subst (λ k. Holds client (first + length turn.send) (begun k call first turn ts ∷ ts)) s.session_is (b.holds s.next ts s.holds s.below) in
+    let begins = b.holds s.next ts s.holds s.below in
+    let own : Option Value = begins.0 in
+    let more : List Trace = begun session call own first turn ts ∷ ts in
+    let holds : Holds client (first + length turn.send) more = subst (λ k. Holds client (first + length turn.send) (begun k call own first turn ts ∷ ts)) s.session_is begins.1 in
     let config : client.config ≡ old.cfg = b.same.config_is ∙ s.config_is in
     let number : client.session ≡ session = b.same.session_is ∙ s.session_is in
     let told_by : AllKeepRules old.cfg session more = subst (λ k. AllKeepRules old.cfg k more) number (subst (λ k. AllKeepRules k client.session more) config holds.told) in
     let named : name ≡ record { session = session; seq = length ts + 1 } = b.name_is traces fits in
-    let own : name.session ≡ session = ap (λ (k : Name). k.session) named in
-    let sent = (allowed_sent old.cfg (record { name = record { session = session; seq = length ts + 1 }; call = call }) ts first turn.send [] told_by.0.allowed).1 in
+    let mine : name.session ≡ session = ap (λ (k : Name). k.session) named in
+    let sent = (allowed_sent old.cfg (record { name = record { session = session; seq = length ts + 1 }; call = call; own = own }) ts first turn.send [] told_by.0.allowed).1 in
     let outs = sent_requests name tick turn.send in
     let grown : length (map request_of new.net.items) ≡ length (map request_of old.net.items) + length turn.send = ap length b.net ∙ length-append (map request_of old.net.items) outs ∙ ap (λ k. length (map request_of old.net.items) + k) (length-sent name tick turn.send) in
     let heavy = outs_heavy turn.send in
@@ -261,11 +264,11 @@ begun_turn told old new traces session call effect fits small began =
         holds = holds;
         config_is = config;
         session_is = number;
-        last_is = (rec, (begun session call first turn ts, (ts, (subst (λ xs. slice_get xs (length old.calls.items) ≡ Some rec) (sym b.calls) (get_last old.calls.items rec), (refl, named)))));
+        last_is = (rec, (begun session call own first turn ts, (ts, (subst (λ xs. slice_get xs (length old.calls.items) ≡ Some rec) (sym b.calls) (get_last old.calls.items rec), (refl, named)))));
       };
       requests = subst (ArePlaced old.cfg.n (length old.clients.items)) (sym b.net)
           (placed_append old.cfg.n (length old.clients.items) (map request_of old.net.items) outs fits.requests
-          (placed_sent old.cfg.n (length old.clients.items) name tick turn.send (omega (arith, own, opened)) (omega (arith, own, below, opened)) sent));
+          (placed_sent old.cfg.n (length old.clients.items) name tick turn.send (omega (arith, mine, opened)) (omega (arith, mine, below, opened)) sent));
       longer = omega (arith, grown);
       weighs = omega (arith, grown, heavy, weighed, held);
       rest = b.rest;
@@ -275,21 +278,25 @@ begun_turn told old new traces session call effect fits small began =
       (
         fits_turn old new traces session m after more fits small of,
         (
-          turn,
-          record {
-            moves = record {
-              sessions = ap length b.clients ∙ length-set old.clients.items (session - 1) after;
-              crashed = λ k. ap (λ xs. crashed_in xs k) b.clients ∙ crashed_stays old.clients.items (session - 1) m after b.member refl k;
-              traces = λ k. refl;
-              told = told_by;
-            };
-            calls = subst (λ (k : Name). new.calls.items ≡ old.calls.items ++ record { name = k; call = call; begin = tick; end = end_at tick turn.answer; answer = turn.answer } ∷ []) named b.calls;
-            net = subst (λ (k : Name). map request_of new.net.items ≡ map request_of old.net.items ++ sent_requests k tick turn.send) named b.net;
-            held = b.held;
-            sites = untouched_sites told old new traces (with_traces traces session more) b.rest;
-            frame = untouched_frame told old new traces (with_traces traces session more) b.rest;
-            effect_is = b.effect_is;
-          },
+          own,
+          (
+            turn,
+            record {
+              within = b.within;
+              moves = record {
+                sessions = ap length b.clients ∙ length-set old.clients.items (session - 1) after;
+                crashed = λ k. ap (λ xs. crashed_in xs k) b.clients ∙ crashed_stays old.clients.items (session - 1) m after b.member refl k;
+                traces = λ k. refl;
+                told = told_by;
+              };
+              calls = subst (λ (k : Name). new.calls.items ≡ old.calls.items ++ record { name = k; call = call; begin = tick; end = end_at tick turn.answer; answer = turn.answer } ∷ []) named b.calls;
+              net = subst (λ (k : Name). map request_of new.net.items ≡ map request_of old.net.items ++ sent_requests k tick turn.send) named b.net;
+              held = b.held;
+              sites = untouched_sites told old new traces (with_traces traces session more) b.rest;
+              frame = untouched_frame told old new traces (with_traces traces session more) b.rest;
+              effect_is = b.effect_is;
+            },
+          ),
         ),
       ),
     )

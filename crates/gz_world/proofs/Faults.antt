@@ -16,7 +16,7 @@ use Rattle.gz_world.specs.Steps.{quiet}
 use Rattle.gz_world.specs.declared.events.Effect.{Effect}
 use Rattle.gz_world.specs.declared.events.Outcome.{Outcome}
 use Rattle.gz_world.specs.declared.events.Outcome.TheVariants as outcomes
-use Rattle.gz_round.specs.History.{Trace}
+use Rattle.gz_core.specs.History.{Trace}
 use Rattle.gz_site.specs.Told.{Told}
 use Rattle.gz_world.specs.Bridge.{state_of}
 use Rattle.gz_world.specs.Refusals.{refusal_of}

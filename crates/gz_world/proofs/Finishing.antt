@@ -4,7 +4,7 @@ use Rattle.std.specs.Prelude.{slice_get, slice_set}
 use Rattle.gz_core.specs.Names.{Name}
 use Rattle.gz_core.specs.declared.calls.Call.{Call}
 use Rattle.gz_core.specs.declared.requests.Turn.{Turn}
-use Rattle.gz_round.specs.History.{Asked, Action, Trace}
+use Rattle.gz_core.specs.History.{Asked, Action, Trace}
 use Rattle.gz_client.specs.declared.client.Client.{Client}
 use Rattle.gz_client.specs.Traces.{Begins, Extends, IsSameClient}
 use Rattle.gz_history.specs.declared.record.CallRec.{CallRec}
@@ -16,6 +16,7 @@ use Rattle.gz_world.specs.Turns.{IsSameWorld, effect_of, Started, WentOn, BeganB
 use Rattle.gz_world.specs.declared.events.Effect.{Effect}
 use Rattle.gz_world.specs.declared.world.Member.{Member}
 use Rattle.gz_world.specs.declared.world.World.{World}
+use Rattle.gz_round.specs.Starting.{IsWithin}
 
 -- the room for a turn was made, and then its request was marked
 pub record IsMarked {S : Type 0} (room mid : World S) (n : ℕ) (marked : RequestAt) : Type 0 where
@@ -61,14 +62,15 @@ told_parts old room mid new n r marked action m last c client turn first tick ef
 
 -- the same of a call that begins
 pub began_parts : {S : Type 0} (old room new : World S) (session : ℕ) (call kept : Call) (m : Member) (client : Client) (turn : Turn) (name : Name) (first tick : ℕ) (effect : Effect)
-    → IsSameWorld old room → first ≡ length (map request_of old.net.items) + 1 → tick ≡ length old.journal.items + 1 → 1 ≤ session → kept ≡ call
+    → IsSameWorld old room → first ≡ length (map request_of old.net.items) + 1 → tick ≡ length old.journal.items + 1 → 1 ≤ session → IsWithin call → kept ≡ call
     → slice_get old.clients.items (session - 1) ≡ Some m
     → Begins m.client client first call turn → IsSameClient m.client client
     → ((traces : ℕ → List Trace) → Fits traces old → name ≡ record { session = session; seq = length (traces session) + 1 })
     → Started room new session name tick kept m client turn → effect ≡ effect_of first session turn
     → BeganBy old new session call m client turn name effect
-began_parts old room new session call kept m client turn name first tick effect same first_is tick_is opened kept_is member holds same_client name_is started effect_is = record {
+began_parts old room new session call kept m client turn name first tick effect same first_is tick_is opened within kept_is member holds same_client name_is started effect_is = record {
   opened = opened;
+  within = within;
   member = member;
   holds = subst (λ k. Begins m.client client k call turn) first_is holds;
   same = same_client;

@@ -7,7 +7,7 @@ use Rattle.std.specs.Prelude.{Option, IsSome, option_map, ◌==◌, if◌then◌
 use Rattle.std.specs.Option.{ForSome, option_map_or}
 use Rattle.gz_core.specs.declared.calls.Answer.{Answer}
 use Rattle.gz_config.specs.declared.Config.{Config}
-use Rattle.gz_round.specs.History.{Trace}
+use Rattle.gz_core.specs.History.{Trace}
 use Rattle.gz_client.specs.Traces.{Holds, AllKeepRules, IsRunning}
 use Rattle.gz_history.specs.declared.record.CallRec.{CallRec}
 use Rattle.gz_world.specs.States.{request_of, numbered}

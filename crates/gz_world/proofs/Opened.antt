@@ -3,7 +3,7 @@ use Rattle.std.proofs.Common.{◌≡◌, ℕ, zero, suc, ◌≤◌, List, [], So
 use Rattle.std.specs.Prelude.{Option, IfSome, slice_get, option_map, unwrap_or}
 use Rattle.gz_core.specs.Configurations.{IsConfig}
 use Rattle.gz_config.specs.declared.Config.{Config}
-use Rattle.gz_round.specs.History.{Trace}
+use Rattle.gz_core.specs.History.{Trace}
 use Rattle.gz_site.specs.Told.{Told, IsEmpty}
 use Rattle.gz_site.specs.Many.{told_at}
 use Rattle.gz_world.specs.States.{request_of}

@@ -12,7 +12,7 @@ use Rattle.gz_world.specs.declared.world.Member.{Member}
 use Rattle.gz_core.specs.Configurations.{IsConfig}
 use Rattle.gz_config.specs.declared.Config.{Config}
 use Rattle.gz_core.specs.declared.calls.Call.{Call}
-use Rattle.gz_round.specs.History.{Handed, GaveUp, Trace}
+use Rattle.gz_core.specs.History.{GaveUp, Trace}
 use Rattle.gz_site.specs.Told.{Told}
 use Rattle.gz_site.specs.Many.{told_at}
 use Rattle.gz_world.specs.States.{RequestAt, State, request_of, numbered, with_handed, with_given_up}
@@ -21,7 +21,7 @@ use Rattle.gz_world.specs.Counting.{IsFull}
 use Rattle.gz_world.specs.Refusals.{refusal_of, session_refusal, is_running, request_refusal, reply_refusal, or_next_skip, is_live, is_open}
 use Rattle.gz_world.specs.Fits.{IsLast, StandsFor, FitsBy, Fits, IsFitting}
 use Rattle.gz_world.specs.Reached.{IsReached, stepped}
-use Rattle.gz_world.specs.Steps.{SameState, Does, Skips, HasEffect, WorldStep, quiet, session_of}
+use Rattle.gz_world.specs.Steps.{SameState, Does, Skips, HasEffect, WorldStep, hears, quiet, session_of}
 use Rattle.gz_world.specs.Turns.{IsSmall, IsNumber, CanBeNotified, HasCall, IsSameWorld, Began, WasHanded, WasGivenUp}
 use Rattle.gz_world.specs.Deliveries.{IsSameTold, WasDelivered, WasOpened, WasCrashed}
 use Rattle.gz_world.specs.Told.{ActsBy, StaysBy, RecordedBy, IsReported, ReportsStep, StepsBy, IsReachedBy}
@@ -190,7 +190,7 @@ hand_acts told old new n which effect small allowed h = λ traces fits.
     let none = allowed traces fits in
     let first = first_none (request_refusal s n (numbered (map request_of old.net.items) n)) (reply_refusal which (numbered (map request_of old.net.items) n)) none in
     let tells = subst (λ o. request_refusal s n o ≡ None) by.request first in
-    let k = told_turn told old new traces n r (with_handed (length old.journal.items + 1) which r) (λ a. Handed a reply.1) h.1.1.0 h.1.1.1.0 h.1.1.1.1.0 h.1.1.1.1.1.0 h.1.1.1.1.1.1.0 effect fits small refl refl (may_be_told s n r tells) by in
+    let k = told_turn told old new traces n r (with_handed (length old.journal.items + 1) which r) (hears reply.1) h.1.1.0 h.1.1.1.0 h.1.1.1.1.0 h.1.1.1.1.1.0 h.1.1.1.1.1.1.0 effect fits small refl refl (may_be_told s n r tells) by in
     (k.1.0, (k.1.1.0, acts_done s (events.Reply n which) effect (state_of told k.1.0 new) none (r, (reply, (k.0, (h.1.1.1.1.1.1.1.0, k.1.1.1))))))
 
 pub give_up_acts : {S : Type 0} (told : S → Option Told) (old new : World S) (n : ℕ) (effect : Effect) → IsSmall old → IsAllowedIn told old (events.GiveUp n) → WasGivenUp old new n effect → ActsBy told old (events.GiveUp n) new effect

@@ -1,7 +1,7 @@
 -- A live request is one that the running call awaits, as its client knows it.
 use Rattle.std.proofs.Common.{◌≡◌, ℕ, List, [], ◌∷◌, Some, None, Bool, true, false, refl}
 use Rattle.std.specs.Prelude.{Option, not, is_some, if◌then◌else◌}
-use Rattle.gz_round.specs.History.{Asked, Trace}
+use Rattle.gz_core.specs.History.{Asked, Trace}
 use Rattle.gz_client.specs.declared.client.Client.{Client}
 use Rattle.gz_client.specs.Traces.{Holds, IsAwaited}
 use Rattle.gz_client.proofs.Live.{live_when}

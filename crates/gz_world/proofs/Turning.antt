@@ -7,7 +7,7 @@ use Rattle.gz_config.specs.declared.Config.{Config}
 use Rattle.gz_core.specs.declared.requests.Op.{Op}
 use Rattle.gz_core.specs.declared.requests.Op.TheVariants as ops
 use Rattle.gz_core.specs.declared.requests.Out.{Out}
-use Rattle.gz_round.specs.History.{Action, Sent, GaveIn, Caller, Trace, IsClosing, asked_of, sent_from}
+use Rattle.gz_core.specs.History.{Action, Sent, GaveIn, Caller, Trace, IsClosing, asked_of, sent_from}
 use Rattle.gz_round.specs.Sending.{AreAllowed}
 use Rattle.gz_history.specs.declared.record.CallRec.{CallRec}
 use Rattle.gz_world.specs.States.{RequestAt, with_traces, sent_requests, sent_request}
@@ -111,8 +111,9 @@ allowed_closed c w past closing ms (inr e) h = (let k : AreAllowed c w past (Gav
 
 -- each request weighs 64 at least
 op_heavy : (op : Op) → 64 ≤ op_weight op
-op_heavy (ops.ReadRow key) = omega arith
 op_heavy (ops.WriteRow key expect step row) = omega arith
+op_heavy (ops.PutBlob blob bytes) = omega arith
+op_heavy op = omega arith
 
 pub outs_heavy : (outs : List Out) → 64 * length outs ≤ outs_weight outs
 outs_heavy [] = omega arith

@@ -1,6 +1,6 @@
 -- The state of a world of the program, given the traces of its sessions.
 use Rattle.std.specs.Prelude.{ℕ, Bool, false, List, length, map, Option, option_map, unwrap_or}
-use Rattle.gz_round.specs.History.{Trace}
+use Rattle.gz_core.specs.History.{Trace}
 use Rattle.gz_site.specs.Told.{Told}
 use Rattle.gz_site.specs.Many.{told_at}
 use Rattle.gz_world.specs.States.{State, numbered, request_of}

@@ -1,5 +1,6 @@
 -- The other events, as the program makes them: over the world's own lists.
-use Rattle.std.specs.Prelude.{ℕ, ◌≡◌, ◌≤◌, ◌<◌, ◌+◌, ◌-◌, vec_len, vec_capacity, ◌++◌, ◌∷◌, [], true, false, List, length, map, Option, Some, None, slice_get, slice_set}
+use Rattle.std.specs.Prelude.{ℕ, ◌≡◌, ◌≤◌, ◌<◌, ◌+◌, ◌-◌, vec_len, vec_capacity, ◌++◌, ◌∷◌, [], true, false, List, length, map, Option, Some, None, Vec, slice_get, slice_set}
+use Rattle.std.specs.declared.alloc.Global.{Global}
 use Rattle.gz_core.specs.declared.requests.Reply.{Reply}
 use Rattle.gz_core.specs.declared.requests.Reply.TheVariants as replies
 use Rattle.gz_client.specs.declared.client.Client.{Client}
@@ -25,7 +26,7 @@ use Rattle.gz_world.specs.declared.events.Outcome.TheVariants as outcomes
 use Rattle.gz_world.specs.declared.world.Member.{Member}
 use Rattle.gz_world.specs.declared.world.World.{World}
 
--- the reply to a read, and to a write
+-- the reply to a read, to a write, and to a read of a blob
 abbrev pub read_reply : RowRead → Reply
 read_reply (reads.Row etag row) = replies.Row etag row
 read_reply reads.NoRow = replies.NoRow
@@ -33,6 +34,10 @@ read_reply reads.NoRow = replies.NoRow
 abbrev pub write_reply : RowWrite → Reply
 write_reply (writes.Written etag) = replies.Written etag
 write_reply writes.Changed = replies.Changed
+
+abbrev pub blob_reply : Option (Vec ℕ Global) → Reply
+blob_reply (Some bytes) = replies.Blob bytes.items
+blob_reply None = replies.NoBlob
 
 -- of a write, the votes are kept where it was done
 abbrev pub casts_written : RowWrite → List Cast → List Cast

@@ -2,7 +2,7 @@
 use Rattle.std.specs.Prelude.{ℕ, ◌≡◌, ◌≤◌, ◌<◌, ◌+◌, ◌*◌, ◌-◌, ◌^◌, min, List, [], ◌∷◌, length, map, Option, Some, None, slice_get}
 use Rattle.gz_core.specs.Configurations.{IsConfig}
 use Rattle.gz_config.specs.declared.Config.{Config}
-use Rattle.gz_round.specs.History.{Trace}
+use Rattle.gz_core.specs.History.{Trace}
 use Rattle.gz_round.specs.Starting.{IsWithin}
 use Rattle.gz_client.specs.Traces.{Holds}
 use Rattle.gz_history.specs.declared.record.CallRec.{CallRec}

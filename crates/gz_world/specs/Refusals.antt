@@ -1,7 +1,7 @@
 -- Why an event is skipped: the first reason that holds.
 use Rattle.std.specs.Prelude.{ℕ, ◌==◌, ◌&&◌, ◌||◌, Bool, false, not, nat_lt, nat_le, if◌then◌else◌, List, [], ◌∷◌, length, Option, Some, None, is_some, is_none}
 use Rattle.gz_config.specs.declared.Config.{Config}
-use Rattle.gz_round.specs.History.{Trace}
+use Rattle.gz_core.specs.History.{Trace}
 use Rattle.gz_client.specs.Lowest.{live}
 use Rattle.gz_world.specs.States.{State, RequestAt, numbered}
 use Rattle.gz_world.specs.declared.events.Event.{Event}

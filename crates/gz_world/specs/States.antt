@@ -6,7 +6,7 @@ use Rattle.gz_config.specs.declared.Config.{Config}
 use Rattle.gz_core.specs.declared.requests.Op.{Op}
 use Rattle.gz_core.specs.declared.requests.Out.{Out}
 use Rattle.gz_core.specs.declared.requests.Reply.{Reply}
-use Rattle.gz_round.specs.History.{Trace}
+use Rattle.gz_core.specs.History.{Trace}
 use Rattle.gz_site.specs.Told.{Told}
 use Rattle.gz_history.specs.declared.record.CallRec.{CallRec}
 use Rattle.gz_model.specs.declared.casts.Cast.{Cast}

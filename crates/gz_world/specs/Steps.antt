@@ -1,5 +1,5 @@
 -- What one event does to the world.
-use Rattle.std.specs.Prelude.{ℕ, ◌≡◌, ◌≢◌, ◌+◌, ◌-◌, ◌==◌, true, ◌^◌, min, if◌then◌else◌, List, [], ◌∷◌, ◌++◌, length, Option, Some, None, Ok, Err, MatchOption, slice_get, slice_set, option_map, option_and_then}
+use Rattle.std.specs.Prelude.{ℕ, ◌≡◌, ◌≢◌, ◌+◌, ◌-◌, ◌==◌, true, false, ◌^◌, min, if◌then◌else◌, List, [], ◌∷◌, ◌++◌, length, Option, Some, None, Ok, Err, MatchOption, slice_get, slice_set, option_map, option_and_then}
 use Rattle.gz_core.specs.Names.{Name}
 use Rattle.gz_core.specs.declared.calls.Answer.{Answer}
 use Rattle.gz_core.specs.declared.calls.Call.{Call}
@@ -9,11 +9,14 @@ use Rattle.gz_core.specs.declared.requests.Out.{Out}
 use Rattle.gz_core.specs.declared.requests.Reply.{Reply}
 use Rattle.gz_core.specs.declared.requests.Reply.TheVariants as replies
 use Rattle.gz_core.specs.declared.requests.Turn.{Turn}
-use Rattle.gz_round.specs.History.{Asked, Action, Handed, GaveUp, Trace, IsClosing, begun, turned}
+use Rattle.gz_core.specs.declared.values.Value.{Value}
+use Rattle.gz_core.specs.History.{Asked, Action, Handed, GaveUp, Trace, IsClosing, begun, turned}
+use Rattle.gz_round.specs.Sites.{as_heard, written_by}
+use Rattle.gz_round.specs.Starting.{IsWithin}
 use Rattle.gz_client.specs.Lowest.{IsLowestLive}
 use Rattle.gz_client.specs.Traces.{AllKeepRules, IsAwaited}
 use Rattle.gz_site.specs.Told.{Told, Tells}
-use Rattle.gz_site.specs.Steps.{ReadRowStep, WriteRowStep}
+use Rattle.gz_site.specs.Steps.{ReadRowStep, WriteRowStep, PutBlobStep, DropBlobStep}
 use Rattle.gz_site.specs.declared.sites.RowRead.TheVariants as reads
 use Rattle.gz_site.specs.declared.sites.RowWrite.TheVariants as writes
 use Rattle.gz_site.specs.declared.sites.SiteFault.TheVariants as faults
@@ -115,9 +118,10 @@ pub record SessionMoves (old : State) (session : ℕ) (ts : List Trace) (new : S
   pub traces : (n : ℕ) → new.traces n ≡ with_traces old.traces session ts n
   pub told : AllKeepRules old.cfg session ts
 
--- a session begins a call
-pub record BeginsBy (old : State) (session : ℕ) (call : Call) (turn : Turn) (effect : Effect) (new : State) : Type 0 where
-  pub moves : SessionMoves old session (begun session call (next_of old) turn (old.traces session) ∷ old.traces session) new
+-- a session begins a call, which is within the bounds of an object
+pub record BeginsBy (old : State) (session : ℕ) (call : Call) (own : Option Value) (turn : Turn) (effect : Effect) (new : State) : Type 0 where
+  pub within : IsWithin call
+  pub moves : SessionMoves old session (begun session call own (next_of old) turn (old.traces session) ∷ old.traces session) new
   pub calls : new.calls ≡ old.calls ++ record {
     name = record { session = session; seq = length (old.traces session) + 1 };
     call = call;
@@ -132,7 +136,7 @@ pub record BeginsBy (old : State) (session : ℕ) (call : Call) (turn : Turn) (e
   pub effect_is : effect ≡ turn_effect old session turn
 
 abbrev pub BeginsCall : State → ℕ → Call → Effect → State → Type 0
-BeginsCall old session call effect new = (turn : Turn) × BeginsBy old session call turn effect new
+BeginsCall old session call effect new = (own : Option Value) × ((turn : Turn) × BeginsBy old session call own turn effect new)
 
 -- the record of a call, once it has an answer
 abbrev pub answered : ℕ → Option Answer → CallRec → CallRec
@@ -165,11 +169,15 @@ pub record TakesTurn (old : State) (n : ℕ) (r : RequestAt) (action : Asked →
   pub frame : FrameStays old new
   pub effect_is : effect ≡ turn_effect old r.name.session by.turn
 
+-- a call hears a reply of its request
+abbrev pub hears : Reply → Asked → Action
+hears reply a = Handed a (as_heard (written_by a.op) reply)
+
 -- a reply of a request is handed to its client
 abbrev pub Hands : State → ℕ → ℕ → Effect → State → Type 0
 Hands old n which effect new =
     (r : RequestAt) × ((reply : ℕ × Reply) × ((by : TurnBy) × ((numbered r.replies which ≡ Some reply)
-    × TakesTurn old n r (λ a. Handed a reply.1) by (with_handed (tick_of old) which r) effect new)))
+    × TakesTurn old n r (hears reply.1) by (with_handed (tick_of old) which r) effect new)))
 
 -- a client learns that a request won't be answered
 abbrev pub GivesUp : State → ℕ → Effect → State → Type 0
@@ -179,40 +187,39 @@ GivesUp old n effect new = (r : RequestAt) × ((by : TurnBy) × TakesTurn old n 
 abbrev pub Answers : Told → Op → Reply → Told → Type 0
 Answers old (ops.ReadRow key) (replies.Row etag row) new = ReadRowStep old key (Ok (reads.Row etag row)) new
 Answers old (ops.ReadRow key) replies.NoRow new = ReadRowStep old key (Ok reads.NoRow) new
-Answers old (ops.ReadRow key) (replies.Written etag) new = ⊥
-Answers old (ops.ReadRow key) replies.Changed new = ⊥
 Answers old (ops.ReadRow key) replies.Failed new = ReadRowStep old key (Err faults.Failed) new
-Answers old (ops.WriteRow key expect step row) (replies.Row etag shown) new = ⊥
-Answers old (ops.WriteRow key expect step row) replies.NoRow new = ⊥
 Answers old (ops.WriteRow key expect step row) (replies.Written etag) new = WriteRowStep old key expect row (Ok (writes.Written etag)) new
 Answers old (ops.WriteRow key expect step row) replies.Changed new = WriteRowStep old key expect row (Ok writes.Changed) new
 Answers old (ops.WriteRow key expect step row) replies.Failed new = WriteRowStep old key expect row (Err faults.Failed) new
+Answers old (ops.PutBlob blob bytes) replies.Stored new = PutBlobStep old blob bytes (Ok tt) new
+Answers old (ops.PutBlob blob bytes) replies.Failed new = PutBlobStep old blob bytes (Err faults.Failed) new
+Answers old (ops.GetBlob blob) (replies.Blob bytes) new = (old.blobs blob ≡ Some bytes) × (new ≡ old)
+Answers old (ops.GetBlob blob) replies.NoBlob new = (old.blobs blob ≡ None) × (new ≡ old)
+Answers old (ops.GetBlob blob) replies.Failed new = new ≡ old
+Answers old (ops.DropBlob blob) replies.Dropped new = DropBlobStep old blob (Ok true) new
+Answers old (ops.DropBlob blob) replies.NoBlob new = DropBlobStep old blob (Ok false) new
+Answers old (ops.DropBlob blob) replies.Failed new = DropBlobStep old blob (Err faults.Failed) new
+Answers old op reply new = ⊥
 
 -- a reply is one of those that the operation may have
 abbrev pub IsReplyTo : Op → Reply → Type 0
 IsReplyTo (ops.ReadRow key) (replies.Row etag row) = Unit {0}
 IsReplyTo (ops.ReadRow key) replies.NoRow = Unit {0}
-IsReplyTo (ops.ReadRow key) (replies.Written etag) = ⊥
-IsReplyTo (ops.ReadRow key) replies.Changed = ⊥
-IsReplyTo (ops.ReadRow key) replies.Failed = Unit {0}
-IsReplyTo (ops.WriteRow key expect step row) (replies.Row etag shown) = ⊥
-IsReplyTo (ops.WriteRow key expect step row) replies.NoRow = ⊥
 IsReplyTo (ops.WriteRow key expect step row) (replies.Written etag) = Unit {0}
 IsReplyTo (ops.WriteRow key expect step row) replies.Changed = Unit {0}
-IsReplyTo (ops.WriteRow key expect step row) replies.Failed = Unit {0}
+IsReplyTo (ops.PutBlob blob bytes) replies.Stored = Unit {0}
+IsReplyTo (ops.GetBlob blob) (replies.Blob bytes) = Unit {0}
+IsReplyTo (ops.GetBlob blob) replies.NoBlob = Unit {0}
+IsReplyTo (ops.DropBlob blob) replies.Dropped = Unit {0}
+IsReplyTo (ops.DropBlob blob) replies.NoBlob = Unit {0}
+IsReplyTo op replies.Failed = Unit {0}
+IsReplyTo op reply = ⊥
 
 -- the votes that a reply shows: those of the row that was read, or written
 abbrev pub casts_in : ℕ → Op → Reply → List Cast
 casts_in site (ops.ReadRow key) (replies.Row etag row) = casts_of site key row
-casts_in site (ops.ReadRow key) replies.NoRow = []
-casts_in site (ops.ReadRow key) (replies.Written etag) = []
-casts_in site (ops.ReadRow key) replies.Changed = []
-casts_in site (ops.ReadRow key) replies.Failed = []
-casts_in site (ops.WriteRow key expect step row) (replies.Row etag shown) = []
-casts_in site (ops.WriteRow key expect step row) replies.NoRow = []
 casts_in site (ops.WriteRow key expect step row) (replies.Written etag) = casts_of site key row
-casts_in site (ops.WriteRow key expect step row) replies.Changed = []
-casts_in site (ops.WriteRow key expect step row) replies.Failed = []
+casts_in site op reply = []
 
 -- a request is performed at its site, and the reply is kept
 pub record DeliversBy (old : State) (n : ℕ) (r : RequestAt) (reply : Reply) (effect : Effect) (new : State) : Type 0 where

@@ -1,6 +1,6 @@
 -- What applying an event promises: one step of the state, whatever the sites tell.
 use Rattle.std.specs.Prelude.{ℕ, ◌≡◌, ◌+◌, List, length, Option}
-use Rattle.gz_round.specs.History.{Trace}
+use Rattle.gz_core.specs.History.{Trace}
 use Rattle.gz_site.specs.Told.{Told}
 use Rattle.gz_world.specs.States.{State}
 use Rattle.gz_world.specs.Bridge.{state_of}

@@ -4,12 +4,12 @@ use Rattle.gz_core.specs.Names.{Name}
 use Rattle.gz_core.specs.declared.calls.Call.{Call}
 use Rattle.gz_core.specs.declared.requests.Reply.{Reply}
 use Rattle.gz_core.specs.declared.requests.Turn.{Turn}
-use Rattle.gz_round.specs.History.{Asked, Action, Handed, GaveUp, Trace}
+use Rattle.gz_core.specs.History.{Asked, Action, GaveUp, Trace}
 use Rattle.gz_client.specs.declared.client.Client.{Client}
 use Rattle.gz_client.specs.Traces.{IsSameClient, Begins, Extends, CanLearn}
 use Rattle.gz_history.specs.declared.record.CallRec.{CallRec}
 use Rattle.gz_world.specs.States.{RequestAt, request_of, numbered, with_handed, with_given_up, sent_requests, end_at}
-use Rattle.gz_world.specs.Steps.{sent_pair, answered}
+use Rattle.gz_world.specs.Steps.{sent_pair, answered, hears}
 use Rattle.gz_world.specs.Weights.{capped, call_bytes, outs_weight}
 use Rattle.gz_world.specs.Fits.{Fits}
 use Rattle.gz_world.specs.declared.events.Effect.{Effect}
@@ -17,6 +17,7 @@ use Rattle.gz_world.specs.declared.events.Outcome.TheVariants as outcomes
 use Rattle.gz_world.specs.declared.requests.Request.{Request}
 use Rattle.gz_world.specs.declared.world.Member.{Member}
 use Rattle.gz_world.specs.declared.world.World.{World}
+use Rattle.gz_round.specs.Starting.{IsWithin}
 
 -- the world takes more events
 pub record IsSmall {S : Type 0} (w : World S) : Type 0 where
@@ -64,6 +65,7 @@ effect_of first session turn = record { outcome = outcomes.Done; session = Some 
 -- a call begins, with this client after it and this turn
 pub record BeganBy {S : Type 0} (old new : World S) (session : ℕ) (call : Call) (m : Member) (client : Client) (turn : Turn) (name : Name) (effect : Effect) : Type 0 where
   pub opened : 1 ≤ session
+  pub within : IsWithin call
   pub member : slice_get old.clients.items (session - 1) ≡ Some m
   pub holds : Begins m.client client (length (map request_of old.net.items) + 1) call turn
   pub same : IsSameClient m.client client
@@ -97,7 +99,7 @@ pub record ToldBy {S : Type 0} (old new : World S) (n : ℕ) (r marked : Request
 abbrev pub WasHanded : {S : Type 0} → World S → World S → ℕ → ℕ → Effect → Type 0
 WasHanded old new n which effect =
     (r : RequestAt) × ((reply : ℕ × Reply) × ((m : Member) × ((last : ℕ) × ((c : CallRec) × ((client : Client) × ((turn : Turn) × ((numbered r.replies which ≡ Some reply)
-    × ToldBy old new n r (with_handed (length old.journal.items + 1) which r) (λ a. Handed a reply.1) m last c client turn effect)))))))
+    × ToldBy old new n r (with_handed (length old.journal.items + 1) which r) (hears reply.1) m last c client turn effect)))))))
 
 -- a client learnt that a request won't be answered
 abbrev pub WasGivenUp : {S : Type 0} → World S → World S → ℕ → Effect → Type 0

@@ -37,18 +37,17 @@ column_weight (Decided value) = 64 + value_bytes value
 abbrev pub row_weight : RowAt → ℕ
 row_weight row = 16 + sum_by (λ (c : ℕ × Column). column_weight c.1) row.columns
 
--- a request: 64, and the row that it writes
+-- a request: 64, and the row or the blob that it writes
 abbrev pub op_weight : Op → ℕ
-op_weight (ops.ReadRow key) = 64
 op_weight (ops.WriteRow key expect step row) = 64 + row_weight row
+op_weight (ops.PutBlob blob bytes) = 64 + length bytes
+op_weight op = 64
 
--- a reply: 64, and the row that it shows
+-- a reply: 64, and the row or the blob that it shows
 abbrev pub reply_weight : Reply → ℕ
 reply_weight (replies.Row etag row) = 64 + row_weight row
-reply_weight replies.NoRow = 64
-reply_weight (replies.Written etag) = 64
-reply_weight replies.Changed = 64
-reply_weight replies.Failed = 64
+reply_weight (replies.Blob bytes) = 64 + length bytes
+reply_weight reply = 64
 
 -- the requests that are sent at one event
 abbrev pub outs_weight : List Out → ℕ
@@ -57,5 +56,4 @@ outs_weight outs = sum_by (λ (o : Out). op_weight o.op) outs
 -- the bytes that a call brings, none where it deletes or reads
 abbrev pub call_bytes : Call → ℕ
 call_bytes (calls.Put key bytes) = length bytes
-call_bytes (calls.Delete key) = 0
-call_bytes (calls.Get key) = 0
+call_bytes call = 0

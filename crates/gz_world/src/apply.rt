@@ -1,6 +1,6 @@
 //! One event of the world.
 ghost use Rattle.std.specs.Prelude.{◌≡◌, ℕ, ◌+◌, ◌<◌, ◌≤◌, ◌⊎◌, ◌↔◌, List, length, IfOk, OnErr, Ok, Err, Some, None, IsTrue, true, false, vec_len, vec_capacity};
-ghost use Rattle.gz_round.specs.History.{Trace};
+ghost use Rattle.gz_core.specs.History.{Trace};
 ghost use Rattle.gz_world.specs.declared.events.Effect.{Effect};
 ghost use Rattle.gz_world.specs.declared.events.Entry.{Entry};
 ghost use Rattle.gz_world.specs.declared.events.Event.{Event};

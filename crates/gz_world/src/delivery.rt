@@ -6,7 +6,7 @@ ghost use Rattle.gz_model.specs.declared.casts.Cast.{Cast};
 ghost use Rattle.gz_world.specs.Audit.{casts_of, with_casts, is_known};
 ghost use Rattle.gz_world.specs.States.{RequestAt, request_of, numbered, with_reply};
 ghost use Rattle.gz_world.specs.Steps.{Answers, IsReplyTo, casts_in, quiet};
-ghost use Rattle.gz_world.specs.Deliveries.{IsCounted, IsCountedFor, HasRoomAt, casts_written, read_reply, write_reply, AreTheSame, WasDelivered, IsSameTold};
+ghost use Rattle.gz_world.specs.Deliveries.{IsCounted, IsCountedFor, HasRoomAt, casts_written, blob_reply, read_reply, write_reply, AreTheSame, WasDelivered, IsSameTold};
 ghost use Rattle.gz_world.specs.Fits.{Fits, IsFitting};
 ghost use Rattle.gz_world.specs.Turns.{IsSmall};
 ghost use Rattle.gz_world.specs.Weights.{capped, reply_weight};
@@ -17,9 +17,11 @@ use crate::lookups::item_at;
 use crate::requests::Request;
 use crate::weights::reply_weight;
 use crate::world::World;
-use gz_core::{Etag, Key, Op, Reply, Row, Session, SiteId};
+use gz_core::{BlobName, Etag, Items, Key, Op, Reply, Row, Session, SiteId};
 use gz_model::Cast;
-use gz_site::{RowRead, RowWrite, Site, SiteFault, read_at, write_at};
+use gz_site::{
+    RowRead, RowWrite, Site, SiteFault, drop_blob_at, get_blob_at, put_blob_at, read_at, write_at,
+};
 use std::alloc::{AllocError, Global};
 
 /// The reply to a read.
@@ -135,6 +137,86 @@ fn write<S: Site>(
     }
 }
 
+/// Stores a blob at a site.
+fn put_blob<S: Site>(
+    alloc: Global,
+    sites: &mut Vec<S>,
+    site: SiteId,
+    name: &BlobName,
+    bytes: &[u8],
+) -> Result<Reply, AllocError>
+    requires { site < length sites.old.items }
+    ensures kind { IfOk result (λ reply. IsReplyTo (Op.PutBlob name.now bytes.now) reply) }
+    ensures step { IfOk result (λ reply. TellsAt S.told sites.old.items site sites.new.items (λ old new. Answers old (Op.PutBlob name.now bytes.now) reply new)) }
+    ensures same { OnErr result (TellsAt S.told sites.old.items site sites.new.items (λ old new. new ≡ old)) }
+    ensures len { length sites.new.items ≡ length sites.old.items }
+    ensures others { OthersStay sites.old.items site sites.new.items }
+    ensures fault { IfOk result (λ reply. IsCounted S.faults sites.old.items site sites.new.items reply) }
+{
+    match put_blob_at(alloc, sites, site.index(), name, bytes) {
+        Ok(()) => Ok(Reply::Stored),
+        Err(SiteFault::Failed) => Ok(Reply::Failed),
+        Err(SiteFault::NoMemory) => Err(AllocError),
+    }
+}
+
+/// The reply to a read of a blob.
+fn blob_reply(found: Option<Vec<u8>>) -> Reply
+    ensures { result ≡ blob_reply found }
+{
+    match found {
+        Some(bytes) => Reply::Blob {
+            bytes: Items::from_vec(bytes),
+        },
+        None => Reply::NoBlob,
+    }
+}
+
+/// Reads a blob at a site.
+fn get_blob<S: Site>(
+    alloc: Global,
+    sites: &mut Vec<S>,
+    site: SiteId,
+    name: &BlobName,
+) -> Result<Reply, AllocError>
+    requires { site < length sites.old.items }
+    ensures kind { IfOk result (λ reply. IsReplyTo (Op.GetBlob name.now) reply) }
+    ensures step { IfOk result (λ reply. TellsAt S.told sites.old.items site sites.new.items (λ old new. Answers old (Op.GetBlob name.now) reply new)) }
+    ensures same { OnErr result (TellsAt S.told sites.old.items site sites.new.items (λ old new. new ≡ old)) }
+    ensures len { length sites.new.items ≡ length sites.old.items }
+    ensures others { OthersStay sites.old.items site sites.new.items }
+    ensures fault { IfOk result (λ reply. IsCounted S.faults sites.old.items site sites.new.items reply) }
+{
+    match get_blob_at(alloc, sites, site.index(), name) {
+        Ok(found) => Ok(blob_reply(found)),
+        Err(SiteFault::Failed) => Ok(Reply::Failed),
+        Err(SiteFault::NoMemory) => Err(AllocError),
+    }
+}
+
+/// Takes a blob away at a site.
+fn drop_blob<S: Site>(
+    alloc: Global,
+    sites: &mut Vec<S>,
+    site: SiteId,
+    name: &BlobName,
+) -> Result<Reply, AllocError>
+    requires { site < length sites.old.items }
+    ensures kind { IfOk result (λ reply. IsReplyTo (Op.DropBlob name.now) reply) }
+    ensures step { IfOk result (λ reply. TellsAt S.told sites.old.items site sites.new.items (λ old new. Answers old (Op.DropBlob name.now) reply new)) }
+    ensures same { OnErr result (TellsAt S.told sites.old.items site sites.new.items (λ old new. new ≡ old)) }
+    ensures len { length sites.new.items ≡ length sites.old.items }
+    ensures others { OthersStay sites.old.items site sites.new.items }
+    ensures fault { IfOk result (λ reply. IsCounted S.faults sites.old.items site sites.new.items reply) }
+{
+    match drop_blob_at(alloc, sites, site.index(), name) {
+        Ok(true) => Ok(Reply::Dropped),
+        Ok(false) => Ok(Reply::NoBlob),
+        Err(SiteFault::Failed) => Ok(Reply::Failed),
+        Err(SiteFault::NoMemory) => Err(AllocError),
+    }
+}
+
 /// Performs an operation at a site. Memory is taken before the site is changed.
 fn perform<S: Site>(
     alloc: Global,
@@ -161,6 +243,9 @@ fn perform<S: Site>(
             row,
             ..
         } => write(alloc, sites, casts, site, key, *expect, row),
+        Op::PutBlob { name, bytes } => put_blob(alloc, sites, site, name, bytes.as_slice()),
+        Op::GetBlob { name } => get_blob(alloc, sites, site, name),
+        Op::DropBlob { name } => drop_blob(alloc, sites, site, name),
     }
 }
 

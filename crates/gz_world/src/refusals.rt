@@ -1,7 +1,7 @@
 //! Why an event is skipped. Takes no memory.
 ghost use Rattle.std.specs.Prelude.{◌<◌, ◌-◌, ◌^◌, Some, None, ◌≡◌, ℕ, ◌↔◌, List, IsTrue, length, option_copied, map};
 ghost use Rattle.gz_core.specs.declared.calls.Call.{Call};
-ghost use Rattle.gz_round.specs.History.{Trace};
+ghost use Rattle.gz_core.specs.History.{Trace};
 ghost use Rattle.gz_world.specs.States.{numbered, request_of};
 ghost use Rattle.gz_world.specs.Bridge.{state_of, crashed_in};
 ghost use Rattle.gz_world.specs.Refusals.{is_open, session_refusal, request_refusal, reply_refusal, refusal_of, or_next_skip, is_running, is_live};

@@ -3,13 +3,13 @@ ghost use Rattle.std.specs.Prelude.{min, ◌≡◌, ℕ, ◌+◌, ◌-◌, ◌^�
 ghost use Rattle.std.specs.Option.{ForSome, option_map_or};
 ghost use Rattle.gz_core.specs.declared.requests.Turn.{Turn};
 ghost use Rattle.gz_core.specs.declared.requests.Reply.{Reply};
-ghost use Rattle.gz_round.specs.History.{Trace, Asked, Action, Handed, GaveUp};
+ghost use Rattle.gz_core.specs.History.{Trace, Asked, Action, GaveUp};
 ghost use Rattle.gz_client.specs.declared.client.Client.{Client};
 ghost use Rattle.gz_round.specs.Starting.{IsWithin};
 ghost use Rattle.gz_client.specs.Traces.{CanBegin, CanLearn, IsSameClient, Begins, Extends};
 ghost use Rattle.gz_history.specs.declared.record.CallRec.{CallRec};
 ghost use Rattle.gz_world.specs.States.{RequestAt, numbered, request_of, with_handed, with_given_up, sent_requests, end_at};
-ghost use Rattle.gz_world.specs.Steps.{sent_pair, answered};
+ghost use Rattle.gz_world.specs.Steps.{sent_pair, answered, hears};
 ghost use Rattle.gz_world.specs.Weights.{capped, call_bytes, outs_weight};
 ghost use Rattle.gz_world.specs.Fits.{Fits, IsFitting};
 ghost use Rattle.gz_world.specs.declared.world.Member.{Member};
@@ -120,7 +120,7 @@ fn begun(
     Moved::new(session, first, client, turn)
 }
 
-/// The turn of a client to which a reply of a request is handed.
+/// The turn of a client to which a reply of a request is handed, as its call hears it.
 fn handed(
     alloc: Global,
     session: Session,
@@ -131,7 +131,7 @@ fn handed(
 ) -> Result<Moved, AllocError>
     requires told { CanLearn client.now n first }
     requires first { first < 2 ^ 31 }
-    ensures holds { IfOk result (λ moved. Extends client.now moved.client n first (λ a. Handed a reply.now) moved.turn) }
+    ensures holds { IfOk result (λ moved. Extends client.now moved.client n first (hears reply.now) moved.turn) }
     ensures same { IfOk result (λ moved. IsSameClient client.now moved.client) }
     ensures told { IfOk result (λ moved. moved.effect ≡ effect_of first session moved.turn) }
 {

@@ -45,22 +45,24 @@ pub fn row_weight(row: &Row) -> u64
     weight
 }
 
-/// A request: 64, and the row that it writes.
+/// A request: 64, and the row or the blob that it writes.
 pub fn op_weight(op: &Op) -> u64
     ensures { result ≡ capped (op_weight op.now) }
 {
     match op {
-        Op::ReadRow { .. } => 64,
         Op::WriteRow { row, .. } => row_weight(row).saturating_add(64),
+        Op::PutBlob { bytes, .. } => (bytes.len() as u64).saturating_add(64),
+        _ => 64,
     }
 }
 
-/// A reply: 64, and the row that it shows.
+/// A reply: 64, and the row or the blob that it shows.
 pub fn reply_weight(reply: &Reply) -> u64
     ensures { result ≡ capped (reply_weight reply.now) }
 {
     match reply {
         Reply::Row { row, .. } => row_weight(row).saturating_add(64),
+        Reply::Blob { bytes } => (bytes.len() as u64).saturating_add(64),
         _ => 64,
     }
 }
@@ -82,6 +84,6 @@ pub fn call_bytes(call: &Call) -> u64
 {
     match call {
         Call::Put { bytes, .. } => bytes.len() as u64,
-        Call::Delete { .. } | Call::Get { .. } => 0,
+        _ => 0,
     }
 }

@@ -13,13 +13,10 @@ use gz_world::{Entry, Outcome, World};
 use std::alloc::Global;
 use std::test::Fail;
 
-/// The lines of a short text.
+/// The lines of a text.
 fn lines(alloc: Global, text: &str) -> Option<Vec<Line>>
     ensures { IfSome result (λ lines. All IsBoundedLine lines.items) }
 {
-    if text.len() >= 200 {
-        return None;
-    }
     match read_schedule(alloc, text.as_bytes()) {
         Ok(lines) => Some(lines),
         Err(_) => None,

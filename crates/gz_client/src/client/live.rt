@@ -1,7 +1,7 @@
 //! Which requests a client awaits.
 ghost use Rattle.std.specs.Prelude.{◌≡◌, ℕ, ◌==◌, List, nat_lt};
 ghost use Rattle.std.specs.List.{list_any};
-ghost use Rattle.gz_round.specs.History.{Trace};
+ghost use Rattle.gz_core.specs.History.{Trace};
 ghost use Rattle.gz_round.specs.Awaiting.{has_number};
 ghost use Rattle.gz_client.specs.Traces.{Holds, live};
 ghost use Rattle.gz_client.specs.Lowest.{IsLowestLive};

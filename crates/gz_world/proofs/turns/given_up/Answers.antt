@@ -1,5 +1,5 @@
 use Rattle.std.proofs.Common.{subst, sym}
-use Rattle.gz_round.specs.History.{GaveUp}
+use Rattle.gz_core.specs.History.{GaveUp}
 use Rattle.gz_client.specs.Traces.{Extends}
 use Rattle.gz_world.specs.declared.turns.Moved.{Moved}
 use Rattle.gz_world.proofs.Results.{if_ok_map}

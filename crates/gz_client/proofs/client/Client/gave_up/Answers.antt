@@ -1,6 +1,6 @@
 use Rattle.std.proofs.Common.{◌∷◌, refl}
 use Rattle.std.proofs.lemmas.Result.{IfOk-weaker}
-use Rattle.gz_round.specs.History.{GaveUp}
+use Rattle.gz_core.specs.History.{GaveUp}
 use Rattle.gz_round.proofs.Numbers.{numbered_gave_up}
 use Rattle.gz_client.specs.Traces.{CanLearn}
 use Rattle.gz_client.proofs.Holding.{run_held, about, acted_extends, told_runs, told_site, told_round, can_hear}

@@ -1,6 +1,7 @@
 use Rattle.std.proofs.Common.{◌∷◌, refl}
 use Rattle.std.proofs.lemmas.Result.{IfOk-weaker}
-use Rattle.gz_round.specs.History.{Handed}
+use Rattle.gz_core.specs.History.{Handed}
+use Rattle.gz_round.specs.Sites.{as_heard, written_by}
 use Rattle.gz_round.proofs.Numbers.{numbered_handed}
 use Rattle.gz_client.specs.Traces.{CanLearn}
 use Rattle.gz_client.proofs.Holding.{run_held, about, acted_extends, told_runs, told_site, told_round, can_hear}
@@ -30,15 +31,15 @@ pub take_turn-requires-clause-ready : goal.take_turn-requires-clause-ready
 take_turn-requires-clause-ready c =
     let k : CanLearn c.args.self.now c.args.n c.args.first = c.requires.told in
     let i = about c.args.self.now c.in_ok-run.run' c.args.n c.args.first c.site_of-at.result k.0 k.1 k.2 k.3 c.in_ok-run.ensures c.site_of-at.ensures k.4 k.5 in
-    (k.1.caller, k.2, (Handed k.3 c.args.answer.now) ∷ k.1.actions, c.in_ok-note_reply.ensures.ready c.args.self.now.config k.1.caller k.2 k.1.actions k.3 i.inside i.awaits i.ready)
+    (k.1.caller, k.2, (Handed k.3 (as_heard (written_by k.3.op) c.args.answer.now)) ∷ k.1.actions, c.in_ok-note_reply.ensures.ready c.args.self.now.config k.1.caller k.2 k.1.actions k.3 i.inside i.awaits i.ready)
 
 pub returns-clause-ok : goal.returns-clause-ok
 returns-clause-ok c =
     IfOk-weaker c.take_turn.result _ _ (λ after acted. λ next t ts a h awaited l.
     let k = run_held c.args.self.now next t ts c.in_ok-run.run' c.in_ok-run.ensures h in
     let i = about c.args.self.now c.in_ok-run.run' c.args.n c.args.first c.site_of-at.result next t ts a c.in_ok-run.ensures c.site_of-at.ensures h awaited in
-    acted_extends c.args.self.now after.0 c.in_ok-run.run' c.note_reply.new.self c.args.first after.1 (Handed a c.args.answer.now) next t ts c.in_ok-run.ensures acted h l refl
-    (numbered_handed c.args.self.now.config t.actions a c.args.answer.now next c.args.first l k.numbered) (c.in_ok-note_reply.ensures.ready c.args.self.now.config t.caller ts t.actions a i.inside i.awaits i.ready)) c.take_turn.ensures.ok
+    acted_extends c.args.self.now after.0 c.in_ok-run.run' c.note_reply.new.self c.args.first after.1 (Handed a (as_heard (written_by a.op) c.args.answer.now)) next t ts c.in_ok-run.ensures acted h l refl
+    (numbered_handed c.args.self.now.config t.actions a (as_heard (written_by a.op) c.args.answer.now) next c.args.first l k.numbered) (c.in_ok-note_reply.ensures.ready c.args.self.now.config t.caller ts t.actions a i.inside i.awaits i.ready)) c.take_turn.ensures.ok
 
 pub returns-clause-same : goal.returns-clause-same
 returns-clause-same c = c.take_turn.ensures.same
@@ -47,4 +48,4 @@ pub take_turn-requires-clause-round : goal.take_turn-requires-clause-round
 take_turn-requires-clause-round c =
     let k : CanLearn c.args.self.now c.args.n c.args.first = c.requires.told in
     let i = about c.args.self.now c.in_ok-run.run' c.args.n c.args.first c.site_of-at.result k.0 k.1 k.2 k.3 c.in_ok-run.ensures c.site_of-at.ensures k.4 k.5 in
-    told_round c.args.self.now c.note_reply.new.self c.args.n c.args.first (Handed k.3 c.args.answer.now) k (c.in_ok-note_reply.ensures.ready c.args.self.now.config k.1.caller k.2 k.1.actions k.3 i.inside i.awaits i.ready) refl
+    told_round c.args.self.now c.note_reply.new.self c.args.n c.args.first (Handed k.3 (as_heard (written_by k.3.op) c.args.answer.now)) k (c.in_ok-note_reply.ensures.ready c.args.self.now.config k.1.caller k.2 k.1.actions k.3 i.inside i.awaits i.ready) refl

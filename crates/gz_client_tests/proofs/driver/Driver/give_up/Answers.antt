@@ -1,4 +1,4 @@
-use Rattle.gz_round.specs.History.{Asked, GaveUp}
+use Rattle.gz_core.specs.History.{Asked, GaveUp}
 use Rattle.gz_client_tests.proofs.Driving.{held_told}
 use Rattle.gz_client_tests.proofs.driver.Driver.give_up.Goals as goal
 

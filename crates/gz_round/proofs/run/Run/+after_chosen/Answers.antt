@@ -3,7 +3,7 @@ use Rattle.std.proofs.lemmas.Bool.{both_ways}
 use Rattle.gz_pick.specs.Looks.{highest_of}
 use Rattle.gz_round.specs.Following.{MayPass}
 use Rattle.gz_round.specs.Sending.{MayFastVote}
-use Rattle.gz_round.specs.Standing.{IsUnpromised}
+use Rattle.gz_round.specs.Sent.{IsUnpromised}
 use Rattle.gz_round.specs.Evidence.{NoneEvident}
 use Rattle.gz_round.proofs.Known.{known_low, none_evident}
 use Rattle.gz_round.proofs.Follows.{evident_highest, chosen_means, other_means, own_of, pass_from}
@@ -15,7 +15,7 @@ returns-then-is_own t c = λ w past ms h m. chosen_means c.args.config.now w pas
 pub next-next-requires : goal.next-next-requires
 next-next-requires t c =
     let seen : c.args.version ≤ highest_of c.args.self.now.rows = evident_highest c.args.config.now c.args.self.now.rows c.args.version c.args.site c.requires.evident in
-    let low = known_low c.args.config.now c.args.self.now c.requires.kept.2 c.requires.kept.3.knows in
+    let low = known_low c.args.config.now c.requires.kept.0 c.requires.kept.1 c.args.self.now c.requires.kept.2 c.requires.kept.3 in
     omega arith
 
 pub after_chosen-requires : goal.after_chosen-requires

@@ -1,7 +1,7 @@
 use Rattle.std.proofs.Common.{ap, length, arith}
 use Rattle.gz_round.specs.Following.{CanAsk}
 use Rattle.std.proofs.Common.{sym, subst}
-use Rattle.gz_round.specs.History.{sent_from}
+use Rattle.gz_core.specs.History.{sent_from}
 use Rattle.gz_round.specs.Following.{Asks}
 use Rattle.gz_round.proofs.run.Run.first_pass.Goals as goal
 

@@ -1,6 +1,6 @@
 use Rattle.std.proofs.Common.{◌≡◌, ℕ, List, nat_lt}
 use Rattle.gz_config.specs.declared.Config.{Config}
-use Rattle.gz_round.specs.History.{Action}
+use Rattle.gz_core.specs.History.{Action}
 use Rattle.gz_round.specs.Standing.{Knows}
 use Rattle.gz_round.specs.Numbering.{AreNumbered, live_where}
 use Rattle.gz_round.proofs.run.Run.live_at.Given as goal

@@ -1,8 +1,7 @@
 use Rattle.std.proofs.Common.{arith}
 use Rattle.std.proofs.Common.{◌≡◌, None, sym, subst}
-use Rattle.gz_core.specs.Calls.{own_value}
 use Rattle.gz_round.specs.LookBack.{IsLookedBack}
-use Rattle.gz_round.specs.History.{sent_from}
+use Rattle.gz_core.specs.History.{sent_from}
 use Rattle.gz_round.specs.Following.{HasTurned}
 use Rattle.gz_round.specs.Acting.{CanPrepare}
 use Rattle.gz_round.proofs.Turns.{going_sent, going_back, evidence_sent, evidence_back}
@@ -17,7 +16,7 @@ ask_all-requires-clause-asks c =
 pub returns : goal.returns
 returns c = λ w past ms p.
     let done = c.in_ok-ask_all.ensures.asked w past ms (prepared_asks c.args.config.now w past c.args.self.now (sent_from c.args.first c.args.send ms) c.args.version c.args.ballot c.in_ok-found.found p c.requires.ballot) in
-    let back : own_value w.name w.call ≡ None → IsLookedBack c.args.config.now (sent_from c.args.first c.ask_all.new.send ms) c.args.version c.args.ballot c.in_ok-found.found = λ reads. looked_back c.args.config.now w past c.args.self.now ms c.args.first c.args.send c.ask_all.new.send c.args.version c.args.ballot c.in_ok-found.found p c.requires.ballot (c.in_ok-found.ensures w past (sent_from c.args.first c.args.send ms) p.stands reads) in
+    let back : w.own ≡ None → IsLookedBack c.args.config.now (sent_from c.args.first c.ask_all.new.send ms) c.args.version c.args.ballot c.in_ok-found.found = λ reads. looked_back c.args.config.now w past c.args.self.now ms c.args.first c.args.send c.ask_all.new.send c.args.version c.args.ballot c.in_ok-found.found p c.requires.ballot (c.in_ok-found.ensures w past (sent_from c.args.first c.args.send ms) p.stands reads) in
     subst (HasTurned c.args.config.now w past c.ask_all.new.self (sent_from c.args.first c.ask_all.new.send ms)) (sym c.prepared-answer.ensures)
     (prepared_turned c.args.config.now w past c.args.self.now c.ask_all.new.self (sent_from c.args.first c.args.send ms) c.args.version c.args.ballot c.in_ok-found.found (sent_from c.args.first c.ask_all.new.send ms) c.requires.config p c.requires.ballot (going_sent c.args.config.now c.args.first c.ask_all.new.send ms (going_back c.args.config.now c.args.first c.args.send ms p.going)) (evidence_sent c.args.config.now c.args.version c.args.first c.ask_all.new.send ms (evidence_back c.args.config.now c.args.version c.args.first c.args.send ms p.none)) back done.0 done.1 c.in_ok-ask_all.ensures.left)
 

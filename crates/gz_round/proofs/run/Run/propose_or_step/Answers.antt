@@ -1,7 +1,7 @@
 use Rattle.std.proofs.lemmas.Result.{IfOk-weaker}
 use Rattle.gz_round.specs.Acting.{CanAct}
 use Rattle.std.proofs.Common.{[], sym, subst}
-use Rattle.gz_round.specs.History.{sent_from}
+use Rattle.gz_core.specs.History.{sent_from}
 use Rattle.gz_round.specs.Following.{HasTurned}
 use Rattle.gz_round.specs.Acting.{ChoiceMeans}
 use Rattle.gz_round.proofs.GivingIn.{given_in_turned}

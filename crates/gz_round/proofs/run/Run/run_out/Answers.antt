@@ -1,6 +1,6 @@
 use Rattle.std.proofs.Common.{sym, subst}
 use Rattle.std.proofs.lemmas.Result.{IfOk-weaker}
-use Rattle.gz_round.specs.History.{sent_from}
+use Rattle.gz_core.specs.History.{sent_from}
 use Rattle.gz_round.specs.Acting.{CanRunOut, Prepares}
 use Rattle.gz_round.proofs.GivingIn.{ended_turned}
 use Rattle.gz_round.proofs.Prepares.{out_prepares}

@@ -1,7 +1,7 @@
 use Rattle.std.proofs.Common.{ap, length, arith, ◌∙◌}
 use Rattle.std.proofs.Common.{sym, subst}
 use Rattle.std.proofs.lemmas.Result.{IfOk-weaker}
-use Rattle.gz_round.specs.History.{sent_from}
+use Rattle.gz_core.specs.History.{sent_from}
 use Rattle.gz_round.specs.Acting.{CanCarry, Prepares}
 use Rattle.gz_round.proofs.Prepares.{overtaken_prepares}
 use Rattle.gz_round.proofs.run.Run.step_or_prepare.Goals as goal

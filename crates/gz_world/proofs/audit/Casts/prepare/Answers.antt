@@ -1,5 +1,4 @@
-use Rattle.std.proofs.Common.{◌≡◌, List, ◌∙◌, ap}
-use Rattle.gz_model.specs.declared.casts.Cast.{Cast}
+use Rattle.std.proofs.Common.{◌∙◌, ap}
 use Rattle.gz_world.specs.Audit.{with_casts, casts_of}
 use Rattle.gz_world.proofs.Unlisted.{with_unlisted_casts}
 use Rattle.gz_world.proofs.audit.Casts.prepare.Goals as goal

@@ -2,7 +2,6 @@ use Rattle.std.proofs.Common.{◌≡◌, ℕ, [], take, true}
 use Rattle.std.specs.Prelude.{All, fold}
 use Rattle.std.specs.List.{filter_map}
 use Rattle.gz_core.specs.declared.rows.Column.{Column}
-use Rattle.gz_model.specs.declared.casts.Cast.{Cast}
 use Rattle.gz_world.specs.Audit.{cast_of, is_known, with_unlisted}
 use Rattle.gz_world.proofs.audit.Casts.unlisted.Given as goal
 

@@ -19,7 +19,7 @@ returns-clause-ok g c =
           (
             c.next_name-name.result,
             began_parts old room c.start.new.self c.args.session c.args.call.now c.in_ok-call.call m moved.client moved.turn c.next_name-name.result c.next_number-first.result c.next_tick-tick.result c.start.result
-                c.make_room_for.ensures.same c.next_number-first.ensures.same c.next_tick-tick.ensures c.member_of.ensures.positive c.in_ok-call.ensures.copy there
+                c.make_room_for.ensures.same c.next_number-first.ensures.same c.next_tick-tick.ensures c.member_of.ensures.positive c.requires.within c.in_ok-call.ensures.copy there
                 c.in_ok-moved.ensures.holds c.in_ok-moved.ensures.same c.next_name-name.ensures started (c.start.ensures.told ∙ c.in_ok-moved.ensures.told),
           ),
         ),

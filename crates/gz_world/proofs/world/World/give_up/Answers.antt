@@ -3,7 +3,7 @@ use Rattle.std.specs.Prelude.{slice_get, slice_set, option_map}
 use Rattle.std.proofs.lemmas.Option.{slice_get-map}
 use Rattle.std.proofs.lemmas.List.{length-map}
 use Rattle.gz_client.specs.Traces.{CanLearn}
-use Rattle.gz_round.specs.History.{GaveUp}
+use Rattle.gz_core.specs.History.{GaveUp}
 use Rattle.gz_world.specs.States.{RequestAt, request_of, with_given_up}
 use Rattle.gz_world.specs.Turns.{HasCall, WentOn, effect_of}
 use Rattle.gz_world.proofs.Places.{get_below, get_there}

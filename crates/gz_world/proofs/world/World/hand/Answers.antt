@@ -3,8 +3,8 @@ use Rattle.std.specs.Prelude.{slice_get, slice_set, option_map}
 use Rattle.std.proofs.lemmas.Option.{slice_get-map}
 use Rattle.std.proofs.lemmas.List.{length-map}
 use Rattle.gz_client.specs.Traces.{CanLearn}
-use Rattle.gz_round.specs.History.{Handed}
 use Rattle.gz_world.specs.States.{RequestAt, request_of, with_handed}
+use Rattle.gz_world.specs.Steps.{hears}
 use Rattle.gz_world.specs.Turns.{HasCall, WentOn, effect_of}
 use Rattle.gz_world.proofs.Places.{get_below, get_there}
 use Rattle.gz_world.proofs.Members.{place_numbered}
@@ -64,7 +64,7 @@ returns-clause-ok g c =
     let went = subst (λ s. WentOn (record room { net = c.hand_at.new.net }) c.after_turn.new.self s tick m call.last rec.0 moved.client moved.turn) own
     (c.after_turn.ensures.went m call.last rec.0 (subst (λ v. slice_get v.items (c.asker-session.result - 1) ≡ Some m) (sym c.make_room.ensures.clients) c.member_of.ensures.there) call.is (subst (λ v. slice_get v.items call.last ≡ Some rec.0) (sym c.make_room.ensures.calls) rec.1)) in
     let effect = c.after_turn.ensures.told ∙ c.in_ok-moved.ensures.told ∙ ap (λ s. effect_of first s moved.turn) own in
-    let whole = told_parts old room (record room { net = c.hand_at.new.net }) c.after_turn.new.self c.args.n r (with_handed (length old.journal.items + 1) c.args.which r) (λ a. Handed a c.reply_of-reply.result.now.1) m call.last rec.0 moved.client moved.turn first tick c.after_turn.result
+    let whole = told_parts old room (record room { net = c.hand_at.new.net }) c.after_turn.new.self c.args.n r (with_handed (length old.journal.items + 1) c.args.which r) (hears c.reply_of-reply.result.now.1) m call.last rec.0 moved.client moved.turn first tick c.after_turn.result
     c.make_room.ensures.same
     (record {
       cfg = refl;
