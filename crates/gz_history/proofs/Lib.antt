@@ -1,3 +1,4 @@
 mod Breaking
 mod Legalities
 pub mod Searching
+mod Serials

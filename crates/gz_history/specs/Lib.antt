@@ -2,3 +2,4 @@ pub mod Answers
 pub mod Broken
 pub mod Legal
 pub mod Log
+pub mod Serial

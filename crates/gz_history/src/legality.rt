@@ -207,7 +207,7 @@ fn keep_order(a: &CallRec, b: &CallRec) -> bool
 }
 
 /// The write that the call's answer names.
-fn named(a: &CallRec) -> Option<PutName>
+pub fn named(a: &CallRec) -> Option<PutName>
     ensures { result ≡ names a.now.name a.now.answer }
 {
     match &a.answer {
@@ -217,7 +217,7 @@ fn named(a: &CallRec) -> Option<PutName>
 }
 
 /// The version that the call's answer shows to exist, 0 where it says that there is none.
-fn shown(a: &CallRec) -> Option<u64>
+pub fn shown(a: &CallRec) -> Option<u64>
     ensures { result ≡ shows a.now.answer }
 {
     match &a.answer {

@@ -4,8 +4,10 @@
 pub mod legality;
 pub mod log;
 pub mod record;
+pub mod serial;
 mod text;
 
 pub use legality::{Broken, is_history, legal};
 pub use log::log_text;
 pub use record::CallRec;
+pub use serial::serialise;
