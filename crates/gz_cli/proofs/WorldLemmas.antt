@@ -1,9 +1,8 @@
 -- What holds of the world that a run leaves.
-use Rattle.std.proofs.Common.{ℕ, zero, suc, ◌≡◌, ◌≤◌, ◌<◌, List, [], ◌∷◌, ◌++◌, Some, None, length, map, refl, ap, sym, ◌∙◌, subst, arith, inl, inr, false}
+use Rattle.std.proofs.Common.{ℕ, zero, suc, ◌≡◌, ◌≤◌, ◌<◌, List, [], ◌∷◌, ◌++◌, length, map, refl, ap, sym, ◌∙◌, subst, arith, inl, inr, false}
 use Rattle.std.specs.Prelude.{Option, IfSome, IsSome, option_map, unwrap_or}
 use Rattle.gz_core.specs.Configurations.{IsConfig}
 use Rattle.gz_config.specs.declared.Config.{Config}
-use Rattle.gz_core.specs.History.{Trace}
 use Rattle.gz_site.specs.Told.{Told, IsEmpty, nothing}
 use Rattle.gz_site.specs.Memory.{memory}
 use Rattle.gz_site.specs.declared.memory.MemSite.{MemSite}
@@ -12,7 +11,6 @@ use Rattle.gz_history.specs.Legal.{IsLegal}
 use Rattle.gz_script.specs.Plays.{Plays, PlaysInPart, ChangesBy}
 use Rattle.gz_lines.specs.declared.line.Line.{Line}
 use Rattle.gz_world.specs.Bridge.{state_of, crashed_in}
-use Rattle.gz_world.specs.Fits.{Fits}
 use Rattle.gz_world.specs.Opening.{AreEmpty, IsOpened}
 use Rattle.gz_world.specs.Reached.{IsOpening, IsReached, opened, stepped, AllTell}
 use Rattle.gz_world.specs.States.{State, request_of}

@@ -8,7 +8,7 @@ use Rattle.gz_core.specs.Slots.{Act, VotesClassic}
 use Rattle.gz_config.specs.declared.Config.{Config}
 use Rattle.gz_core.proofs.Ballots.{name_refl}
 use Rattle.gz_core.proofs.Counting.{count_within, count_weaker}
-use Rattle.gz_core.specs.History.{Caller, Trace}
+use Rattle.gz_core.specs.History.{Trace}
 use Rattle.gz_round.specs.Shown.{IsShown}
 use Rattle.gz_client.specs.Traces.{AllKeepRules, IsAnswered}
 use Rattle.gz_site.specs.Told.{Told}

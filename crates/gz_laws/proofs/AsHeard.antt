@@ -8,7 +8,6 @@ use Rattle.gz_round.specs.declared.hearing.Seen.{Seen}
 use Rattle.gz_round.specs.Sites.{as_heard, if_it_stands, can_stand, seen_in, written_by}
 use Rattle.gz_laws.specs.Carried.{HasReply}
 use Rattle.gz_world.specs.States.{RequestAt}
-use Rattle.gz_world.specs.Steps.{hears}
 
 stands_or_failed : (row : RowAt) (reply : Reply) → (if_it_stands row reply ≡ reply) ⊎ (if_it_stands row reply ≡ Failed)
 stands_or_failed row reply = elim (can_stand row) as (λ b. ((if b then reply else Failed) ≡ reply) ⊎ ((if b then reply else Failed) ≡ Failed)) [ true ↦ inl refl | false ↦ inr refl ]

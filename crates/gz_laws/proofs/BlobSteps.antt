@@ -1,5 +1,5 @@
 -- An operation on a blob leaves the rows and the tags of its site as they were, and its reply shows no row.
-use Rattle.std.proofs.Common.{◌≡◌, inl, inr, true, false, None, refl, ap}
+use Rattle.std.proofs.Common.{◌≡◌, inl, inr, false, None, refl, ap}
 use Rattle.gz_core.specs.History.{is_row_request}
 use Rattle.gz_core.specs.declared.requests.Op.{Op}
 use Rattle.gz_core.specs.declared.requests.Op.TheVariants.{ReadRow, WriteRow, PutBlob, GetBlob, DropBlob}

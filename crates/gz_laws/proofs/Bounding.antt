@@ -1,49 +1,33 @@
 -- Each step keeps versions and rounds within their bounds.
-use Rattle.std.proofs.Common.{◌≡◌, ◌≢◌, ℕ, zero, suc, ◌+◌, ◌*◌, ◌-◌, ◌≤◌, ◌<◌, ◌⊎◌, inl, inr, List, [], ◌∷◌, ◌++◌, Some, None, Bool, true, false, length, refl, ap, sym, ◌∙◌, subst, arith, length-append}
-use Rattle.std.proofs.lemmas.Bool.{cases_eq, cases_Bool, and_parts, or_cases, eqb-true}
-use Rattle.std.proofs.lemmas.Bool.Decides.{nat_tests}
-use Rattle.std.specs.Prelude.{Option, MatchOption, ◌==◌, ◌&&◌, ◌||◌, max, nat_le, cond, if◌then◌else◌, is_some, slice_get, slice_set}
+use Rattle.std.proofs.Common.{◌≡◌, ℕ, ◌+◌, ◌≤◌, ◌⊎◌, inl, inr, List, [], ◌∷◌, Some, None, Bool, true, false, refl, ap, sym, subst, arith}
+use Rattle.std.proofs.lemmas.Bool.{and_parts, or_cases}
+use Rattle.std.specs.Prelude.{Option, ◌==◌, ◌&&◌, ◌||◌, nat_le, if◌then◌else◌}
 use Rattle.gz_config.specs.declared.Config.{Config}
 use Rattle.gz_core.specs.Configurations.{IsConfig}
-use Rattle.gz_core.specs.Counts.{count_sites}
 use Rattle.gz_core.specs.Names.{Name, BallotAt, same_ballot}
 use Rattle.gz_core.specs.Rows.{RowAt, empty_row}
-use Rattle.gz_core.specs.declared.calls.Call.{Call}
-use Rattle.gz_core.specs.declared.values.Value.{Value}
-use Rattle.gz_core.specs.declared.requests.RowStep.{RowStep}
-use Rattle.gz_core.specs.declared.requests.RowStep.TheVariants.{FastVote, Promise, ClassicVote, Decide, Trim}
 use Rattle.gz_core.specs.declared.requests.Op.{Op}
 use Rattle.gz_core.specs.declared.requests.Op.TheVariants.{WriteRow}
-use Rattle.gz_core.specs.declared.requests.Out.{Out}
 use Rattle.gz_core.specs.declared.requests.Reply.{Reply}
-use Rattle.gz_core.specs.declared.requests.Reply.TheVariants.{Row, NoRow, Written, Changed, Failed}
-use Rattle.gz_core.specs.declared.requests.Turn.{Turn}
+use Rattle.gz_core.specs.declared.requests.Reply.TheVariants.{Row, NoRow, Written}
 use Rattle.gz_core.proofs.Ballots.{same_means}
-use Rattle.gz_core.proofs.Counting.{count_found, count_most}
+use Rattle.gz_core.proofs.Counting.{count_found}
 use Rattle.gz_pick.specs.Evidences.{votes_for, decides}
 use Rattle.gz_pick.specs.Looks.{row_top}
 use Rattle.gz_round.specs.declared.hearing.Seen.{Seen}
-use Rattle.gz_core.specs.History.{Asked, Action, Sent, Handed, GaveUp, Rested, GaveIn, Caller, Trace, IsClosing, asked_of, sent_from, begun, turned}
-use Rattle.gz_round.specs.Rounds.{top_rounds, rounds_used, round_known, greatest, next_round, MayPromise}
-use Rattle.gz_round.specs.Sending.{AreAllowed, MaySend, MayAsk, MayMake, IsMade, is_awaited, rows_known}
-use Rattle.gz_round.specs.Sent.{of_step, of_sent, passes_sent, promise_by, has_promised_at, last_promise, round_after, top_round, is_notice}
+use Rattle.gz_core.specs.History.{Action, Sent, Handed, GaveUp, Rested, GaveIn}
+use Rattle.gz_round.specs.Rounds.{round_known}
+use Rattle.gz_round.specs.Sending.{rows_known}
+use Rattle.gz_round.specs.Sent.{of_sent, passes_sent, promise_by, has_promised_at, round_after, top_round}
 use Rattle.gz_round.specs.Shown.{heard_at, IsShown, IsNext, IsGrounded}
-use Rattle.gz_round.specs.Sites.{SiteNow, site_now, known, row_seen, seen_in, written_by, passes, heard_in, concerns, some_heard, WasHeard}
+use Rattle.gz_round.specs.Sites.{SiteNow, site_now, known, row_seen, seen_in, written_by, passes, concerns, some_heard, WasHeard}
 use Rattle.gz_round.proofs.Known.{last_heard}
-use Rattle.gz_round.proofs.LookBacks.{last_promised_at}
-use Rattle.gz_client.specs.Traces.{AllKeepRules}
-use Rattle.gz_site.specs.Told.{Told, Tells, IsEmpty, same_key}
-use Rattle.gz_site.specs.Steps.{RowStored}
-use Rattle.gz_world.specs.States.{RequestAt, State, tick_of, next_of, numbered, with_reply, with_handed, with_given_up, sent_request, sent_requests}
-use Rattle.gz_laws.specs.Bounded.{IsColumnWithin, IsRowWithin, IfKept, IfWritten, IfShown, EachRow, ArePromisesWithin, AreWithin}
-use Rattle.gz_laws.specs.Carried.{IsRequestOf, HasReply, ActionCarried, ActionsCarried, TracesCarried, AreCarried}
-use Rattle.gz_laws.specs.Each.{EachTrace}
-use Rattle.gz_laws.specs.Heard.{IsClean}
+use Rattle.gz_world.specs.States.{State}
+use Rattle.gz_laws.specs.Bounded.{IsRowWithin, IfWritten, IfShown, EachRow}
+use Rattle.gz_laws.specs.Carried.{ActionsCarried}
 use Rattle.gz_laws.proofs.Beginning.{some_needed}
-use Rattle.gz_laws.proofs.Growing.{allowed_base, clean_made}
 use Rattle.gz_laws.proofs.Hearing.{le_means}
-use Rattle.gz_laws.proofs.Overtaking.{row_sent}
-use Rattle.gz_laws.proofs.RowBounds.{row_wider, columns_with, top_within, vote_within, vote_above, decision_within, decision_above, round_within, greatest_within}
+use Rattle.gz_laws.proofs.RowBounds.{top_within, vote_within, vote_above, decision_within, decision_above, round_within}
 use Rattle.gz_laws.proofs.AsHeard.{of_reply}
 
 -- the rows that a call heard

@@ -1,7 +1,7 @@
 -- No call gives in, in a world that is reached and whose sites tell what they hold.
-use Rattle.std.proofs.Common.{◌≡◌, ◌≢◌, ℕ, zero, suc, ◌+◌, ◌*◌, ◌≤◌, ◌<◌, ◌⊎◌, inl, inr, List, [], ◌∷◌, ◌++◌, Some, None, Bool, true, false, length, refl, ap, sym, ◌∙◌, subst, arith}
-use Rattle.std.proofs.lemmas.Bool.{cases_Bool, cases_lt, cond-true}
-use Rattle.std.specs.Prelude.{Option, ◌&&◌, not, cond, nat_le, if◌then◌else◌, slice_get}
+use Rattle.std.proofs.Common.{◌≡◌, ℕ, zero, suc, ◌+◌, ◌≤◌, ◌<◌, ◌⊎◌, inl, inr, List, [], ◌∷◌, ◌++◌, Some, None, Bool, true, false, refl, ap, sym, ◌∙◌, subst, arith}
+use Rattle.std.proofs.lemmas.Bool.{cases_Bool, cases_lt}
+use Rattle.std.specs.Prelude.{Option, ◌&&◌, not, cond, nat_le, if◌then◌else◌}
 use Rattle.gz_config.specs.declared.Config.{Config}
 use Rattle.gz_core.specs.Names.{Name, BallotAt, fast, is_below, same_ballot, same_name}
 use Rattle.gz_core.specs.Values.{name_of}
@@ -11,31 +11,28 @@ use Rattle.gz_core.specs.Counts.{count_sites}
 use Rattle.gz_core.specs.Rows.{RowAt, column_in}
 use Rattle.gz_core.specs.declared.slots.Slot.{Slot}
 use Rattle.gz_core.specs.declared.slots.Slot.TheVariants.{Gone, DecidedAs, OpenAt}
-use Rattle.gz_core.specs.Slots.{Act, Promises, VotesClassic, slots, slot_of, slot_vote}
+use Rattle.gz_core.specs.Slots.{Promises, VotesClassic, slots, slot_of, slot_vote}
 use Rattle.gz_core.specs.declared.rows.Column.{Column}
 use Rattle.gz_core.specs.declared.rows.Column.TheVariants.{Open, Decided}
-use Rattle.gz_core.specs.declared.values.Value.{Value}
 use Rattle.gz_core.proofs.Ballots.{same_means, same_refl, name_refl}
 use Rattle.gz_core.proofs.Counting.{count_within, count_found}
-use Rattle.gz_accept.specs.declared.answers.Step.{Step}
-use Rattle.gz_accept.specs.declared.answers.Step.TheVariants.{Done, Already, Below, Settled, Trimmed}
+use Rattle.gz_accept.specs.declared.answers.Step.TheVariants.{Done, Already, Below}
 use Rattle.gz_accept.specs.Steps.{promise_at, classic_at, promise_answer, classic_answer}
 use Rattle.gz_pick.specs.Evidences.{is_in, is_for, votes_for}
 use Rattle.gz_pick.specs.Looks.{row_top}
-use Rattle.gz_pick.specs.declared.heard.Heard.{Heard}
 use Rattle.gz_round.specs.declared.hearing.Seen.{Seen}
-use Rattle.gz_round.specs.Counting.{outs, IsGoing}
-use Rattle.gz_core.specs.History.{Asked, Action, Sent, Handed, GaveUp, Rested, GaveIn, Caller, Trace}
-use Rattle.gz_round.specs.LookBack.{row_cast, column_cast, or_next, lowest, lowest_vote, before_promise, IsLookedBack}
-use Rattle.gz_round.specs.Rounds.{slot_promises, promises_known, has_classic_cast}
-use Rattle.gz_round.specs.Sending.{AreAllowed, MayGiveIn, NoPromise, NoVote, NoValue, Collected, IsIdle, IsStuck, IsShort, IsUncast, IsBegun, IsWithoutValue, IsCollected, NoEvidence, rows_known}
+use Rattle.gz_round.specs.Counting.{IsGoing}
+use Rattle.gz_core.specs.History.{Action, Caller, Trace}
+use Rattle.gz_round.specs.LookBack.{row_cast, column_cast, or_next, lowest, lowest_vote, before_promise}
+use Rattle.gz_round.specs.Rounds.{slot_promises, promises_known}
+use Rattle.gz_round.specs.Sending.{AreAllowed, MayGiveIn, NoPromise, NoVote, NoValue, Collected, IsIdle, IsShort, IsUncast, IsWithoutValue, IsCollected, rows_known}
 use Rattle.gz_round.specs.Sent.{last_promise, has_promised_at}
 use Rattle.gz_round.specs.Shown.{heard_at}
 use Rattle.gz_round.specs.Sites.{SiteNow, site_now, known, row_seen}
 use Rattle.gz_round.proofs.LookBacks.{last_promised_at}
-use Rattle.gz_ledger.specs.Acceptors.{Acceptor, HasValue}
+use Rattle.gz_ledger.specs.Acceptors.{HasValue}
 use Rattle.gz_ledger.specs.Agreements.{HasQuorums}
-use Rattle.gz_ledger.specs.Guards.{IsPromiseSeen, IsQuorumHeard}
+use Rattle.gz_ledger.specs.Guards.{IsQuorumHeard}
 use Rattle.gz_ledger.specs.Histories.{RowSeen, Write, IsIn, IsShownByRows, IsPromised}
 use Rattle.gz_ledger.specs.Transitions.{Store, Transition, Reads, Begins, Written, Failed, Elsewhere, IsUncastByWrites, AreTransitions, after_transitions, ledger_of, seen_after, sent_after}
 use Rattle.gz_ledger.specs.Ledgers.{votes}
@@ -54,7 +51,7 @@ use Rattle.gz_world.specs.States.{State}
 use Rattle.gz_laws.proofs.FirstPromises.{first_sends, before_unpromised, before_keeps, split_begins, HasStep, write_begun, sends_promised}
 use Rattle.gz_laws.proofs.Guarding.{top_heard}
 use Rattle.gz_laws.proofs.HeardOrder.{HeardInOrder}
-use Rattle.gz_laws.proofs.Hearing.{heard_known, last_stands, slots_open, le_means}
+use Rattle.gz_laws.proofs.Hearing.{heard_known, last_stands, slots_open}
 use Rattle.gz_laws.proofs.Keeping.{actions_stand, sent_asked}
 use Rattle.gz_laws.proofs.LastRows.{entry_at, last_from, order_tail}
 use Rattle.gz_laws.proofs.Promising.{promised_sent, sent_casts, promises_heard}

@@ -1,33 +1,30 @@
 -- Each step keeps calls from giving in.
 use Rattle.std.proofs.Common.{◌≡◌, ℕ, ◌+◌, ◌⊎◌, inl, inr, List, [], ◌∷◌, ◌++◌, Some, None, Bool, true, false, refl, ap, sym, ◌∙◌, subst}
-use Rattle.std.proofs.lemmas.Bool.{and_parts, eqb-true}
-use Rattle.std.specs.Prelude.{Option, MatchOption, ◌↔◌, ◌==◌, if◌then◌else◌}
+use Rattle.std.specs.Prelude.{Option, MatchOption, if◌then◌else◌}
 use Rattle.gz_core.specs.Calls.{key_of}
-use Rattle.gz_core.specs.declared.calls.Call.{Call}
 use Rattle.gz_core.specs.declared.requests.Out.{Out}
-use Rattle.gz_core.specs.declared.requests.Turn.{Turn}
 use Rattle.gz_round.specs.declared.hearing.Seen.{Seen}
 use Rattle.gz_core.specs.History.{Asked, Action, Sent, Handed, GaveUp, Rested, GaveIn, Trace, asked_of, sent_from, begun, turned}
 use Rattle.gz_round.specs.Sending.{AreAllowed}
 use Rattle.gz_round.specs.Sites.{SiteNow, site_now, after, after_reply, after_sent, is_to, seen_in, written_by, is_changed}
 use Rattle.gz_client.specs.Traces.{AllKeepRules}
-use Rattle.gz_ledger.specs.Transitions.{Transition, after_transitions}
+use Rattle.gz_ledger.specs.Transitions.{after_transitions}
 use Rattle.gz_world.specs.declared.events.Effect.{Effect}
 use Rattle.gz_world.specs.declared.events.Event.{Event}
 use Rattle.gz_world.specs.declared.events.Event.TheVariants as events
 use Rattle.gz_world.specs.Reached.{IsReached, opened, stepped, AllTell}
 use Rattle.gz_world.specs.Refusals.{refusal_of}
 use Rattle.gz_world.specs.States.{RequestAt, State, next_of}
-use Rattle.gz_world.specs.Steps.{TurnBy, TakesTurn, HasEffect, Does, Skips, WorldStep, hears}
+use Rattle.gz_world.specs.Steps.{TurnBy, TakesTurn, HasEffect, Does, Skips, hears}
 use Rattle.gz_laws.specs.Begun.{sends_of, IsBegunIn}
 use Rattle.gz_laws.specs.Carried.{ActionsCarried, TracesCarried}
 use Rattle.gz_laws.specs.Each.{EachTrace}
-use Rattle.gz_laws.specs.Going.{NeverGaveIn, LeavesAt, WasLeft, IsGoingOn}
+use Rattle.gz_laws.specs.Going.{NeverGaveIn, WasLeft, IsGoingOn}
 use Rattle.gz_laws.specs.Heard.{unused, SentStep}
 use Rattle.gz_laws.specs.Listed.{AreCallsListed}
 use Rattle.gz_laws.proofs.Carrying.{carried}
 use Rattle.gz_laws.proofs.GivingIn.{IsKnownCall, never}
-use Rattle.gz_laws.proofs.HeardOrder.{HeardInOrder, IsInOrder, in_order, to_here}
+use Rattle.gz_laws.proofs.HeardOrder.{HeardInOrder, IsInOrder, in_order}
 use Rattle.gz_laws.proofs.Keeping.{keeps_newest}
 use Rattle.gz_laws.proofs.Listing.{listed, traces_here}
 use Rattle.gz_laws.proofs.Placing.{placed}

@@ -1,19 +1,19 @@
 -- The rows that a call heard from a site go forward in the order in which it heard them.
-use Rattle.std.proofs.Common.{◌≡◌, ◌≢◌, ℕ, zero, suc, ◌+◌, ◌-◌, ◌≤◌, ◌⊎◌, inl, inr, List, [], ◌∷◌, ◌++◌, Some, None, Bool, true, false, length, refl, ap, sym, ◌∙◌, subst, arith, length-set}
-use Rattle.std.proofs.lemmas.Bool.{cases_eq, cases_Bool, and_parts, eqb-true}
+use Rattle.std.proofs.Common.{◌≡◌, ◌≢◌, ℕ, suc, ◌+◌, ◌-◌, ◌⊎◌, inl, inr, List, [], ◌∷◌, ◌++◌, Some, None, Bool, true, false, length, refl, ap, sym, ◌∙◌, subst, arith, length-set}
+use Rattle.std.proofs.lemmas.Bool.{cases_eq, and_parts, eqb-true}
 use Rattle.std.proofs.lemmas.Bool.Decides.{nat_tests}
-use Rattle.std.specs.Prelude.{Option, MatchOption, IsSome, cond, if◌then◌else◌, ◌==◌, ◌&&◌, slice_get, slice_set}
+use Rattle.std.specs.Prelude.{Option, MatchOption, cond, if◌then◌else◌, ◌==◌, ◌&&◌, slice_get, slice_set}
 use Rattle.gz_config.specs.declared.Config.{Config}
 use Rattle.gz_core.specs.Names.{Name}
 use Rattle.gz_core.specs.Calls.{key_of}
-use Rattle.gz_core.specs.Rows.{RowAt, empty_row}
+use Rattle.gz_core.specs.Rows.{empty_row}
 use Rattle.gz_core.specs.Slots.{slots}
 use Rattle.gz_core.specs.declared.calls.Call.{Call}
 use Rattle.gz_core.specs.declared.requests.Op.{Op}
 use Rattle.gz_core.specs.declared.requests.Op.TheVariants.{ReadRow, WriteRow}
 use Rattle.gz_core.specs.declared.requests.Out.{Out}
 use Rattle.gz_core.specs.declared.requests.Reply.{Reply}
-use Rattle.gz_core.specs.declared.requests.Reply.TheVariants.{Row, NoRow, Written, Changed, Failed}
+use Rattle.gz_core.specs.declared.requests.Reply.TheVariants.{Row, NoRow, Written}
 use Rattle.gz_core.specs.declared.requests.Turn.{Turn}
 use Rattle.gz_round.specs.declared.hearing.Seen.{Seen}
 use Rattle.gz_core.specs.History.{Asked, Action, Sent, Handed, GaveUp, Rested, GaveIn, Trace, IsClosing, is_row_request, asked_of, sent_from, begun, turned}
@@ -21,28 +21,28 @@ use Rattle.gz_core.specs.declared.values.Value.{Value}
 use Rattle.gz_round.specs.Sending.{AreAllowed}
 use Rattle.gz_round.specs.Sites.{SiteNow, site_now, after_reply, after_sent, is_to, seen_in, written_by, is_changed, as_heard}
 use Rattle.gz_client.specs.Traces.{AllKeepRules}
-use Rattle.gz_site.specs.Told.{Told, same_key}
+use Rattle.gz_site.specs.Told.{Told}
 use Rattle.gz_ledger.specs.Agreements.{HasQuorums}
 use Rattle.gz_ledger.specs.Histories.{RowSeen, IsIn}
-use Rattle.gz_ledger.specs.Transitions.{Transition, after_transitions, acceptor_of, ledger_of, rows_of}
+use Rattle.gz_ledger.specs.Transitions.{Transition, after_transitions, acceptor_of}
 use Rattle.gz_ledger.proofs.Follows.{Follows}
 use Rattle.gz_ledger.proofs.Stores.{store_sound}
 use Rattle.gz_world.specs.declared.events.Effect.{Effect}
 use Rattle.gz_world.specs.declared.events.Event.{Event}
 use Rattle.gz_world.specs.declared.events.Event.TheVariants as events
-use Rattle.gz_world.specs.Reached.{IsOpening, IsReached, opened, stepped, AllTell}
+use Rattle.gz_world.specs.Reached.{IsReached, opened, stepped, AllTell}
 use Rattle.gz_world.specs.Refusals.{refusal_of}
 use Rattle.gz_world.specs.States.{RequestAt, State, tick_of, next_of, numbered, with_reply, with_handed, with_given_up, sent_request, sent_requests}
-use Rattle.gz_world.specs.Steps.{Answers, BeginsBy, DeliversBy, TurnBy, TakesTurn, HasEffect, Does, Skips, WorldStep, hears}
+use Rattle.gz_world.specs.Steps.{Answers, BeginsBy, DeliversBy, TurnBy, TakesTurn, HasEffect, Does, Skips, hears}
 use Rattle.gz_world.proofs.Members.{numbered_place, place_numbered}
 use Rattle.gz_world.proofs.Places.{get_set_same, get_set_other, get_append}
 use Rattle.gz_laws.specs.Agreed.{acceptor_kept}
-use Rattle.gz_laws.specs.Carried.{IsRequestOf, HasReply, ActionCarried, ActionsCarried, TracesCarried, AreCarried}
+use Rattle.gz_laws.specs.Carried.{ActionCarried, ActionsCarried, TracesCarried, AreCarried}
 use Rattle.gz_laws.specs.Each.{EachTrace}
 use Rattle.gz_laws.specs.Heard.{unused, seen_entry, heard_of, ActionsStand}
 use Rattle.gz_laws.specs.Listed.{AreCallsListed}
 use Rattle.gz_laws.specs.Placed.{ArePlaced}
-use Rattle.gz_laws.specs.Runs.{stored_of, key_asked, IsRun}
+use Rattle.gz_laws.specs.Runs.{key_asked, IsRun}
 use Rattle.gz_laws.proofs.Agreement.{kept_same}
 use Rattle.gz_laws.proofs.Carrying.{none_after, still_awaits, sent_or_before, awaits_sent, awaited_carried, sent_there, acts_carried, carried}
 use Rattle.gz_laws.proofs.Hearing.{heard_known}
@@ -53,7 +53,7 @@ use Rattle.gz_laws.proofs.Nets.{IsKeptAs, kept_handed, kept_given_up, kept_itsel
 use Rattle.gz_laws.proofs.Placing.{placed}
 use Rattle.gz_laws.proofs.RunDelivers.{both_tell, more_replies}
 use Rattle.gz_laws.proofs.Running.{runs, step_tell, acts_run, told_request, handed_action}
-use Rattle.gz_laws.proofs.Traces.{each_on, each_moved}
+use Rattle.gz_laws.proofs.Traces.{each_moved}
 use Rattle.gz_laws.proofs.AsHeard.{on_heard}
 
 -- a row goes forward from each that was heard from the site before

@@ -15,7 +15,7 @@ use Rattle.gz_core.specs.declared.calls.Answer.{Answer}
 use Rattle.gz_core.specs.declared.calls.Answer.TheVariants.{Ok, Bytes, Gone, Absent, NoQuorum, Contended, Unsure}
 use Rattle.gz_core.specs.declared.calls.Call.{Call}
 use Rattle.gz_config.specs.declared.Config.{Config}
-use Rattle.gz_core.specs.History.{Action, Caller, Trace}
+use Rattle.gz_core.specs.History.{Action, Trace}
 use Rattle.gz_core.specs.declared.calls.Call.TheVariants.{GetAt}
 use Rattle.gz_round.specs.Sent.{vote_by, of_sent, passes_sent, voted, voted_at}
 use Rattle.gz_round.specs.Starting.{IsWithin}

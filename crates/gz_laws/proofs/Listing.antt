@@ -8,7 +8,7 @@ use Rattle.gz_core.specs.declared.calls.Answer.{Answer}
 use Rattle.gz_core.specs.declared.calls.Call.{Call}
 use Rattle.gz_config.specs.declared.Config.{Config}
 use Rattle.gz_core.specs.declared.requests.Turn.{Turn}
-use Rattle.gz_core.specs.History.{Asked, Action, Handed, GaveUp, Caller, Trace, begun, turned}
+use Rattle.gz_core.specs.History.{Asked, Action, GaveUp, Caller, Trace, begun, turned}
 use Rattle.gz_core.specs.declared.values.Value.{Value}
 use Rattle.gz_client.specs.Traces.{KeepsRules, AllKeepRules}
 use Rattle.gz_history.specs.declared.record.CallRec.{CallRec}

@@ -1,12 +1,12 @@
 -- What a call writes is its own value: it has the call's name, and a call that has none is no write.
-use Rattle.std.proofs.Common.{◌≡◌, List, Some, None, ap, sym, subst}
+use Rattle.std.proofs.Common.{◌≡◌, Some, None, ap, sym, subst}
 use Rattle.std.specs.Prelude.{Option}
 use Rattle.gz_core.specs.Names.{Name}
 use Rattle.gz_core.specs.Calls.{IsOwn}
 use Rattle.gz_core.specs.Puts.{PutData}
 use Rattle.gz_core.specs.Values.{name_of}
 use Rattle.gz_core.specs.declared.calls.Call.{Call}
-use Rattle.gz_core.specs.declared.calls.Call.TheVariants.{Put, Delete, Get}
+use Rattle.gz_core.specs.declared.calls.Call.TheVariants.{Put, Delete}
 use Rattle.gz_core.specs.declared.values.Value.{Value}
 use Rattle.gz_core.specs.declared.values.Value.TheVariants.{Tomb, Put as PutOf}
 use Rattle.gz_core.specs.History.{Caller}

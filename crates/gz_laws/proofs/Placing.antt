@@ -10,7 +10,7 @@ use Rattle.gz_config.specs.declared.Config.{Config}
 use Rattle.gz_core.specs.declared.requests.Out.{Out}
 use Rattle.gz_core.specs.declared.requests.Reply.{Reply}
 use Rattle.gz_core.specs.declared.requests.Turn.{Turn}
-use Rattle.gz_core.specs.History.{Asked, Action, Sent, Handed, GaveUp, Caller, Trace, asked_of, sent_from, begun, turned}
+use Rattle.gz_core.specs.History.{Asked, Action, Sent, GaveUp, Caller, Trace, asked_of, sent_from, begun, turned}
 use Rattle.gz_core.specs.declared.values.Value.{Value}
 use Rattle.gz_round.specs.Sending.{AreAllowed}
 use Rattle.gz_history.specs.Broken.{IsHistory}

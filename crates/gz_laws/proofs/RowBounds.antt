@@ -1,12 +1,12 @@
 -- Rows whose versions and rounds are bounded.
-use Rattle.std.proofs.Common.{◌≡◌, ℕ, zero, suc, ◌+◌, ◌*◌, ◌^◌, ◌≤◌, ◌<◌, ◌⊎◌, inl, inr, List, [], ◌∷◌, Some, None, Bool, true, false, length, refl, ap, sym, ◌∙◌, subst, arith}
+use Rattle.std.proofs.Common.{◌≡◌, ℕ, zero, suc, ◌+◌, ◌^◌, ◌≤◌, ◌<◌, inl, inr, List, [], ◌∷◌, Some, None, true, false, length, refl, ap, sym, ◌∙◌, subst, arith}
 use Rattle.std.proofs.lemmas.Bool.{cases_eq, and_from}
 use Rattle.std.proofs.lemmas.Bool.Decides.{nat_tests}
-use Rattle.std.specs.Prelude.{Option, ◌==◌, ◌&&◌, max, nat_lt, nat_le, if◌then◌else◌}
+use Rattle.std.specs.Prelude.{Option, ◌==◌, ◌&&◌, max, nat_lt, if◌then◌else◌}
 use Rattle.std.specs.List.{list_all}
 use Rattle.gz_core.specs.Names.{Name, BallotAt}
 use Rattle.gz_core.specs.Rows.{RowAt, Rises, column_in}
-use Rattle.gz_core.specs.Slots.{slots, slot_of, slot_vote, slot_decision}
+use Rattle.gz_core.specs.Slots.{slot_of, slot_vote, slot_decision}
 use Rattle.gz_core.specs.declared.slots.Slot.{Slot}
 use Rattle.gz_core.specs.declared.rows.Column.{Column}
 use Rattle.gz_core.specs.declared.rows.Column.TheVariants.{Open, Decided}

@@ -6,7 +6,7 @@ use Rattle.gz_core.specs.Calls.{key_of}
 use Rattle.gz_core.specs.declared.calls.Answer.{Answer}
 use Rattle.gz_core.specs.declared.calls.Answer.TheVariants.{Ok, Bytes, Gone, Absent, NoQuorum, Contended, Unsure}
 use Rattle.gz_config.specs.declared.Config.{Config}
-use Rattle.gz_core.specs.History.{Action, Caller, Trace}
+use Rattle.gz_core.specs.History.{Action, Trace}
 use Rattle.gz_round.specs.Shown.{IsShown}
 use Rattle.gz_client.specs.Traces.{IsAnswered}
 use Rattle.gz_history.specs.Answers.{shows, names}

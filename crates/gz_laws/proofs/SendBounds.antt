@@ -1,27 +1,25 @@
 -- What a call sends at one event stays within the bounds of the next one.
-use Rattle.std.proofs.Common.{◌≡◌, ◌≢◌, ℕ, zero, suc, ◌+◌, ◌≤◌, ◌<◌, ◌⊎◌, inl, inr, List, [], ◌∷◌, Some, None, Bool, true, false, length, refl, ap, sym, ◌∙◌, subst, arith}
-use Rattle.std.proofs.lemmas.Bool.{cases_eq, cases_Bool, and_parts, or_cases, or_right, eqb-true}
-use Rattle.std.proofs.lemmas.Bool.Decides.{nat_tests}
-use Rattle.std.specs.Prelude.{Option, ◌==◌, ◌&&◌, ◌||◌, max, not, if◌then◌else◌, is_some, slice_get}
+use Rattle.std.proofs.Common.{◌≡◌, ℕ, zero, suc, ◌+◌, ◌≤◌, ◌<◌, inl, inr, List, [], ◌∷◌, Some, None, Bool, true, false, length, refl, ap, sym, ◌∙◌, subst, arith}
+use Rattle.std.proofs.lemmas.Bool.{cases_Bool, and_parts, or_cases, eqb-true}
+use Rattle.std.specs.Prelude.{◌==◌, ◌&&◌, ◌||◌, not, if◌then◌else◌, is_some, slice_get}
 use Rattle.gz_config.specs.declared.Config.{Config}
 use Rattle.gz_core.specs.Configurations.{IsConfig}
 use Rattle.gz_core.specs.Counts.{count_sites}
-use Rattle.gz_core.specs.Names.{Name, BallotAt, fast, same_ballot}
+use Rattle.gz_core.specs.Names.{BallotAt, fast, same_ballot}
 use Rattle.gz_core.specs.Values.{name_of}
 use Rattle.gz_core.specs.Rows.{RowAt, column_in}
 use Rattle.gz_core.specs.declared.rows.Column.{Column}
 use Rattle.gz_core.specs.declared.rows.Column.TheVariants.{Open, Decided}
 use Rattle.gz_core.specs.declared.rows.Vote.{Vote}
 use Rattle.gz_accept.specs.Steps.{vote_in, with_column}
-use Rattle.gz_core.specs.declared.values.Value.{Value}
 use Rattle.gz_core.specs.declared.requests.RowStep.{RowStep}
 use Rattle.gz_core.specs.declared.requests.RowStep.TheVariants.{FastVote, Promise, ClassicVote, Decide, Trim}
 use Rattle.gz_core.specs.declared.requests.Op.{Op}
 use Rattle.gz_core.specs.declared.requests.Op.TheVariants.{WriteRow, ReadRow}
 use Rattle.gz_core.specs.declared.requests.Out.{Out}
-use Rattle.gz_core.proofs.Counting.{count_added, count_weaker, count_most}
+use Rattle.gz_core.proofs.Counting.{count_added, count_weaker}
 use Rattle.gz_core.specs.History.{Asked, Action, Sent, Caller, Trace, asked_of, sent_from, is_row_request}
-use Rattle.gz_round.specs.Rounds.{top_rounds, rounds_used, round_known, greatest, MayPromise}
+use Rattle.gz_round.specs.Rounds.{top_rounds, round_known, MayPromise}
 use Rattle.gz_round.specs.Sending.{AreAllowed, MaySend, MayAsk, MayMake, IsMade, made_by, is_awaited, rows_known}
 use Rattle.gz_round.specs.Sent.{of_step, passes_sent, promise_by, has_promised_at, round_after, top_round, is_notice}
 use Rattle.gz_round.specs.Sites.{SiteNow, site_now, after_sent, is_to}

@@ -2,7 +2,6 @@
 use Rattle.std.proofs.Common.{◌≡◌, ℕ, inl, inr, List, [], ◌∷◌, Some, None, Bool, true, false, ap, sym, ◌∙◌, subst}
 use Rattle.std.specs.Prelude.{Option, ◌==◌, if◌then◌else◌, slice_get}
 use Rattle.gz_core.specs.Names.{Name, fast}
-use Rattle.gz_core.specs.Calls.{own_value}
 use Rattle.gz_core.specs.Rows.{RowAt, column_in, empty_row}
 use Rattle.gz_core.specs.declared.rows.Column.{Column}
 use Rattle.gz_core.specs.declared.rows.Column.TheVariants.{Open, Decided}

@@ -14,7 +14,7 @@ use Rattle.gz_core.specs.declared.requests.Out.{Out}
 use Rattle.gz_core.specs.declared.requests.Reply.{Reply}
 use Rattle.gz_core.specs.declared.requests.Reply.TheVariants.{Row, NoRow, Written, Changed, Failed}
 use Rattle.gz_core.specs.declared.requests.Turn.{Turn}
-use Rattle.gz_core.specs.History.{Asked, Action, Sent, Handed, GaveUp, Caller, Trace, asked_of, sent_from}
+use Rattle.gz_core.specs.History.{Asked, Action, Sent, GaveUp, Caller, Trace, asked_of, sent_from}
 use Rattle.gz_core.specs.Calls.{IsOwn}
 use Rattle.gz_round.specs.Sites.{site_now, after, is_to}
 use Rattle.gz_round.specs.Sending.{AreAllowed}

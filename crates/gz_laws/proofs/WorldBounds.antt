@@ -1,13 +1,12 @@
 -- Each step keeps the rows of a world, and the promises of its calls, within the bounds of one event more.
-use Rattle.std.proofs.Common.{◌≡◌, ℕ, zero, suc, ◌+◌, ◌*◌, ◌-◌, ◌^◌, ◌≤◌, ◌<◌, ◌⊎◌, inl, inr, List, [], ◌∷◌, ◌++◌, Some, None, Bool, true, false, length, refl, ap, sym, ◌∙◌, subst, arith, length-append, length-set}
+use Rattle.std.proofs.Common.{◌≡◌, ℕ, suc, ◌+◌, ◌*◌, ◌-◌, ◌≤◌, ◌⊎◌, inl, inr, List, [], ◌∷◌, ◌++◌, Some, None, true, false, length, refl, ap, sym, ◌∙◌, subst, arith, length-append, length-set}
 use Rattle.std.proofs.lemmas.Bool.{cases_eq}
-use Rattle.std.specs.Prelude.{Option, MatchOption, ◌==◌, ◌&&◌, max, cond, if◌then◌else◌, IfSome, IsSome, slice_get, slice_set}
+use Rattle.std.specs.Prelude.{Option, MatchOption, cond, IfSome, IsSome, slice_get, slice_set}
 use Rattle.gz_config.specs.declared.Config.{Config}
 use Rattle.gz_core.specs.Configurations.{IsConfig}
-use Rattle.gz_core.specs.Names.{Name, BallotAt, same_ballot}
+use Rattle.gz_core.specs.Names.{Name, BallotAt}
 use Rattle.gz_core.specs.Rows.{RowAt}
 use Rattle.gz_core.specs.declared.calls.Call.{Call}
-use Rattle.gz_core.specs.declared.requests.RowStep.{RowStep}
 use Rattle.gz_core.specs.declared.requests.Op.{Op}
 use Rattle.gz_core.specs.declared.requests.Op.TheVariants.{ReadRow, WriteRow}
 use Rattle.gz_core.specs.declared.requests.Out.{Out}
@@ -15,7 +14,7 @@ use Rattle.gz_core.specs.declared.requests.Reply.{Reply}
 use Rattle.gz_core.specs.declared.requests.Reply.TheVariants.{Row, NoRow, Written, Changed, Failed}
 use Rattle.gz_core.specs.declared.requests.Turn.{Turn}
 use Rattle.gz_core.proofs.Counting.{count_most}
-use Rattle.gz_core.specs.History.{Asked, Action, Sent, Handed, GaveUp, GaveIn, Caller, Trace, IsClosing, sent_from, begun, turned}
+use Rattle.gz_core.specs.History.{Asked, Action, GaveUp, Caller, Trace, IsClosing, sent_from, begun, turned}
 use Rattle.gz_core.specs.declared.values.Value.{Value}
 use Rattle.gz_round.specs.Rounds.{top_rounds}
 use Rattle.gz_round.specs.Sending.{AreAllowed}
@@ -29,8 +28,8 @@ use Rattle.gz_world.specs.declared.events.Event.{Event}
 use Rattle.gz_world.specs.declared.events.Event.TheVariants as events
 use Rattle.gz_world.specs.Reached.{IsOpening, IsReached, opened, stepped, AllTell}
 use Rattle.gz_world.specs.Refusals.{refusal_of}
-use Rattle.gz_world.specs.States.{RequestAt, State, tick_of, next_of, numbered, with_reply, with_handed, with_given_up, sent_request, sent_requests}
-use Rattle.gz_world.specs.Steps.{Answers, SessionMoves, SitesStay, BeginsBy, DeliversBy, TurnBy, TakesTurn, HasEffect, Does, Skips, WorldStep, hears}
+use Rattle.gz_world.specs.States.{RequestAt, State, tick_of, next_of, numbered, with_reply, with_handed, with_given_up, sent_requests}
+use Rattle.gz_world.specs.Steps.{Answers, SessionMoves, BeginsBy, DeliversBy, TurnBy, TakesTurn, HasEffect, Does, Skips, WorldStep, hears}
 use Rattle.gz_world.proofs.Members.{numbered_place}
 use Rattle.gz_laws.specs.Bounded.{IsRowWithin, IfKept, IfWritten, IfShown, EachRow, ArePromisesWithin, AreWithin, IsHeard, CanStand}
 use Rattle.gz_laws.specs.Carried.{ActionCarried, ActionsCarried, TracesCarried, AreCarried}
@@ -47,7 +46,7 @@ use Rattle.gz_laws.proofs.RunDelivers.{both_tell, same_told, more_replies}
 use Rattle.gz_laws.proofs.RunSends.{closing_allowed}
 use Rattle.gz_laws.proofs.RunTools.{set_cases}
 use Rattle.gz_laws.proofs.Running.{told_request, handed_action, step_tell}
-use Rattle.gz_laws.proofs.SendBounds.{Measures, HasSentWithin, sends_within, sent_measures, sent_length, awaited_at, busy, busy_measures}
+use Rattle.gz_laws.proofs.SendBounds.{Measures, sends_within, sent_measures, sent_length, awaited_at, busy, busy_measures}
 use Rattle.gz_laws.proofs.Traces.{each_on, each_moved}
 use Rattle.gz_laws.proofs.AsHeard.{stands_heard}
 use Rattle.gz_laws.proofs.BlobSteps.{blob_leaves}

@@ -1,5 +1,5 @@
 -- The writes that a call began, each with the rows that it had heard when it sent it.
-use Rattle.std.specs.Prelude.{ℕ, ◌≡◌, Bool, if◌then◌else◌, List, [], ◌∷◌}
+use Rattle.std.specs.Prelude.{ℕ, ◌≡◌, if◌then◌else◌, List, [], ◌∷◌}
 use Rattle.gz_core.specs.Names.{Name, same_name}
 use Rattle.gz_core.specs.Calls.{key_of}
 use Rattle.gz_core.specs.Slots.{Act, act_of}

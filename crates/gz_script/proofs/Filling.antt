@@ -1,6 +1,6 @@
 -- Lines that were broken off at an event that was refused leave a world that is full.
 use Rattle.std.proofs.Common.{ℕ, List}
-use Rattle.std.specs.Prelude.{Option, Some, None, slice_get}
+use Rattle.std.specs.Prelude.{Option, Some, None}
 use Rattle.gz_site.specs.Told.{Told}
 use Rattle.gz_world.specs.Bridge.{state_of}
 use Rattle.gz_world.specs.Counting.{IsFull}

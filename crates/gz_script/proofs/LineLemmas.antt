@@ -1,6 +1,6 @@
 -- The lines of a schedule, one event after another.
 use Rattle.std.proofs.Common.{ℕ, ◌≡◌, ◌+◌, ◌≤◌, ◌<◌, List, [], ◌∷◌, ◌++◌, length, map, take, get_or, inl, inr, refl, ap, sym, subst, ◌∙◌, arith, add-one}
-use Rattle.std.specs.Prelude.{suc, Option, Some, None, Result, OnOk, IfErr, slice_get, option_map}
+use Rattle.std.specs.Prelude.{suc, Option, Some, None, Result, OnOk, IfErr, option_map}
 use Rattle.std.proofs.lemmas.List.{take_more, take_all, take-map, map-append, length-map}
 use Rattle.std.proofs.lemmas.Option.{slice_get-get_or, slice_get-map}
 use Rattle.gz_core.specs.History.{Trace}

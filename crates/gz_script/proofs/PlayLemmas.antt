@@ -1,12 +1,11 @@
 -- Changes of worlds, one after another.
-use Rattle.std.proofs.Common.{ℕ, ◌≡◌, true, false, List, [], ◌∷◌, ◌++◌, length, take, inl, inr, refl, ap, sym, ◌∙◌, subst, arith}
+use Rattle.std.proofs.Common.{ℕ, ◌≡◌, true, false, List, [], ◌∷◌, ◌++◌, take, refl, sym, ◌∙◌, subst}
 use Rattle.std.specs.Prelude.{Bool, IsTrue, Option, Some, Result, Ok, Err, IfErr, slice_get, ◌↔◌}
 use Rattle.std.specs.Result.{IsErrAnd}
 use Rattle.gz_core.specs.History.{Trace}
 use Rattle.gz_site.specs.Told.{Told}
 use Rattle.gz_world.specs.Bridge.{state_of}
 use Rattle.gz_world.specs.Counting.{IsFull}
-use Rattle.gz_world.specs.Fits.{IsFitting}
 use Rattle.gz_world.specs.States.{State, numbered}
 use Rattle.gz_world.specs.Told.{StepsBy, StaysBy}
 use Rattle.gz_world.proofs.Performing.{states_equal, step_of}

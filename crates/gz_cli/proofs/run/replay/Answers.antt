@@ -1,4 +1,4 @@
-use Rattle.std.proofs.Common.{ℕ, ◌≡◌, List, sym, subst, inl, inr}
+use Rattle.std.proofs.Common.{List, sym, subst, inl, inr}
 use Rattle.gz_lines.specs.declared.line.Line.{Line}
 use Rattle.gz_cli.specs.Runs.{Loads}
 use Rattle.gz_cli.proofs.run.replay.Goals as goal

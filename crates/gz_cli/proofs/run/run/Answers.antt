@@ -1,4 +1,4 @@
-use Rattle.std.proofs.Common.{ℕ, ◌≡◌, List, sym, subst, ap, ◌∙◌}
+use Rattle.std.proofs.Common.{◌≡◌, sym, subst, ap, ◌∙◌}
 use Rattle.std.specs.Prelude.{Option, Some}
 use Rattle.gz_cli.specs.Words.{Task, replay, task_in, task_of}
 use Rattle.gz_cli.specs.Runs.{Counts, IsFeasible}

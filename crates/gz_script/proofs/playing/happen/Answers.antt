@@ -1,6 +1,5 @@
-use Rattle.std.proofs.Common.{◌≡◌, ap, ◌∙◌}
+use Rattle.std.proofs.Common.{ap, ◌∙◌}
 use Rattle.std.specs.Prelude.{Err}
-use Rattle.gz_world.specs.declared.events.ApplyError.TheVariants.{Full}
 use Rattle.gz_script.specs.Plays.{StopsAt, ChangesBy}
 use Rattle.gz_script.proofs.PlayLemmas.{applied_taken, event_happens, event_stops, if_err_of}
 use Rattle.gz_script.proofs.playing.happen.Goals as goal
