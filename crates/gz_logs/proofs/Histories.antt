@@ -1,37 +1,31 @@
 -- The calls of a log are a history.
-use Rattle.std.proofs.Common.{ℕ, zero, suc, ◌≡◌, ◌+◌, ◌-◌, ◌<◌, ◌≤◌, List, [], ◌∷◌, ◌++◌, length, get_or, slice_get, Option, Some, None, Bool, true, false, inl, inr, refl, ap, sym, subst, ◌∙◌, arith}
-use Rattle.std.specs.Prelude.{Vec, Result, Ok, Err, IfOk, ◌&&◌, ◌||◌, nat_lt, if◌then◌else◌, option_map, is_some, codes}
+use Rattle.std.proofs.Common.{ℕ, zero, suc, ◌≡◌, ◌+◌, ◌-◌, ◌<◌, List, [], ◌∷◌, ◌++◌, length, get_or, slice_get, Option, Some, None, Bool, true, false, inl, inr, refl, ap, sym, subst, ◌∙◌, arith}
+use Rattle.std.specs.Prelude.{Vec, Result, Ok, Err, IfOk, nat_lt, option_map, is_some, codes}
 use Rattle.std.specs.declared.alloc.Global.{Global}
 use Rattle.std.proofs.lemmas.Bool.{cases_lt, cases_Bool}
 use Rattle.std.proofs.lemmas.Bool.Decides.{nat_tests}
 use Rattle.std.proofs.lemmas.Grind.{common_steps}
 use Rattle.std.proofs.lemmas.Option.{same_Some, slice_get_within, slice_get-get_or}
 use Rattle.gz_core.specs.Names.{Name}
-use Rattle.gz_core.specs.declared.calls.Answer.{Answer}
 use Rattle.gz_core.specs.declared.texts.TextError.{TextError}
 use Rattle.gz_core.specs.declared.texts.Why.TheVariants as whys
-use Rattle.gz_history.specs.Broken.{IsHistory, AreInOrder, Precedes, PrecedesAt, EndsLater}
+use Rattle.gz_history.specs.Broken.{IsHistory, AreInOrder, Precedes}
 use Rattle.gz_history.specs.declared.record.CallRec.{CallRec}
 use Rattle.gz_history.proofs.Searching.{order_more}
 use Rattle.gz_text.specs.declared.faults.Fault.{Fault}
-use Rattle.gz_text.specs.declared.faults.Fault.TheVariants.{Bad}
 use Rattle.gz_text.specs.Faults.{with, or_bad}
 use Rattle.gz_text.specs.Fields.{is_word}
 use Rattle.gz_text.specs.Names.{name_field}
 use Rattle.gz_text.specs.Places.{field_at, fields_from}
 use Rattle.gz_text.specs.Texts.{fields_of, lines}
+use Rattle.gz_logs.proofs.Choices.{with_ok, same_ok}
 use Rattle.gz_logs.specs.declared.calls.Timed.{Timed}
 use Rattle.gz_logs.specs.declared.lines.Counts.{Counts}
 use Rattle.gz_logs.specs.Calls.{timed_in}
 use Rattle.gz_logs.specs.Kinds.{kind_of}
-use Rattle.gz_logs.specs.Lines.{Seen, begin_before, is_after, is_end, is_ordered, is_open, answer_or_open, answered, placed, call_from, call_line, end_line, counted_calls, with_call, with_end, line_after, after}
+use Rattle.gz_logs.specs.Lines.{Seen, begin_before, is_after, is_end, is_ordered, is_open, answer_or_open, answered, placed, call_from, call_line, end_line, with_call, with_end, line_after, after}
 use Rattle.gz_logs.specs.Named.{same_name, is_named}
 use Rattle.gz_logs.specs.Parsed.{Log, FaultAt, finished, at_line, read_from, unread, parsed, Parses}
-
--- what was read where what follows from it was
-with_ok : {A B : Type 0} (r : Result A Fault) (next : A → Result B Fault) (y : B) → with r next ≡ Ok y → (x : A) × ((r ≡ Ok x) × (next x ≡ Ok y))
-with_ok (Ok x) next y h = (x, (refl, h))
-with_ok (Err fault) next y h = absurd (cc)
 
 -- an element in front of others, and the last one
 get_front : (xs ys : List CallRec) (i : ℕ) → i < length xs → slice_get (xs ++ ys) i ≡ slice_get xs i
@@ -111,10 +105,6 @@ history_more calls c open_field h unnamed ordered =
     (record { began = began_before calls i c.begin a h parts.0 here; name = apart c.name a (not_named c.name calls i a unnamed here) })) in
     subst (λ (n : ℕ). AreInOrder (calls ++ c ∷ []) n) (sym (length_more calls c)) more
 
--- what was read is one
-same_ok : {A : Type 0} (x y : A) → ◌≡◌ {A = Result A Fault} (Ok x) (Ok y) → x ≡ y
-same_ok x y h = cc
-
 -- an answered call is the one that was asked
 record IsOf (name : Name) (timed : Timed) (c : CallRec) : Type 0 where
   name_is : c.name ≡ name
@@ -169,14 +159,14 @@ after_history seen next [] h e = subst (λ (s : Seen). IsHistory s.calls) (same_
 after_history seen next (word ∷ more) h e = line_history seen next (word ∷ more) h e
 
 -- a log that was read to its end
-same_log : (x y : Log) → ◌≡◌ {A = Result Log FaultAt} (Ok x) (Ok y) → x ≡ y
+pub same_log : (x y : Log) → ◌≡◌ {A = Result Log FaultAt} (Ok x) (Ok y) → x ≡ y
 same_log x y h = cc
 
 finished_history : (line : ℕ) (calls : List CallRec) (ends : Option Counts) (log : Log) → IsHistory calls → finished line calls ends ≡ Ok log → IsHistory log.calls
 finished_history line calls None log h e = absurd (cc)
 finished_history line calls (Some counts) log h e = subst (λ (x : Log). IsHistory x.calls) (same_log (record { calls = calls; events = counts.events; skipped = counts.skipped }) log e) h
 
-at_line_ok : (line : ℕ) (r : Result Seen Fault) (next : Seen → Result Log FaultAt) (log : Log) → at_line line r next ≡ Ok log → (seen : Seen) × ((r ≡ Ok seen) × (next seen ≡ Ok log))
+pub at_line_ok : (line : ℕ) (r : Result Seen Fault) (next : Seen → Result Log FaultAt) (log : Log) → at_line line r next ≡ Ok log → (seen : Seen) × ((r ≡ Ok seen) × (next seen ≡ Ok log))
 at_line_ok line (Ok seen) next log e = (seen, (refl, e))
 at_line_ok line (Err fault) next log e = absurd (cc)
 

@@ -1,3 +1,11 @@
+pub mod AnswerTexts
+pub mod BytesTexts
+pub mod Choices
+pub mod FieldTexts
 pub mod Histories
+pub mod Joined
 pub mod LineByLine
+pub mod LineTexts
 pub mod NameLemmas
+pub mod NumberLemmas
+pub mod Tidied

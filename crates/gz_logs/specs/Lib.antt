@@ -2,6 +2,7 @@ pub mod Answers
 pub mod Bytes
 pub mod Calls
 pub mod Kinds
+pub mod Laws
 pub mod Lines
 pub mod Named
 pub mod Parsed

@@ -5,6 +5,7 @@ mod answers;
 mod bytes;
 mod calls;
 mod kinds;
+pub mod laws;
 mod lines;
 mod named;
 mod reader;
