@@ -1,3 +1,4 @@
+pub mod Awaited
 pub mod Ballots
 pub mod Columns
 pub mod Counting

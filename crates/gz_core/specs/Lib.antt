@@ -1,3 +1,4 @@
+pub mod Awaiting
 pub mod Blobs
 pub mod Calls
 pub mod Causes

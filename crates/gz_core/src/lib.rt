@@ -5,6 +5,7 @@
 pub mod blobs;
 pub mod calls;
 pub mod fates;
+pub mod fragments;
 pub mod keys;
 pub mod lists;
 pub mod names;
@@ -17,6 +18,7 @@ pub mod values;
 pub use blobs::BlobName;
 pub use calls::{Answer, Call, HeldWhy, Phase, UnsureWhy};
 pub use fates::{Fate, Fates};
+pub use fragments::FragRef;
 pub use gz_config::{Config, ConfigError, Order};
 pub use keys::Key;
 pub use lists::Items;

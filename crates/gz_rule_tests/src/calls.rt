@@ -1,6 +1,6 @@
 //! What calls, values and words show.
 use crate::samples::{ONE, TWO, key_of, tomb};
-use gz_core::{Call, Items, PutName, PutValue, Value, Word};
+use gz_core::{Call, FragRef, Items, PutName, PutValue, SiteId, Value, Word};
 use std::alloc::Global;
 
 fn put(alloc: Global) -> Option<Call> {
@@ -36,9 +36,19 @@ fn keys_of_calls(alloc: Global) -> [bool; 3] {
 }
 
 /// The name of what a put writes.
-fn name_of_put(alloc: Global) -> PutName {
-    let bytes = Items::new(alloc);
-    Value::Put(PutValue { name: TWO, bytes }).name()
+fn name_of_put(alloc: Global) -> Option<PutName> {
+    let fragment = FragRef {
+        site: SiteId(0),
+        digest: [0; 32],
+    };
+    let value = Value::Put(PutValue {
+        name: TWO,
+        length: 0,
+        k: 1,
+        m: 0,
+        fragments: Items::from_slice(alloc, &[fragment]).ok()?,
+    });
+    Some(value.name())
 }
 
 fn name_of_delete() -> PutName {
@@ -56,6 +66,6 @@ fn is_word(alloc: Global, text: &str) -> bool {
 #[test]
 fn calls_values_and_words(rt: HostRuntime) {
     assert!(rt; keys_of_calls(rt.alloc()) == [true, true, true]);
-    assert!(rt; [name_of_delete(), name_of_put(rt.alloc())] == [ONE, TWO]);
+    assert!(rt; (name_of_delete(), name_of_put(rt.alloc())) == (ONE, Some(TWO)));
     assert!(rt; is_word(rt.alloc(), "replay"));
 }
