@@ -7,17 +7,20 @@ use Rattle.std.proofs.lemmas.Bool.{cases_lt, ltb-false, le-ltb, le-leb, eqb-fals
 use Rattle.std.proofs.lemmas.Bool.Decides.{leb_tells}
 use Rattle.std.proofs.lemmas.List.Sums.{fails_before_first, passes_at_first}
 use Rattle.gz_core.specs.Keys.{IsKeyByte, IsKey}
+use Rattle.gz_bytes.specs.Fields.{bytes_at, byte_at}
+use Rattle.gz_bytes.proofs.Steps.{told_ok, told_again, ok_is, not_refused, admitted, not_zero}
+use Rattle.gz_bytes.proofs.Bytes.{IsBytes, Takes, Takes-then, bytes_takes, bytes_again, byte_takes}
+use Rattle.gz_fragfmt.specs.declared.errors.FragError.{FragError}
 use Rattle.gz_fragfmt.specs.declared.errors.FragError.TheVariants.{Magic, Field}
 use Rattle.gz_fragfmt.specs.Spelling.{magic, string}
-use Rattle.gz_fragfmt.specs.Reading.{bytes_at, byte_at, magic_at, is_key_byte, bad_place, good_key, key_bytes_at, key_at}
-use Rattle.gz_fragfmt.proofs.Bytes.{IsBytes, not_zero, Takes, Takes-then, bind_ok, bind_again, ok_is, not_refused, admitted, bytes_takes, bytes_again, byte_takes}
+use Rattle.gz_fragfmt.specs.Reading.{fault_of, magic_at, is_key_byte, bad_place, good_key, key_bytes_at, key_at}
 
 -- ---- the magic
 
 pub magic_takes : (bytes rest : List ℕ) → IsBytes bytes → magic_at bytes ≡ Ok rest → Takes bytes magic rest
 unfolding magic_at
 magic_takes bytes rest fits e =
-    let front = bind_ok (bytes_at 4 0 bytes) _ rest e in
+    let front = told_ok fault_of (bytes_at 4 0 bytes) _ rest e in
     let took = bytes_takes 4 0 bytes front.0 fits front.1 in
     let good = admitted (pointwise nat_eq front.0.0 magic) (Magic 0) front.0.1 rest front.2 in
     let same : front.0.0 ≡ magic = same_text front.0.0 magic (sym good.0) in
@@ -25,7 +28,7 @@ magic_takes bytes rest fits e =
 
 pub magic_again : (rest : List ℕ) → magic_at (magic ++ rest) ≡ Ok rest
 unfolding magic_at
-magic_again rest = bind_again (bytes_at 4 0 (magic ++ rest)) (magic, rest) (λ front. cond (pointwise nat_eq front.0 magic) (Ok front.1) (Err (Magic 0))) (Ok rest) (bytes_again magic rest 4 0 refl) refl
+magic_again rest = told_again fault_of (bytes_at 4 0 (magic ++ rest)) (magic, rest) (λ front. cond (pointwise nat_eq front.0 magic) (Ok front.1) (Err (Magic 0))) (Ok rest) (bytes_again magic rest 4 0 refl) refl
 
 -- ---- the bytes of a key
 
@@ -61,13 +64,13 @@ bad_none xs all =
     ]
 
 good_ok : (at : ℕ) (place : Option ℕ) (key x : List ℕ × List ℕ) → good_key at place key ≡ Ok x → (place ≡ None) × (key ≡ x)
-good_ok at None key x e = (refl, ok_is key x e)
+good_ok at None key x e = (refl, ok_is {E = FragError} key x e)
 good_ok at (Some i) key x e = absurd cc
 
 key_bytes_takes : (n at : ℕ) (bytes : List ℕ) (x : List ℕ × List ℕ) → IsBytes bytes → key_bytes_at n at bytes ≡ Ok x → Takes bytes x.0 x.1 × (length x.0 ≡ n) × All IsKeyByte x.0
 unfolding key_bytes_at
 key_bytes_takes n at bytes x fits e =
-    let key = bind_ok (bytes_at n at bytes) _ x e in
+    let key = told_ok fault_of (bytes_at n at bytes) _ x e in
     let took = bytes_takes n at bytes key.0 fits key.1 in
     let good = good_ok at (bad_place key.0.0) key.0 x key.2 in
     subst (λ (y : List ℕ × List ℕ). Takes bytes y.0 y.1 × (length y.0 ≡ n) × All IsKeyByte y.0) good.1 (took.0, took.1, none_bad key.0.0 good.0)
@@ -75,7 +78,7 @@ key_bytes_takes n at bytes x fits e =
 key_bytes_again : (key rest : List ℕ) (at : ℕ) → All IsKeyByte key → key_bytes_at (length key) at (key ++ rest) ≡ Ok (key, rest)
 unfolding key_bytes_at
 key_bytes_again key rest at all =
-    bind_again (bytes_at (length key) at (key ++ rest)) (key, rest) (λ x. good_key at (bad_place x.0) x) (Ok (key, rest)) (bytes_again key rest (length key) at refl)
+    told_again fault_of (bytes_at (length key) at (key ++ rest)) (key, rest) (λ x. good_key at (bad_place x.0) x) (Ok (key, rest)) (bytes_again key rest (length key) at refl)
     (ap (λ (place : Option ℕ). good_key at place (key, rest)) (bad_none key all))
 
 -- ---- a key
@@ -83,7 +86,7 @@ key_bytes_again key rest at all =
 pub key_takes : (bytes : List ℕ) (x : List ℕ × List ℕ) → IsBytes bytes → key_at bytes ≡ Ok x → Takes bytes (string x.0) x.1 × IsKey x.0
 unfolding key_at
 key_takes bytes x fits e =
-    let n = bind_ok (byte_at 4 bytes) _ x e in
+    let n = told_ok fault_of (byte_at 4 bytes) _ x e in
     let count = byte_takes 4 bytes n.0 fits n.1 in
     let some = not_refused (eqb n.0.0 0) (Field 4) (key_bytes_at n.0.0 5 n.0.1) x n.2 in
     let key = key_bytes_takes n.0.0 5 n.0.1 x count.0.rest_fits some.1 in

@@ -2,7 +2,7 @@
 use Rattle.std.specs.Prelude.{ℕ, List, ◌∷◌, ◌++◌, codes}
 use Rattle.std.specs.Prelude.{length as list_length}
 use Rattle.std.specs.Int.{w32, to_be_bytes}
-use Rattle.gz_core.specs.Names.{Name}
+use Rattle.gz_bytes.specs.Spelling.{name_bytes}
 use Rattle.gz_fragfmt.specs.Fragments.{FragmentAt}
 
 -- what each record begins with
@@ -12,10 +12,6 @@ magic = codes "GZF1"
 -- one byte of length, and that many bytes
 abbrev pub string : List ℕ → List ℕ
 string key = list_length key ∷ key
-
--- the two numbers of a put's name
-abbrev pub name_bytes : Name → List ℕ
-name_bytes name = to_be_bytes w32 name.session ++ to_be_bytes w32 name.seq
 
 -- the index, the numbers of data and parity pieces, and the object's length
 abbrev pub shape_bytes : ℕ → ℕ → ℕ → ℕ → List ℕ

@@ -1,4 +1,5 @@
 //! Why bytes are no fragment record.
+use gz_bytes::Fault;
 use std::alloc::AllocError;
 use thiserror::Error;
 
@@ -29,5 +30,19 @@ impl From<AllocError> for FragError {
 
     fn from(_error: AllocError) -> FragError {
         FragError::NoMemory
+    }
+}
+
+impl From<Fault> for FragError {
+    ghost use Rattle.std.specs.Prelude.{◌≡◌};
+    ghost use Rattle.gz_fragfmt.specs.Reading.{fault_of};
+
+    ghost from_gives = { λ fault e. e ≡ fault_of fault };
+
+    fn from(fault: Fault) -> FragError {
+        match fault {
+            Fault::Short { at } => FragError::Short { at },
+            Fault::Wrong { at } => FragError::Field { at },
+        }
     }
 }

@@ -3,47 +3,14 @@ ghost use Rattle.std.specs.Prelude.{◌≡◌, ◌+◌, ◌^◌, ◌<◌, ◌≤
 ghost use Rattle.std.specs.Int.{div_ceil};
 ghost use Rattle.gz_fragfmt.specs.Fragments.{FragmentAt, IsFragment, parts_at};
 ghost use Rattle.gz_fragfmt.specs.Spelling.{spelling};
-ghost use Rattle.gz_fragfmt.specs.Reading.{Gives, MayGive, bytes_at, byte_at, number_at, magic_at, bad_place, key_bytes_at, key_at, name_at, k_at, m_at, length_at, piece_at, rest_at, fragment_in};
+ghost use Rattle.gz_fragfmt.specs.Reading.{Gives, MayGive, magic_at, bad_place, key_bytes_at, key_at, m_at, piece_at, rest_at, fragment_in};
 
 use crate::errors::FragError;
 use crate::fragments::{Fragment, Parts};
+use gz_bytes::{byte_of, bytes_of, data_of, length_of, name_of, parity_of};
 use gz_core::keys::is_key_byte;
-use gz_core::values::MOST_OBJECT_BYTES;
 use gz_core::{Items, Key, PutName, Session};
 use std::alloc::{AllocError, Global};
-
-/// The first `count` bytes.
-fn bytes_of(count: usize, at: usize, bytes: &[u8]) -> Result<(&[u8], &[u8]), FragError>
-    ensures gives { Gives (λ x. (x.0.now, x.1.now)) result (bytes_at count at bytes.now) }
-    ensures long { IfOk result (λ x. length x.0.now ≡ count) }
-{
-    if bytes.len() < count {
-        return Err(FragError::Short { at });
-    }
-    Ok(bytes.split_at(count))
-}
-
-/// A number of one byte.
-fn byte_of(at: usize, bytes: &[u8]) -> Result<(u8, &[u8]), FragError>
-    ensures { Gives (λ x. (x.0, x.1.now)) result (byte_at at bytes.now) }
-{
-    match bytes {
-        [] => Err(FragError::Short { at }),
-        [byte, rest @ ..] => Ok((*byte, rest)),
-    }
-}
-
-/// A number of four bytes.
-fn number_of(at: usize, bytes: &[u8]) -> Result<(u32, &[u8]), FragError>
-    ensures { Gives (λ x. (x.0, x.1.now)) result (number_at at bytes.now) }
-{
-    if bytes.len() < 4 {
-        return Err(FragError::Short { at });
-    }
-    let (front, rest) = bytes.split_at(4);
-    let number = u32::from_be_bytes([front[0], front[1], front[2], front[3]]);
-    Ok((number, rest))
-}
 
 /// What each record begins with.
 pub(crate) const MAGIC: [u8; 4] = *b"GZF1";
@@ -94,55 +61,16 @@ fn key_of(bytes: &[u8]) -> Result<(&[u8], &[u8]), FragError>
     key_bytes_of(count as usize, 5, rest)
 }
 
-/// The two numbers of a name, each at least 1: one field, which is whole before its numbers are tried.
-#[tactic(auto, unfolding(crate::specs::Reading::name_at))]
-fn name_of(at: usize, bytes: &[u8]) -> Result<((u32, u32), &[u8]), FragError>
-    ensures { Gives (λ x. (x.0, x.1.now)) result (name_at at bytes.now) }
-{
-    let (session, rest) = number_of(at, bytes)?;
-    let (seq, rest) = number_of(at, rest)?;
-    if session == 0 || seq == 0 {
-        return Err(FragError::Field { at });
-    }
-    Ok(((session, seq), rest))
-}
-
-/// The number of data pieces, at least 1.
-#[tactic(auto, unfolding(crate::specs::Reading::k_at))]
-fn k_of(at: usize, bytes: &[u8]) -> Result<(u8, &[u8]), FragError>
-    ensures gives { Gives (λ x. (x.0, x.1.now)) result (k_at at bytes.now) }
-    ensures positive { IfOk result (λ x. 1 ≤ x.0) }
-{
-    let (k, rest) = byte_of(at, bytes)?;
-    if k == 0 {
-        return Err(FragError::Field { at });
-    }
-    Ok((k, rest))
-}
-
-/// The number of parity pieces: with that of data pieces it is at most 16, and above the index.
+/// The number of parity pieces: with that of data pieces it is above the index.
 #[tactic(auto, unfolding(crate::specs::Reading::m_at))]
 fn m_of(at: usize, index: u8, k: u8, bytes: &[u8]) -> Result<(u8, &[u8]), FragError>
     ensures { Gives (λ x. (x.0, x.1.now)) result (m_at at index k bytes.now) }
 {
-    let (m, rest) = byte_of(at, bytes)?;
-    let pieces = k as u16 + m as u16;
-    if 16 < pieces || pieces <= index as u16 {
+    let (m, rest) = parity_of(at, k, bytes)?;
+    if k + m <= index {
         return Err(FragError::Field { at });
     }
     Ok((m, rest))
-}
-
-/// The length of the object.
-#[tactic(auto, unfolding(crate::specs::Reading::length_at))]
-fn length_of(at: usize, bytes: &[u8]) -> Result<(u32, &[u8]), FragError>
-    ensures { Gives (λ x. (x.0, x.1.now)) result (length_at at bytes.now) }
-{
-    let (length, rest) = number_of(at, bytes)?;
-    if MOST_OBJECT_BYTES < length as usize {
-        return Err(FragError::Field { at });
-    }
-    Ok((length, rest))
 }
 
 /// The piece, with which the bytes end.
@@ -166,7 +94,7 @@ fn rest_of<'a>(key: &'a [u8], at: usize, bytes: &'a [u8]) -> Result<Parts<'a>, F
 {
     let ((session, seq), rest) = name_of(at, bytes)?;
     let (index, rest) = byte_of(at + 8, rest)?;
-    let (k, rest) = k_of(at + 9, rest)?;
+    let (k, rest) = data_of(at + 9, rest)?;
     let (m, rest) = m_of(at + 10, index, k, rest)?;
     let (length, rest) = length_of(at + 11, rest)?;
     let piece = piece_of(at + 15, length.div_ceil(k as u32) as usize, rest)?;

@@ -1,7 +1,8 @@
 //! Fragment records are written, each in one list that is as long as it needs.
 ghost use Rattle.std.specs.Prelude.{◌≡◌, ◌++◌, IfOk, OnOk};
 ghost use Rattle.gz_fragfmt.specs.Fragments.{fragment_of};
-ghost use Rattle.gz_fragfmt.specs.Spelling.{spelling, string, name_bytes, shape_bytes};
+ghost use Rattle.gz_bytes.specs.Spelling.{name_bytes};
+ghost use Rattle.gz_fragfmt.specs.Spelling.{spelling, string, shape_bytes};
 
 use crate::fragments::{Fragment, Shape};
 use crate::reading::MAGIC;

@@ -1,6 +1,7 @@
 use Rattle.std.proofs.Common.{◌≡◌, ℕ, List, ◌++◌, Result, Ok, Err, ap, ◌∙◌, append_assoc}
 use Rattle.std.specs.Prelude.{OnOk}
-use Rattle.gz_fragfmt.specs.Spelling.{string, name_bytes, shape_bytes}
+use Rattle.gz_bytes.specs.Spelling.{name_bytes}
+use Rattle.gz_fragfmt.specs.Spelling.{string, shape_bytes}
 use Rattle.gz_fragfmt.proofs.writing.put_header.Goals as goal
 
 -- three parts one after another

@@ -1,0 +1,4 @@
+pub mod Bytes
+pub mod PutFields
+pub mod Steps
+pub mod Widths

@@ -1,0 +1,4 @@
+pub mod Columns
+pub mod Loops
+pub mod Records
+pub mod Values
