@@ -8,7 +8,7 @@ use std::alloc::Global;
 
 /// The three fragments of the bytes 01 02 that the first put of session 1 stored under the key `a`, with one parity piece:
 /// the index, the byte of the piece, and the record.
-const RECORDS: &[(u8, u8, &[u8])] = &[
+pub(crate) const RECORDS: &[(u8, u8, &[u8])] = &[
     (
         0,
         1,

@@ -1,5 +1,11 @@
-//! Tests of records as bytes.
+//! Tests of records as bytes, of objects that are cut into them, and of objects that are gathered from them.
 #![tactic(auto)]
 
 #[cfg(test)]
+mod cuts;
+#[cfg(test)]
 mod fragments;
+#[cfg(test)]
+mod gatherings;
+#[cfg(test)]
+mod rows;

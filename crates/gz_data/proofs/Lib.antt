@@ -1,0 +1,11 @@
+pub mod Adding
+pub mod Blobs
+pub mod Cutting
+pub mod Digests
+pub mod Fresh
+pub mod Gathers
+pub mod Joining
+pub mod Records
+pub mod SameBlob
+pub mod Taken
+pub mod Whole

@@ -1,0 +1,9 @@
+pub mod Blobs
+pub mod Gathered
+pub mod Hearing
+pub mod Laws
+pub mod Own
+pub mod Records
+pub mod Requests
+pub mod Storing
+pub mod Whole
