@@ -1,15 +1,16 @@
 -- Rounds rise by at most one a request: those of rows that are known stay below the ones that no run reaches.
-use Rattle.std.proofs.Common.{◌≡◌, ℕ, zero, suc, ◌+◌, ◌<◌, ◌≤◌, ◌^◌, max, List, [], ◌∷◌, ◌++◌, length, Option, Some, None, refl, sym, subst, inl, inr, ◌⊎◌, arith}
+use Rattle.std.proofs.Common.{◌≡◌, ℕ, zero, suc, ◌+◌, ◌<◌, ◌≤◌, ◌^◌, max, true, List, [], ◌∷◌, ◌++◌, length, Some, refl, sym, subst, inl, inr, ◌⊎◌, arith}
 use Rattle.gz_core.specs.Names.{BallotAt}
 use Rattle.gz_config.specs.declared.Config.{Config}
-use Rattle.gz_core.specs.declared.calls.Answer.{Answer}
 use Rattle.gz_core.specs.declared.requests.RowStep.{RowStep}
 use Rattle.gz_core.specs.declared.requests.RowStep.TheVariants.{FastVote, Promise, ClassicVote, Decide, Trim}
 use Rattle.gz_core.specs.declared.requests.Op.{Op}
 use Rattle.gz_core.specs.declared.requests.Op.TheVariants.{WriteRow}
 use Rattle.gz_core.specs.declared.requests.Out.{Out}
 use Rattle.gz_round.specs.declared.run.Run.{Run}
-use Rattle.gz_core.specs.History.{Action, Sent, GaveIn, Caller, Trace, IsClosing, asked_of, sent_from}
+use Rattle.gz_round.specs.declared.outcome.Outcome.{Outcome}
+use Rattle.gz_round.specs.declared.outcome.Outcome.TheVariants.{Goes}
+use Rattle.gz_core.specs.History.{Action, Sent, GaveIn, Caller, Trace, IsClosing, is_row_request, asked_of, sent_from}
 use Rattle.gz_round.specs.Sites.{SiteNow, site_now}
 use Rattle.gz_round.specs.Sent.{of_step, promise_by, round_after, top_round, last_promise}
 use Rattle.gz_round.specs.Rounds.{round_known, greatest, next_round, top_rounds, rounds_used}
@@ -36,8 +37,8 @@ step_below c w past ms (ClassicVote v b x) r used high allowed may = omega arith
 step_below c w past ms (Decide v x) r used high allowed may = omega arith
 step_below c w past ms (Trim to x) r used high allowed may = absurd may
 
-op_below : (c : Config) (w : Caller) (past : List Trace) (ms : List Action) (now : SiteNow) (op : Op) (r : ℕ) → rounds_used past ms < r → 2 ^ 31 ≤ r → AreAllowed c w past ms → MayAsk c w past ms now op → max (top_rounds past) (round_after (of_step promise_by op) (top_round ms)) < r + 1
-op_below c w past ms now (WriteRow key expect step row) r used high allowed may = step_below c w past ms step r used high allowed may.1.guard
+op_below : (c : Config) (w : Caller) (past : List Trace) (ms : List Action) (now : SiteNow) (op : Op) (r : ℕ) → rounds_used past ms < r → 2 ^ 31 ≤ r → AreAllowed c w past ms → (is_row_request op ≡ true → MayAsk c w past ms now op) → max (top_rounds past) (round_after (of_step promise_by op) (top_round ms)) < r + 1
+op_below c w past ms now (WriteRow key expect step row) r used high allowed may = step_below c w past ms step r used high allowed (may refl).1.guard
 op_below c w past ms now op r used high allowed may = omega arith
 
 -- what came before the requests of an event was allowed
@@ -46,16 +47,16 @@ allowed_before c w past first [] ms h = h
 allowed_before c w past first (o ∷ os) ms h = (allowed_before c w past (first + 1) os (Sent (asked_of first o) ∷ ms) h).1
 
 -- the rounds that a session used after the requests of an event
-sent_below : (c : Config) (w : Caller) (past : List Trace) (first : ℕ) (outs : List Out) (ms : List Action) (r : ℕ) → rounds_used past ms < r → 2 ^ 31 ≤ r → AreAllowed c w past (sent_from first outs ms) → rounds_used past (sent_from first outs ms) < r + length outs
+pub sent_below : (c : Config) (w : Caller) (past : List Trace) (first : ℕ) (outs : List Out) (ms : List Action) (r : ℕ) → rounds_used past ms < r → 2 ^ 31 ≤ r → AreAllowed c w past (sent_from first outs ms) → rounds_used past (sent_from first outs ms) < r + length outs
 sent_below c w past first [] ms r used high h = omega arith
 sent_below c w past first (o ∷ os) ms r used high h =
     let one : AreAllowed c w past (Sent (asked_of first o) ∷ ms) = allowed_before c w past (first + 1) os (Sent (asked_of first o) ∷ ms) h in
-    let more : rounds_used past (Sent (asked_of first o) ∷ ms) < r + 1 = op_below c w past ms (site_now ms o.site) o.op r used high one.1 one.0.asks in
+    let more : rounds_used past (Sent (asked_of first o) ∷ ms) < r + 1 = op_below c w past ms (site_now ms o.site) o.op r used high one.1 (λ row. (one.0 row).asks) in
     omega (arith, sent_below c w past (first + 1) os (Sent (asked_of first o) ∷ ms) (r + 1) more (omega arith) h)
 
-turned_allowed : (c : Config) (w : Caller) (past : List Trace) (run : Run) (ms : List Action) (answer : Option Answer) → Turned c w past run ms answer → AreAllowed c w past ms
-turned_allowed c w past run ms None t = t.stands.allowed
-turned_allowed c w past run ms (Some answer) t = t.0
+turned_allowed : (c : Config) (w : Caller) (past : List Trace) (run : Run) (ms : List Action) (outcome : Outcome) → Turned c w past run ms outcome → AreAllowed c w past ms
+turned_allowed c w past run ms Goes t = t.stands.allowed
+turned_allowed c w past run ms outcome t = t.allowed
 
 closed_below : (c : Config) (w : Caller) (past : List Trace) (closing ms : List Action) (r : ℕ) → IsClosing closing → (AreAllowed c w past ms → rounds_used past ms < r) → AreAllowed c w past (closing ++ ms) → rounds_used past (closing ++ ms) < r
 closed_below c w past closing ms r (inl e) below h = subst (λ k. rounds_used past (k ++ ms) < r) (sym e) (below (subst (λ k. AreAllowed c w past (k ++ ms)) e h))
@@ -64,6 +65,6 @@ closed_below c w past closing ms r (inr e) below h =
     subst (λ k. rounds_used past (k ++ ms) < r) (sym e) (below k.1)
 
 -- and after an event of its newest call
-pub turned_below : (c : Config) (w : Caller) (past : List Trace) (run : Run) (closing : List Action) (first : ℕ) (outs : List Out) (ms : List Action) (answer : Option Answer) → IsClosing closing → rounds_used past ms < 2 ^ 31 + first → Turned c w past run (closing ++ sent_from first outs ms) answer → rounds_used past (closing ++ sent_from first outs ms) < 2 ^ 31 + (first + length outs)
-turned_below c w past run closing first outs ms answer closes used t =
-    closed_below c w past closing (sent_from first outs ms) (2 ^ 31 + (first + length outs)) closes (λ allowed. omega (arith, sent_below c w past first outs ms (2 ^ 31 + first) used (omega arith) allowed)) (turned_allowed c w past run (closing ++ sent_from first outs ms) answer t)
+pub turned_below : (c : Config) (w : Caller) (past : List Trace) (run : Run) (closing : List Action) (first : ℕ) (outs : List Out) (ms : List Action) (outcome : Outcome) → IsClosing closing → rounds_used past ms < 2 ^ 31 + first → Turned c w past run (closing ++ sent_from first outs ms) outcome → rounds_used past (closing ++ sent_from first outs ms) < 2 ^ 31 + (first + length outs)
+turned_below c w past run closing first outs ms outcome closes used t =
+    closed_below c w past closing (sent_from first outs ms) (2 ^ 31 + (first + length outs)) closes (λ allowed. omega (arith, sent_below c w past first outs ms (2 ^ 31 + first) used (omega arith) allowed)) (turned_allowed c w past run (closing ++ sent_from first outs ms) outcome t)

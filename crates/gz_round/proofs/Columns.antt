@@ -14,7 +14,7 @@ use Rattle.gz_core.specs.declared.values.Value.{Value}
 use Rattle.gz_core.specs.declared.rows.Column.{Column}
 use Rattle.gz_core.specs.declared.rows.Column.TheVariants.{Open, Decided}
 use Rattle.gz_pick.specs.Looks.{row_top, top_in, row_name, shows_value, highest_of}
-use Rattle.gz_round.specs.Sites.{can_stand, entry_stands, column_stands}
+use Rattle.gz_round.specs.Sites.{can_stand, entry_stands, column_stands, vote_stands}
 use Rattle.gz_round.specs.Rounds.{slot_round}
 use Rattle.gz_round.specs.Causes.{row_value, column_value}
 
@@ -54,48 +54,48 @@ low_step : (shown : Bool) (v rest : ℕ) → v < 2 ^ 62 → rest < 2 ^ 62 → co
 low_step true v rest h k = omega arith
 low_step false v rest h k = omega arith
 
-low_columns : (columns : List (ℕ × Column)) → list_all entry_stands columns ≡ true → top_in columns < 2 ^ 62
-low_columns [] h = omega arith
-low_columns (c ∷ cs) h =
-    let both : (entry_stands c ≡ true) × (list_all entry_stands cs ≡ true) = and_parts (entry_stands c) (list_all entry_stands cs) h in
-    let parts : (nat_lt c.0 (2 ^ 62) ≡ true) × (column_stands c.1 ≡ true) = and_parts (nat_lt c.0 (2 ^ 62)) (column_stands c.1) both.0 in
+low_columns : (n : ℕ) (columns : List (ℕ × Column)) → list_all (entry_stands n) columns ≡ true → top_in columns < 2 ^ 62
+low_columns n [] h = omega arith
+low_columns n (c ∷ cs) h =
+    let both : (entry_stands n c ≡ true) × (list_all (entry_stands n) cs ≡ true) = and_parts (entry_stands n c) (list_all (entry_stands n) cs) h in
+    let parts : (nat_lt c.0 (2 ^ 62) ≡ true) × (column_stands n c.1 ≡ true) = and_parts (nat_lt c.0 (2 ^ 62)) (column_stands n c.1) both.0 in
     let low : c.0 < 2 ^ 62 = ltb-true c.0 (2 ^ 62) parts.0 in
-    low_step (shows_value c.1) c.0 (top_in cs) low (low_columns cs both.1)
+    low_step (shows_value c.1) c.0 (top_in cs) low (low_columns n cs both.1)
 
 -- the columns of a row that a run can hold
-stand_columns : (row : RowAt) → can_stand row ≡ true → list_all entry_stands row.columns ≡ true
-stand_columns row h =
-    let outer : (nat_lt row.floor (2 ^ 62) ≡ true) × ((nat_lt (length row.columns) (2 ^ 22) && list_all entry_stands row.columns) ≡ true) = and_parts (nat_lt row.floor (2 ^ 62)) (nat_lt (length row.columns) (2 ^ 22) && list_all entry_stands row.columns) h in
-    (and_parts (nat_lt (length row.columns) (2 ^ 22)) (list_all entry_stands row.columns) outer.1).1
+stand_columns : (n : ℕ) (row : RowAt) → can_stand n row ≡ true → list_all (entry_stands n) row.columns ≡ true
+stand_columns n row h =
+    let outer : (nat_lt row.floor (2 ^ 62) ≡ true) × ((nat_lt (length row.columns) (2 ^ 22) && list_all (entry_stands n) row.columns) ≡ true) = and_parts (nat_lt row.floor (2 ^ 62)) (nat_lt (length row.columns) (2 ^ 22) && list_all (entry_stands n) row.columns) h in
+    (and_parts (nat_lt (length row.columns) (2 ^ 22)) (list_all (entry_stands n) row.columns) outer.1).1
 
 -- a row that a run can hold shows no version beyond those that a run reaches
-pub stands_low : (row : RowAt) → can_stand row ≡ true → row_top row < 2 ^ 62
-stands_low row h = low_columns row.columns (stand_columns row h)
+pub stands_low : (n : ℕ) (row : RowAt) → can_stand n row ≡ true → row_top row < 2 ^ 62
+stands_low n row h = low_columns n row.columns (stand_columns n row h)
 
-round_column : (column : Column) → column_stands column ≡ true → slot_round (slot_of (Some column)) < 2 ^ 31
-round_column (Open promise vote) h = ltb-true promise.round (2 ^ 31) h
-round_column (Decided value) h = omega arith
+round_column : (n : ℕ) (column : Column) → column_stands n column ≡ true → slot_round (slot_of (Some column)) < 2 ^ 31
+round_column n (Open promise vote) h = ltb-true promise.round (2 ^ 31) (and_parts (nat_lt promise.round (2 ^ 31)) (vote_stands n vote) h).0
+round_column n (Decided value) h = omega arith
 
-round_columns : (columns : List (ℕ × Column)) (v : ℕ) → list_all entry_stands columns ≡ true → slot_round (slot_of (column_in columns v)) < 2 ^ 31
-round_columns [] v h = omega arith
-round_columns (c ∷ cs) v h =
-    let both : (entry_stands c ≡ true) × (list_all entry_stands cs ≡ true) = and_parts (entry_stands c) (list_all entry_stands cs) h in
-    let parts : (nat_lt c.0 (2 ^ 62) ≡ true) × (column_stands c.1 ≡ true) = and_parts (nat_lt c.0 (2 ^ 62)) (column_stands c.1) both.0 in
+round_columns : (n : ℕ) (columns : List (ℕ × Column)) (v : ℕ) → list_all (entry_stands n) columns ≡ true → slot_round (slot_of (column_in columns v)) < 2 ^ 31
+round_columns n [] v h = omega arith
+round_columns n (c ∷ cs) v h =
+    let both : (entry_stands n c ≡ true) × (list_all (entry_stands n) cs ≡ true) = and_parts (entry_stands n c) (list_all (entry_stands n) cs) h in
+    let parts : (nat_lt c.0 (2 ^ 62) ≡ true) × (column_stands n c.1 ≡ true) = and_parts (nat_lt c.0 (2 ^ 62)) (column_stands n c.1) both.0 in
     elim (cases_Bool (c.0 == v)) [
-      | inl e ↦ subst (λ (o : Option Column). slot_round (slot_of o) < 2 ^ 31) (sym (cond-true (c.0 == v) (Some c.1) (column_in cs v) e)) (round_column c.1 parts.1)
-      | inr e ↦ subst (λ (o : Option Column). slot_round (slot_of o) < 2 ^ 31) (sym (cond-false (c.0 == v) (Some c.1) (column_in cs v) e)) (round_columns cs v both.1)
+      | inl e ↦ subst (λ (o : Option Column). slot_round (slot_of o) < 2 ^ 31) (sym (cond-true (c.0 == v) (Some c.1) (column_in cs v) e)) (round_column n c.1 parts.1)
+      | inr e ↦ subst (λ (o : Option Column). slot_round (slot_of o) < 2 ^ 31) (sym (cond-false (c.0 == v) (Some c.1) (column_in cs v) e)) (round_columns n cs v both.1)
     ]
 
 -- and promises no round beyond those
-pub stands_round : (row : RowAt) (v : ℕ) → can_stand row ≡ true → slot_round (slots row v) < 2 ^ 31
-stands_round row v h =
+pub stands_round : (n : ℕ) (row : RowAt) (v : ℕ) → can_stand n row ≡ true → slot_round (slots row v) < 2 ^ 31
+stands_round n row v h =
     elim (cases_Bool (nat_lt 0 row.floor && leb v row.floor)) [
       | inl e ↦ subst (λ (s : Slot). slot_round s < 2 ^ 31) (sym (cond-true (nat_lt 0 row.floor && leb v row.floor) Gone (slot_of (column_in row.columns v)) e)) (let low : 0 < 2 ^ 31 = omega arith in low)
-      | inr e ↦ subst (λ (s : Slot). slot_round s < 2 ^ 31) (sym (cond-false (nat_lt 0 row.floor && leb v row.floor) Gone (slot_of (column_in row.columns v)) e)) (round_columns row.columns v (stand_columns row h))
+      | inr e ↦ subst (λ (s : Slot). slot_round s < 2 ^ 31) (sym (cond-false (nat_lt 0 row.floor && leb v row.floor) Gone (slot_of (column_in row.columns v)) e)) (round_columns n row.columns v (stand_columns n row h))
     ]
 
-pub empty_stands : can_stand empty_row ≡ true
-empty_stands = refl
+pub empty_stands : (n : ℕ) → can_stand n empty_row ≡ true
+empty_stands n = refl
 
 -- a row has a value at a version at which it names one
 columns_valued : (column : Option Column) (x : Name) → slot_name (slot_of column) ≡ Some x → IsSome (column_value column)

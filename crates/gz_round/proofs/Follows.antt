@@ -31,7 +31,8 @@ use Rattle.gz_round.specs.declared.run.Stage.{Stage}
 use Rattle.gz_round.specs.declared.run.Stage.TheVariants.{Look, Fast, Prepare, Accept}
 use Rattle.gz_round.specs.Standing.{Stands, StageStands}
 use Rattle.gz_round.specs.Evidence.{NoneEvident, EvidentAt}
-use Rattle.gz_round.specs.Following.{NoEvidence, NextMeans, MayPass, IsUnwritten, IsFound, IsStageAt, IsUnmet, is_topless, is_blank_known}
+use Rattle.gz_round.specs.Following.{NoEvidence, NextMeans, MayPass, IsUnwritten, IsFound, IsStageAt, is_topless, is_blank_known}
+use Rattle.gz_round.specs.Goals.{IsUnmet}
 use Rattle.gz_round.proofs.Lists.{all_at}
 use Rattle.gz_round.proofs.Heard.{counted_heard, heard_means, heard_passes}
 use Rattle.gz_round.proofs.Columns.{named_top, top_highest}

@@ -20,20 +20,22 @@ use Rattle.gz_pick.specs.Looks.{highest_of}
 use Rattle.gz_round.specs.declared.run.Run.{Run}
 use Rattle.gz_round.specs.declared.run.Stage.{Stage}
 use Rattle.gz_round.specs.declared.run.Stage.TheVariants.{Look, Fast, Prepare, Accept}
+use Rattle.gz_round.specs.declared.outcome.Outcome.TheVariants.{Ends}
 use Rattle.gz_core.specs.History.{Action, GaveIn, Caller, Trace}
 use Rattle.gz_round.specs.Rounds.{promises_known, above_known}
 use Rattle.gz_round.specs.Sent.{last_promise}
 use Rattle.gz_round.specs.Sending.{MayGiveIn, NoPromise, NoVote, Collected, IsIdle, IsStuck, IsShort, NoEvidence, rows_known, answer_of}
 use Rattle.gz_round.specs.Counting.{outs, IsGoing}
-use Rattle.gz_round.specs.Causes.{HasCause, IsCutOff}
+use Rattle.gz_round.specs.Causes.{EndsBy, IsCutOff}
 use Rattle.gz_round.specs.Standing.{Knows, Stands, StageStands}
 use Rattle.gz_round.specs.Following.{HasTurned}
-use Rattle.gz_round.specs.Acting.{RunsOut, given_in_of, ended_of, ended_in, stage_step, step_in, working_version, version_in, IsShortIn, is_overtaken_in}
+use Rattle.gz_round.specs.Acting.{RunsOut, given_in_of, ended_of, ended_in, working_version, version_in, IsShortIn}
+use Rattle.gz_round.specs.Goals.{is_overtaken_in, stage_step, step_in}
 use Rattle.gz_round.proofs.Lists.{count_told}
 use Rattle.gz_round.proofs.Turns.{none_above_listed, last_of, last_may}
 use Rattle.gz_round.proofs.Untaken.{gone_or_kept, undecided_known, promise_untaken, classic_untaken}
 
-count_all : (n : ℕ) → count_sites n (λ s. true) ≡ n
+pub count_all : (n : ℕ) → count_sites n (λ s. true) ≡ n
 count_all zero = refl
 count_all (suc n) = ap suc (count_all n)
 
@@ -42,17 +44,17 @@ count_none zero = refl
 count_none (suc n) = count_none n
 
 -- every site is out
-pub given_in_turned : (c : Config) (w : Caller) (past : List Trace) (run : Run) (ms : List Action) → IsConfig c → Stands c w past run ms → IsGoing c ms → MayGiveIn c w past ms → HasTurned c w past run ms (Some (given_in_of run))
+pub given_in_turned : (c : Config) (w : Caller) (past : List Trace) (run : Run) (ms : List Action) → IsConfig c → Stands c w past run ms → IsGoing c ms → MayGiveIn c w past ms → HasTurned c w past run ms (Ends (given_in_of run))
 given_in_turned c w past run ms config h going may =
     let few = going.few in
     let q = config.quorums in
     let out : outs c (GaveIn ∷ ms) ≡ c.n = count_all c.n in
     let cut : IsCutOff c (GaveIn ∷ ms) run.wrote 0 = record { few = few; lost = omega (arith, out, config.some, q.majority); phase_is = h.wrote_is; heard_is = sym (count_none c.n) } in
-    let cause : HasCause c w (GaveIn ∷ ms) (given_in_of run) = elim (cases_Bool run.voted) [
-      | inl e ↦ subst (HasCause c w (GaveIn ∷ ms)) (sym (cond-true run.voted (Unsure (UnsureNoQuorum run.wrote 0)) (NoQuorum run.wrote 0) e)) (sym h.voted_is ∙ e, cut)
-      | inr e ↦ subst (HasCause c w (GaveIn ∷ ms)) (sym (cond-false run.voted (Unsure (UnsureNoQuorum run.wrote 0)) (NoQuorum run.wrote 0) e)) (sym h.voted_is ∙ e, cut)
+    let cause : EndsBy c w (GaveIn ∷ ms) (given_in_of run) = elim (cases_Bool run.voted) [
+      | inl e ↦ subst (EndsBy c w (GaveIn ∷ ms)) (sym (cond-true run.voted (Unsure (UnsureNoQuorum run.wrote 0)) (NoQuorum run.wrote 0) e)) (sym h.voted_is ∙ e, cut)
+      | inr e ↦ subst (EndsBy c w (GaveIn ∷ ms)) (sym (cond-false run.voted (Unsure (UnsureNoQuorum run.wrote 0)) (NoQuorum run.wrote 0) e)) (sym h.voted_is ∙ e, cut)
     ] in
-    (GaveIn ∷ [], inr refl, ((may, h.allowed), cause, h.round_is))
+    (GaveIn ∷ [], inr refl, record { key_is = h.key_is; own_is = h.own_is; allowed = (may, h.allowed); reads = λ (s : ℕ) (l : s < c.n) may idle. refl; comes = cause; round_is = h.round_is })
 
 -- too few known rows promise the ballot
 pub short_known : (c : Config) (run : Run) (ms : List Action) (v : ℕ) (b : BallotAt) → Knows c run ms → count_by (promises_known v b) run.rows < c.qc → IsShort c ms v b
@@ -97,11 +99,11 @@ voted_out c w past run ms v b x at r =
     ]
 
 -- a phase that has ended without its goal ends the call, but for the first phases
-ended_at : (c : Config) (w : Caller) (past : List Trace) (run : Run) (ms : List Action) (stage : Stage) (answer : Answer) → IsConfig c → run.stage ≡ stage → RunsOut c w past run ms → ended_in run stage ≡ Some answer → HasTurned c w past run ms (Some answer)
+ended_at : (c : Config) (w : Caller) (past : List Trace) (run : Run) (ms : List Action) (stage : Stage) (answer : Answer) → IsConfig c → run.stage ≡ stage → RunsOut c w past run ms → ended_in run stage ≡ Some answer → HasTurned c w past run ms (Ends answer)
 ended_at c w past run ms Look answer config at r e = absurd (none-some answer e)
 ended_at c w past run ms (Fast v) answer config at r e = absurd (none-some answer e)
-ended_at c w past run ms (Prepare v b found) answer config at r e = subst (λ a. HasTurned c w past run ms (Some a)) (same_Some (given_in_of run) answer e) (given_in_turned c w past run ms config r.stands r.going (prepared_out c w past run ms v b found at r))
-ended_at c w past run ms (Accept v b x) answer config at r e = subst (λ a. HasTurned c w past run ms (Some a)) (same_Some (given_in_of run) answer e) (given_in_turned c w past run ms config r.stands r.going (voted_out c w past run ms v b x at r))
+ended_at c w past run ms (Prepare v b found) answer config at r e = subst (λ a. HasTurned c w past run ms (Ends a)) (same_Some (given_in_of run) answer e) (given_in_turned c w past run ms config r.stands r.going (prepared_out c w past run ms v b found at r))
+ended_at c w past run ms (Accept v b x) answer config at r e = subst (λ a. HasTurned c w past run ms (Ends a)) (same_Some (given_in_of run) answer e) (given_in_turned c w past run ms config r.stands r.going (voted_out c w past run ms v b x at r))
 
-pub ended_turned : (c : Config) (w : Caller) (past : List Trace) (run : Run) (ms : List Action) (answer : Answer) → IsConfig c → RunsOut c w past run ms → ended_of run ≡ Some answer → HasTurned c w past run ms (Some answer)
+pub ended_turned : (c : Config) (w : Caller) (past : List Trace) (run : Run) (ms : List Action) (answer : Answer) → IsConfig c → RunsOut c w past run ms → ended_of run ≡ Some answer → HasTurned c w past run ms (Ends answer)
 ended_turned c w past run ms answer config r e = ended_at c w past run ms run.stage answer config refl r e

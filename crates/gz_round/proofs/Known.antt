@@ -12,7 +12,7 @@ use Rattle.gz_pick.specs.Evidences.{votes_for, decides, IsEvident, row_at}
 use Rattle.gz_round.specs.declared.hearing.Seen.{Seen}
 use Rattle.gz_round.specs.declared.run.Run.{Run}
 use Rattle.gz_core.specs.History.{Asked, Action, Sent, Handed, GaveUp, Rested, GaveIn, Caller, Trace}
-use Rattle.gz_round.specs.Sites.{SiteNow, site_now, after, after_reply, after_sent, known, row_seen, seen_in, written_by, is_changed, concerns, heard_in, WasHeard}
+use Rattle.gz_round.specs.Sites.{SiteNow, site_now, after, after_reply, after_sent, known, row_seen, seen_in, written_by, is_changed, concerns, is_about_rows, heard_in, WasHeard}
 use Rattle.gz_round.specs.Shown.{heard_at, IsShown, IsCurrent}
 use Rattle.gz_round.specs.Counting.{known_count, outs}
 use Rattle.gz_round.specs.Causes.{rows_known}
@@ -20,7 +20,7 @@ use Rattle.gz_round.specs.Standing.{Knows, Stands, mark_of}
 use Rattle.gz_round.specs.Evidence.{NoneEvident}
 use Rattle.gz_round.specs.Following.{NoEvidence}
 use Rattle.gz_round.proofs.Lists.{count_same, count_told}
-use Rattle.gz_round.proofs.Actions.{now_here, now_other, each_site}
+use Rattle.gz_round.proofs.Actions.{concerns_rows, heard_row, now_here, now_other, each_site}
 use Rattle.gz_round.proofs.Heard.{counted_heard}
 use Rattle.gz_round.proofs.Columns.{stands_low, highest_below}
 use Rattle.gz_round.proofs.AsHeard.{heard_stands}
@@ -56,12 +56,16 @@ handed_row (Some seen) changed now last e = inl e
 handed_row None true now last e = inr e
 handed_row None false now last e = inr e
 
-last_after : (m : Action) (now : SiteNow) (last : Seen) → (after m now).row ≡ Some last → (heard_in m ≡ Some last) ⊎ (now.row ≡ Some last)
-last_after (Sent a) now last e = inr (sym (sent_row a now) ∙ e)
-last_after (Handed a reply) now last e = handed_row (seen_in (written_by a.op) reply) (is_changed reply) now last e
-last_after (GaveUp a) now last e = inr e
-last_after Rested now last e = inr e
-last_after GaveIn now last e = inr e
+last_after : (m : Action) (now : SiteNow) (last : Seen) → is_about_rows m ≡ true → (after m now).row ≡ Some last → (heard_in m ≡ Some last) ⊎ (now.row ≡ Some last)
+last_after (Sent a) now last row e = inr (sym (sent_row a now) ∙ e)
+last_after (Handed a reply) now last row e =
+    elim (handed_row (seen_in (written_by a.op) reply) (is_changed reply) now last e) [
+      | inl k ↦ inl (heard_row a reply row ∙ k)
+      | inr k ↦ inr k
+    ]
+last_after (GaveUp a) now last row e = inr e
+last_after Rested now last row e = inr e
+last_after GaveIn now last row e = inr e
 
 last_here : (m : Action) (ms : List Action) (s : ℕ) (last : Seen) → concerns m s ≡ true → ((site_now ms s).row ≡ Some last → WasHeard ms s last.row) → (heard_in m ≡ Some last) ⊎ ((site_now ms s).row ≡ Some last) → WasHeard (m ∷ ms) s last.row
 last_here m ms s last k h (inl e) = inl (last, k, e, refl)
@@ -74,7 +78,7 @@ last_heard (m ∷ ms) s last e =
     elim (cases_Bool (concerns m s)) [
       | inl k ↦ (
           let here : (after m (site_now ms s)).row ≡ Some last = sym (ap (λ n. n.row) (now_here m ms s k)) ∙ e in
-          last_here m ms s last k (last_heard ms s last) (last_after m (site_now ms s) last here))
+          last_here m ms s last k (last_heard ms s last) (last_after m (site_now ms s) last (concerns_rows m s k) here))
       | inr k ↦ inr (last_heard ms s last (sym (ap (λ n. n.row) (now_other m ms s k)) ∙ e))
     ]
 
@@ -163,7 +167,7 @@ pub known_low : (c : Config) (w : Caller) (past : List Trace) (run : Run) (ms : 
 known_low c w past run ms h =
     highest_below run.rows (2 ^ 62) (omega arith) (λ (s : ℕ) (row : RowAt) (e : slice_get run.rows s ≡ Some (Some row)).
     let inside : s < c.n = slice_inside run.rows s c.n (Some row) h.knows.rows_len e in
-    stands_low row (heard_stands c w past ms s row h.allowed (known_heard ms s row (listed_known c run ms h.knows s row inside e))))
+    stands_low c.n row (heard_stands c w past ms s row h.allowed (known_heard ms s row (listed_known c run ms h.knows s row inside e))))
 
 -- the counts that the lists have
 pub known_counted : (c : Config) (run : Run) (ms : List Action) → Knows c run ms → count_by (λ row. is_some row) run.rows ≡ known_count c ms

@@ -1,7 +1,10 @@
 pub mod Actions
 pub mod Arms
 pub mod AsHeard
+pub mod Askable
 pub mod Awaits
+pub mod Beside
+pub mod Blobs
 pub mod Bounds
 pub mod Columns
 pub mod Endings
@@ -13,9 +16,9 @@ pub mod Known
 pub mod Least
 pub mod Lists
 pub mod LookBacks
+pub mod Notices
 pub mod Numbers
 pub mod Opens
-pub mod Owns
 pub mod Passes
 pub mod Prepares
 pub mod Proposals
@@ -25,4 +28,5 @@ pub mod Serves
 pub mod Stages
 pub mod Starts
 pub mod Turns
+pub mod Unread
 pub mod Untaken

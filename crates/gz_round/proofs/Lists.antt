@@ -133,6 +133,14 @@ any_found {A = A} p (y ∷ ys) h =
       | inr e ↦ (let w : (s : ℕ) × (x : A) × (slice_get ys s ≡ Some x) × (p x ≡ true) = any_found p ys e in (suc w.0, w.1, w.2, w.3))
     ]
 
+not_true : (b : Bool) → ((b ≡ true) → ⊥) → b ≡ false
+not_true true h = absurd (h refl)
+not_true false h = refl
+
+-- where none passes at any place, none does
+pub none_found : {A : Type 0} (p : A → Bool) (xs : List A) → ((s : ℕ) (x : A) → slice_get xs s ≡ Some x → p x ≡ false) → list_any p xs ≡ false
+none_found p xs h = not_true (list_any p xs) (λ some. let w = any_found p xs some in true≢false (sym w.3 ∙ h w.0 w.1 w.2))
+
 -- each element passes where all do
 pub all_at : {A : Type 0} (p : A → Bool) (xs : List A) (s : ℕ) (x : A) → list_all p xs ≡ true → slice_get xs s ≡ Some x → p x ≡ true
 all_at p [] s x h e = absurd (cc)
@@ -149,10 +157,6 @@ each_pushed (y ∷ ys) x n len h (suc s) l = each_pushed ys x (length ys) refl (
 neither : (a b : Bool) → (a || b) ≡ false → (a ≡ false) × (b ≡ false)
 neither true b h = absurd (true≢false h)
 neither false b h = (refl, h)
-
-not_true : (b : Bool) → ((b ≡ true) → ⊥) → b ≡ false
-not_true true h = absurd (h refl)
-not_true false h = refl
 
 -- the elements before a place, with one more
 any_skip_at : {A : Type 0} (p : A → Bool) (xs : List A) (i : ℕ) (x : A) → slice_get xs i ≡ Some x → p x ≡ false → list_any p (take i xs) ≡ false → list_any p (take (suc i) xs) ≡ false

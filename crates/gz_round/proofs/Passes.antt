@@ -1,22 +1,25 @@
 -- A pass over the sites, one after another.
-use Rattle.std.proofs.Common.{◌≡◌, ℕ, ◌+◌, ◌<◌, ◌≤◌, max, true, cond, ◌||◌, List, length, Option, Some, None, refl, sym, ap, ◌∙◌, subst, inl, inr, arith, set}
+use Rattle.std.proofs.Common.{◌≡◌, ℕ, ◌+◌, ◌<◌, ◌≤◌, max, true, cond, ◌||◌, List, [], ◌∷◌, length, Option, Some, None, refl, sym, ap, ◌∙◌, subst, inl, inr, arith, set}
 use Rattle.std.proofs.Math.ListN.{length-set}
 use Rattle.std.proofs.lemmas.Bool.{cases_Bool, cond-true, cond-false}
 use Rattle.std.proofs.lemmas.Option.{none-some}
+use Rattle.std.proofs.lemmas.List.Elements.{All-nil, All-cons, All-append}
 use Rattle.gz_core.specs.Rows.{RowAt}
 use Rattle.gz_config.specs.declared.Config.{Config}
 use Rattle.gz_core.specs.declared.requests.RowStep.{RowStep}
 use Rattle.gz_core.specs.declared.requests.Out.{Out}
 use Rattle.gz_round.specs.declared.run.Mark.{Mark}
 use Rattle.gz_round.specs.declared.run.Run.{Run}
-use Rattle.gz_core.specs.History.{Action, Caller, Trace, sent_from}
+use Rattle.gz_core.specs.History.{Action, Caller, Trace, is_row_request, sent_from}
 use Rattle.gz_core.specs.Names.{BallotAt}
 use Rattle.gz_round.specs.Sent.{of_step, vote_by, phase_by, promise_by, round_after, passes_sent}
 use Rattle.gz_round.specs.Asking.{asks_of, sent_run, marked_as, phase_after, AskedBy, IsAskedAt, IsLeftBy, round_of}
-use Rattle.gz_round.specs.Following.{Asks, AreServed, CanAsk}
+use Rattle.gz_round.specs.Following.{Asks, HasAsked, CanAsk}
+use Rattle.gz_round.specs.Starting.{AreUnread, AreForRows, AreRowRequests}
 use Rattle.gz_round.proofs.Lists.{place_of}
-use Rattle.gz_round.proofs.Sends.{Kind, reads, writes, asked_kind}
-use Rattle.gz_round.proofs.Serves.{Passed, passed_more}
+use Rattle.gz_round.proofs.Sends.{Kind, reads, writes, asked_kind, kind_row}
+use Rattle.gz_round.proofs.Serves.{Passed, passed_none, passed_more, passed_all, round_rises}
+use Rattle.gz_round.proofs.Unread.{AreRead, read_none, read_more}
 
 pub left_refl : (run : Run) (step : Option RowStep) → IsLeftBy run run step
 left_refl run step = record { rows = refl; marks_len = refl; stage = refl; own = refl; name = refl; voted = λ e. refl; wrote = λ e. refl; rises = omega arith; round = omega arith }
@@ -52,10 +55,6 @@ round_step : (o : Option (ℕ × BallotAt)) (round : ℕ) → round_after o roun
 round_step None round = omega arith
 round_step (Some p) round = omega arith
 
-round_rises : (o : Option (ℕ × BallotAt)) (round : ℕ) → round ≤ round_after o round
-round_rises None round = omega arith
-round_rises (Some p) round = omega arith
-
 sent_round : (run : Run) (at number : ℕ) (mark : Mark) (step : Option RowStep) (row : Option RowAt) (out : Out) → Kind run at mark step row out → (sent_run run at number mark out).round ≤ max (round_of step) run.round
 sent_round run at number mark step row out (reads e why) = let same = ap (λ (o : Out). round_after (of_step promise_by o.op) run.round) e in omega arith
 sent_round run at number mark step row out (writes made before new s r same made_is e) =
@@ -79,17 +78,38 @@ left_asked run new at first outs sent step l k h =
     let row = place_of run.rows at k in
     left_by run new at first outs sent mark.0 step row.0 (asks_of run at mark.0 step row.0) refl (h mark.0 row.0 mark.1 row.1)
 
+rows_by : (run new : Run) (at first : ℕ) (outs sent : List Out) (mark : Mark) (step : Option RowStep) (row : Option RowAt) (o : Option Out) → asks_of run at mark step row ≡ o → AskedBy run at first outs mark o new sent → AreForRows outs → AreForRows sent
+rows_by run new at first outs sent mark step row None e h rows = subst AreForRows (sym h.1) rows
+rows_by run new at first outs sent mark step row (Some out) e h rows =
+    let about : is_row_request out.op ≡ true = kind_row run at mark step row out (asked_kind run at mark step row out e).2 in
+    subst AreForRows (sym h.1) (All-append (λ (o : Out). is_row_request o.op ≡ true) outs (out ∷ []) rows (All-cons (λ (o : Out). is_row_request o.op ≡ true) out [] about (All-nil (λ (o : Out). is_row_request o.op ≡ true))))
+
+-- nothing is asked
+pub none_requested : AreRowRequests []
+none_requested = record { rows = All-nil (λ (o : Out). is_row_request o.op ≡ true); few = omega arith }
+
+-- what is asked of a site is about its row
+rows_asked : (run new : Run) (at first : ℕ) (outs sent : List Out) (step : Option RowStep) → at < length run.marks → at < length run.rows → IsAskedAt run at step first outs new sent → AreForRows outs → AreForRows sent
+rows_asked run new at first outs sent step l k h =
+    let mark = place_of run.marks at l in
+    let row = place_of run.rows at k in
+    rows_by run new at first outs sent mark.0 step row.0 (asks_of run at mark.0 step row.0) refl (h mark.0 row.0 mark.1 row.1)
+
 -- so far the sites below one were asked
 pub record Going (c : Config) (start run : Run) (step : Option RowStep) (first : ℕ) (outs sent : List Out) (at : ℕ) : Type 0 where
   pub few : length sent ≤ length outs + at
   pub left : IsLeftBy start run step
-  pub asked : (w : Caller) (past : List Trace) (ms : List Action) → Asks c w past start (sent_from first outs ms) step → Passed c w past run (sent_from first sent ms) step at
+  pub rows : AreForRows outs → AreForRows sent
+  pub reads : AreUnread c.n start → AreRead c.n start run outs sent at
+  pub asked : (w : Caller) (past : List Trace) (ms : List Action) → Asks c w past start (sent_from first outs ms) step → Passed c w past run (sent_from first outs ms) (sent_from first sent ms) step at
 
 pub going_none : (c : Config) (run : Run) (step : Option RowStep) (first : ℕ) (outs : List Out) → Going c run run step first outs outs 0
 going_none c run step first outs = record {
   few = omega arith;
   left = left_refl run step;
-  asked = λ w past ms h. record { asks = h; served = λ (s : ℕ) (l : s < 0). absurd (omega arith) };
+  rows = λ h. h;
+  reads = read_none c.n run outs;
+  asked = λ w past ms h. passed_none c w past run (sent_from first outs ms) step h;
 }
 
 pub inside_rows : (c : Config) (start run : Run) (step : Option RowStep) (first : ℕ) (outs sent : List Out) (at : ℕ) → CanAsk c start first outs step → Going c start run step first outs sent at → length run.rows ≡ c.n
@@ -102,12 +122,16 @@ pub going_more : (c : Config) (start run new : Run) (step : Option RowStep) (fir
     Going c start run step first outs sent at → Going c start new step first outs more (at + 1)
 going_more c start run new step first outs sent more at k l few asked g =
     let few_then = g.few in
+    let in_marks : at < length run.marks = omega (arith, inside_marks c start run step first outs sent at k g) in
+    let in_rows : at < length run.rows = omega (arith, inside_rows c start run step first outs sent at k g) in
     record {
       few = omega arith;
-      left = left_trans start run new step g.left (left_asked run new at first sent more step (omega (arith, inside_marks c start run step first outs sent at k g)) (omega (arith, inside_rows c start run step first outs sent at k g)) asked);
-      asked = λ w past ms h. passed_more c w past run new ms first sent more step at l asked (g.asked w past ms h);
+      left = left_trans start run new step g.left (left_asked run new at first sent more step in_marks in_rows asked);
+      rows = λ (h : AreForRows outs). rows_asked run new at first sent more step in_marks in_rows asked (g.rows h);
+      reads = λ (h : AreUnread c.n start). read_more c.n start run new outs sent more step at first l asked (g.reads h);
+      asked = λ w past ms h. passed_more c w past run new (sent_from first outs ms) ms first sent more step at l asked (g.asked w past ms h);
     }
 
 pub going_all : (c : Config) (start run : Run) (step : Option RowStep) (first : ℕ) (outs sent : List Out) → Going c start run step first outs sent c.n → (w : Caller) (past : List Trace) (ms : List Action) → Asks c w past start (sent_from first outs ms) step →
-    Asks c w past run (sent_from first sent ms) step × AreServed c w (sent_from first sent ms) step
-going_all c start run step first outs sent g w past ms h = let p = g.asked w past ms h in (p.asks, p.served)
+    HasAsked c w past run (sent_from first outs ms) (sent_from first sent ms) step
+going_all c start run step first outs sent g w past ms h = passed_all c w past run (sent_from first outs ms) (sent_from first sent ms) step (g.asked w past ms h)

@@ -34,9 +34,9 @@ use Rattle.gz_round.specs.Rounds.{MayClassicVote, MayPropose, IsPromiseHeard, Is
 use Rattle.gz_round.specs.Causes.{row_value, column_value, vote_value}
 use Rattle.gz_round.specs.Sending.{NoEvidence, MayGiveIn, NoValue}
 use Rattle.gz_round.specs.Standing.{Knows, Stands, StageStands, MayPass}
-use Rattle.gz_round.specs.Following.{IsUnmet}
 use Rattle.gz_round.specs.Choosing.{promised_vote, heard_vote, IsHeardIn, AreHeardIn, IsProposal}
-use Rattle.gz_round.specs.Acting.{IsGoalUnmet, Carries, IsFewIn, ChoiceMeans, choice_of}
+use Rattle.gz_round.specs.Acting.{IsGoalUnmet, Carries, ChoiceMeans, choice_of}
+use Rattle.gz_round.specs.Goals.{IsFewIn, IsUnmet, IsOvertakenAskably}
 use Rattle.gz_round.proofs.Known.{listed_known, known_heard}
 use Rattle.gz_round.proofs.LookBacks.{back_heard, last_promised_at}
 use Rattle.gz_round.proofs.Arms.{stands_stage}
@@ -264,6 +264,7 @@ chosen_carries : (c : Config) (w : Caller) (past : List Trace) (run : Run) (ms :
 chosen_carries c w past run ms v b found heard x at a reached are enough proposed =
     let s : StageStands c w past (Prepare v b found) ms = subst (λ st. StageStands c w past st ms) at a.ready.stage in
     let unmet : NoEvidence c ms v = subst (λ st. IsUnmet c run st ms) at a.unmet in
+    let askable : IsOvertakenAskably c run (Prepare v b found) ms = subst (λ st. IsOvertakenAskably c run st ms) at a.ready.above in
     let last = was_last past ms v b run.round a.ready.stands.round_is reached s.0.used in
     let may = proposed_may c w past run ms v b found heard x a.ready.stands s.0.works.pass (λ reads. s.2 reads last) are.rows_are proposed in
     let vote : MayClassicVote c w ms v b x = record {
@@ -279,7 +280,7 @@ chosen_carries c w past run ms v b found heard x at a reached are enough propose
       back = may.2;
     } in
     record {
-      acts = record { ready = record { stands = stands_stage c w past run ms (Accept v b x) a.ready.stands; stage = (vote, record { works = s.0.works; last = last }, s.1) }; going = a.going; unmet = unmet };
+      acts = record { ready = record { stands = stands_stage c w past run ms (Accept v b x) a.ready.stands; stage = (vote, record { works = s.0.works; last = last }, s.1); unnoticed = a.ready.unnoticed; above = askable.1 }; going = a.going; unmet = unmet };
       few = tt;
     }
 

@@ -1,8 +1,8 @@
 -- A reply, or a give-up: what is noted of it stands for it.
-use Rattle.std.proofs.Common.{◌≡◌, ◌≢◌, ℕ, ◌+◌, ◌<◌, max, Bool, true, false, cond, List, ◌∷◌, length, Option, Some, None, option_map, refl, sym, ap, ◌∙◌, subst, inl, inr}
+use Rattle.std.proofs.Common.{◌≡◌, ◌≢◌, ℕ, ◌+◌, ◌<◌, max, Bool, true, false, ◌&&◌, cond, List, ◌∷◌, length, Option, Some, None, option_map, refl, sym, ap, ◌∙◌, subst, inl, inr}
 use Rattle.std.proofs.Math.ListN.{length-set}
 use Rattle.std.specs.List.{slice_get}
-use Rattle.std.proofs.lemmas.Bool.{cases_eq, cond-true, cond-false}
+use Rattle.std.proofs.lemmas.Bool.{cases_eq, cond-true, cond-false, and_right, and_from}
 use Rattle.std.proofs.lemmas.Option.{none-some}
 use Rattle.gz_core.specs.Rows.{RowAt}
 use Rattle.gz_config.specs.declared.Config.{Config}
@@ -11,7 +11,7 @@ use Rattle.gz_core.specs.declared.requests.Reply.TheVariants.{Row, NoRow, Writte
 use Rattle.gz_round.specs.declared.hearing.Seen.{Seen}
 use Rattle.gz_round.specs.declared.run.Mark.{Mark}
 use Rattle.gz_round.specs.declared.run.Run.{Run}
-use Rattle.gz_core.specs.History.{Asked, Action, Handed, GaveUp, Caller, Trace}
+use Rattle.gz_core.specs.History.{Asked, Action, Handed, GaveUp, Caller, Trace, is_row_request}
 use Rattle.gz_round.specs.Sites.{SiteNow, site_now, after_reply, known, row_seen, written_by, as_heard, seen_in, is_changed}
 use Rattle.gz_round.specs.Sent.{met, voted, phase_of, top_round}
 use Rattle.gz_round.specs.Rounds.{top_rounds}
@@ -19,11 +19,15 @@ use Rattle.gz_round.specs.Sending.{IsAllowed, IsAwaitedOf}
 use Rattle.gz_round.specs.Noting.{left_run, noted_by, written_at, written_of, IsReplyNoted}
 use Rattle.gz_round.specs.Standing.{Knows, Stands, StageStands, IsSound, mark_of, etag_seen, awaited_of}
 use Rattle.gz_round.specs.Following.{Ready}
+use Rattle.gz_core.specs.Names.{BallotAt}
+use Rattle.gz_round.specs.Goals.{IsOvertakenAskably}
+use Rattle.gz_round.proofs.Askable.{askably_still, askable_ended}
+use Rattle.gz_round.proofs.Notices.{tells, unnoticed_more}
 use Rattle.gz_round.proofs.Lists.{told_after_set, told_same}
-use Rattle.gz_round.proofs.Actions.{is_to_other, now_here, now_other}
+use Rattle.gz_round.proofs.Actions.{is_to_row, is_to_other, heard_row, now_here, now_other}
 use Rattle.gz_round.proofs.AsHeard.{changed_heard, heard_again}
 use Rattle.gz_round.proofs.Awaits.{awaits_to}
-use Rattle.gz_round.proofs.Stages.{Ends, stage_more}
+use Rattle.gz_round.proofs.Stages.{Ends, ended_known, stage_more}
 
 abbrev pub met_by : Option Seen → Bool → ℕ → ℕ
 met_by (Some seen) changed n = n
@@ -140,39 +144,56 @@ seen_unchanged written NoRow seen e = refl
 seen_unchanged written (Written etag) seen e = refl
 seen_unchanged written reply seen e = absurd (none-some seen e)
 
-met_handed : (a : Asked) (reply : Reply) (ms : List Action) (seen : Option Seen) (changed : Bool) → seen_in (written_by a.op) reply ≡ seen → is_changed reply ≡ changed → met (Handed a reply ∷ ms) ≡ met_by seen changed (met ms)
-met_handed a reply ms (Some seen) changed e f = cond-false (is_changed reply) (met ms + 1) (met ms) (seen_unchanged (written_by a.op) reply seen e)
-met_handed a reply ms None true e f = cond-true (is_changed reply) (met ms + 1) (met ms) f
-met_handed a reply ms None false e f = cond-false (is_changed reply) (met ms + 1) (met ms) f
+met_not : (a : Asked) (reply : Reply) (ms : List Action) → is_changed reply ≡ false → met (Handed a reply ∷ ms) ≡ met ms
+met_not a reply ms e = cond-false (is_row_request a.op && is_changed reply) (met ms + 1) (met ms) (and_right (is_row_request a.op) (is_changed reply) e)
+
+met_handed : (a : Asked) (reply : Reply) (ms : List Action) (seen : Option Seen) (changed : Bool) → is_row_request a.op ≡ true → seen_in (written_by a.op) reply ≡ seen → is_changed reply ≡ changed → met (Handed a reply ∷ ms) ≡ met_by seen changed (met ms)
+met_handed a reply ms (Some seen) changed row e f = met_not a reply ms (seen_unchanged (written_by a.op) reply seen e)
+met_handed a reply ms None true row e f = cond-true (is_row_request a.op && is_changed reply) (met ms + 1) (met ms) (and_from (is_row_request a.op) (is_changed reply) row f)
+met_handed a reply ms None false row e f = met_not a reply ms f
+
+-- a call is ready once what came is noted
+ready_ended : (c : Config) (w : Caller) (past : List Trace) (run : Run) (ms : List Action) (m : Action) (at : ℕ) (seen : Option Seen) (changed : Bool) (a : Asked) → Ends m at seen changed → (site_now ms at).awaits ≡ Some a → tells m ≡ false → Ready c w past run ms →
+    Stands c w past (noted_by run at (mark_of (site_now ms at)) (known (site_now ms at)) seen changed) (m ∷ ms) → StageStands c w past run.stage (m ∷ ms) → Ready c w past (noted_by run at (mark_of (site_now ms at)) (known (site_now ms at)) seen changed) (m ∷ ms)
+ready_ended c w past run ms m at seen changed a ends awaits quiet r stands stage =
+    let new : Run = noted_by run at (mark_of (site_now ms at)) (known (site_now ms at)) seen changed in
+    let rest : IsElse run (noted_by run at (mark_of (site_now ms at)) (known (site_now ms at)) seen changed) = ended_else run at (mark_of (site_now ms at)) (known (site_now ms at)) seen changed in
+    record {
+      stands = stands;
+      stage = subst (λ st. StageStands c w past st (m ∷ ms)) (sym rest.stage) stage;
+      unnoticed = unnoticed_more m ms quiet r.unnoticed;
+      above = subst (λ st. IsOvertakenAskably c new st (m ∷ ms)) (sym rest.stage) (askably_still c run new run.stage ms (m ∷ ms) rest.round (λ (v : ℕ) (b : BallotAt). askable_ended c m ms at seen changed a v b ends awaits) r.above);
+    }
 
 -- a reply that is heard as it is
-ready_heard : (c : Config) (w : Caller) (past : List Trace) (run new : Run) (ms : List Action) (at : ℕ) (a : Asked) (reply : Reply) → at < c.n → (site_now ms at).awaits ≡ Some a → Ready c w past run ms → as_heard (written_by a.op) reply ≡ reply → new ≡ noted_by run at (mark_of (site_now ms at)) (known (site_now ms at)) (seen_in (written_by a.op) reply) (is_changed reply) → Ready c w past new (Handed a reply ∷ ms)
+ready_heard : (c : Config) (w : Caller) (past : List Trace) (run new : Run) (ms : List Action) (at : ℕ) (a : Asked) (reply : Reply) → at < c.n → (site_now ms at).awaits ≡ Some a → Ready c w past run ms → as_heard c.n (written_by a.op) reply ≡ reply → new ≡ noted_by run at (mark_of (site_now ms at)) (known (site_now ms at)) (seen_in (written_by a.op) reply) (is_changed reply) → Ready c w past new (Handed a reply ∷ ms)
 ready_heard c w past run new ms at a reply l awaits r same new_is =
     let sound = (r.stands.sites at).inside a awaits in
+    let row = is_to_row a at (awaits_to ms at a awaits) in
     let ends : Ends (Handed a reply) at (seen_in (written_by a.op) reply) (is_changed reply) = record { here = awaits_to ms at a awaits; others = λ (s : ℕ) (n : s ≢ at). is_to_other a s (λ (q : s ≡ a.site). n (q ∙ sound.1)); after_is = λ now. refl } in
     let awaited : IsAwaitedOf ms a = subst (λ (z : ℕ). (site_now ms z).awaits ≡ Some a) (sym sound.1) awaits in
     let stands : Stands c w past (noted_by run at (mark_of (site_now ms at)) (known (site_now ms at)) (seen_in (written_by a.op) reply) (is_changed reply)) (Handed a reply ∷ ms) =
-    stands_ended c w past run ms (Handed a reply) at (seen_in (written_by a.op) reply) (is_changed reply) ends l sound.0 refl refl refl (met_handed a reply ms (seen_in (written_by a.op) reply) (is_changed reply) refl refl) (awaited, same) r.stands in
-    let stage : StageStands c w past run.stage (Handed a reply ∷ ms) = stage_more c w past (Handed a reply) ms at (seen_in (written_by a.op) reply) (is_changed reply) run.stage ends refl (record { voted = refl; voted_at = λ u. refl; phase = refl; promise = refl; cast = refl }) r.stage in
-    subst (λ (n : Run). Ready c w past n (Handed a reply ∷ ms)) (sym new_is) (record { stands = stands; stage = subst (λ st. StageStands c w past st (Handed a reply ∷ ms)) (sym (ended_else run at (mark_of (site_now ms at)) (known (site_now ms at)) (seen_in (written_by a.op) reply) (is_changed reply)).stage) stage })
+    stands_ended c w past run ms (Handed a reply) at (seen_in (written_by a.op) reply) (is_changed reply) ends l sound.0 refl refl refl (met_handed a reply ms (seen_in (written_by a.op) reply) (is_changed reply) row refl refl) (λ about. (awaited, same)) r.stands in
+    let stage : StageStands c w past run.stage (Handed a reply ∷ ms) = stage_more c w past (Handed a reply) ms run.stage (ended_known (Handed a reply) ms at (seen_in (written_by a.op) reply) (is_changed reply) ends (heard_row a reply row)) (record { voted = refl; voted_at = λ u. refl; phase = refl; promise = refl; cast = refl }) r.stage in
+    subst (λ (n : Run). Ready c w past n (Handed a reply ∷ ms)) (sym new_is) (ready_ended c w past run ms (Handed a reply) at (seen_in (written_by a.op) reply) (is_changed reply) a ends awaits refl r stands stage)
 
 -- a reply that is handed, as the call hears it
-pub ready_handed : (c : Config) (w : Caller) (past : List Trace) (run new : Run) (ms : List Action) (at : ℕ) (a : Asked) (reply : Reply) → at < c.n → (site_now ms at).awaits ≡ Some a → Ready c w past run ms → IsReplyNoted run at reply new → Ready c w past new (Handed a (as_heard (written_by a.op) reply) ∷ ms)
+pub ready_handed : (c : Config) (w : Caller) (past : List Trace) (run new : Run) (ms : List Action) (at : ℕ) (a : Asked) (reply : Reply) → at < c.n → (site_now ms at).awaits ≡ Some a → Ready c w past run ms → IsReplyNoted c.n run at reply new → Ready c w past new (Handed a (as_heard c.n (written_by a.op) reply) ∷ ms)
 ready_handed c w past run new ms at a reply l awaits r noted =
     let mark : Mark = mark_of (site_now ms at) in
     let row : Option RowAt = known (site_now ms at) in
     let written : written_at (mark_of (site_now ms at)) ≡ written_by a.op = ap (λ (o : Option Asked). written_of (option_map awaited_of o)) awaits in
-    let heard : Reply = as_heard (written_by a.op) reply in
-    let new_is : new ≡ noted_by run at (mark_of (site_now ms at)) (known (site_now ms at)) (seen_in (written_by a.op) (as_heard (written_by a.op) reply)) (is_changed (as_heard (written_by a.op) reply)) =
-    noted mark row (r.stands.knows.marks at l) (r.stands.knows.rows at l) ∙ (ap (λ o. noted_by run at mark row (seen_in o (as_heard o reply)) (is_changed reply)) written ∙ ap (noted_by run at mark row (seen_in (written_by a.op) heard)) (sym (changed_heard (written_by a.op) reply))) in
-    ready_heard c w past run new ms at a heard l awaits r (heard_again (written_by a.op) reply) new_is
+    let heard : Reply = as_heard c.n (written_by a.op) reply in
+    let new_is : new ≡ noted_by run at (mark_of (site_now ms at)) (known (site_now ms at)) (seen_in (written_by a.op) (as_heard c.n (written_by a.op) reply)) (is_changed (as_heard c.n (written_by a.op) reply)) =
+    noted mark row (r.stands.knows.marks at l) (r.stands.knows.rows at l) ∙ (ap (λ o. noted_by run at mark row (seen_in o (as_heard c.n o reply)) (is_changed reply)) written ∙ ap (noted_by run at mark row (seen_in (written_by a.op) heard)) (sym (changed_heard c.n (written_by a.op) reply))) in
+    ready_heard c w past run new ms at a heard l awaits r (heard_again c.n (written_by a.op) reply) new_is
 
 -- a request that is given up
 pub ready_gave_up : (c : Config) (w : Caller) (past : List Trace) (run new : Run) (ms : List Action) (at : ℕ) (a : Asked) → at < c.n → (site_now ms at).awaits ≡ Some a → Ready c w past run ms → new ≡ left_run run at (mark_of (site_now ms at)) (known (site_now ms at)) → Ready c w past new (GaveUp a ∷ ms)
 ready_gave_up c w past run new ms at a l awaits r new_is =
     let sound = (r.stands.sites at).inside a awaits in
     let ends : Ends (GaveUp a) at None false = record { here = awaits_to ms at a awaits; others = λ (s : ℕ) (n : s ≢ at). is_to_other a s (λ (q : s ≡ a.site). n (q ∙ sound.1)); after_is = λ now. refl } in
-    let may : IsAwaitedOf ms a = subst (λ (z : ℕ). (site_now ms z).awaits ≡ Some a) (sym sound.1) awaits in
-    let stands : Stands c w past (left_run run at (mark_of (site_now ms at)) (known (site_now ms at))) (GaveUp a ∷ ms) = stands_ended c w past run ms (GaveUp a) at None false ends l sound.0 refl refl refl refl may r.stands in
-    let stage : StageStands c w past run.stage (GaveUp a ∷ ms) = stage_more c w past (GaveUp a) ms at None false run.stage ends refl (record { voted = refl; voted_at = λ u. refl; phase = refl; promise = refl; cast = refl }) r.stage in
-    subst (λ (n : Run). Ready c w past n (GaveUp a ∷ ms)) (sym new_is) (record { stands = stands; stage = stage })
+    let awaited : IsAwaitedOf ms a = subst (λ (z : ℕ). (site_now ms z).awaits ≡ Some a) (sym sound.1) awaits in
+    let stands : Stands c w past (left_run run at (mark_of (site_now ms at)) (known (site_now ms at))) (GaveUp a ∷ ms) = stands_ended c w past run ms (GaveUp a) at None false ends l sound.0 refl refl refl refl (λ about. awaited) r.stands in
+    let stage : StageStands c w past run.stage (GaveUp a ∷ ms) = stage_more c w past (GaveUp a) ms run.stage (ended_known (GaveUp a) ms at None false ends refl) (record { voted = refl; voted_at = λ u. refl; phase = refl; promise = refl; cast = refl }) r.stage in
+    subst (λ (n : Run). Ready c w past n (GaveUp a ∷ ms)) (sym new_is) (ready_ended c w past run ms (GaveUp a) at None false a ends awaits refl r stands stage)

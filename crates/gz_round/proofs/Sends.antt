@@ -24,7 +24,8 @@ use Rattle.gz_round.specs.Rounds.{top_rounds}
 use Rattle.gz_round.specs.Sending.{MaySend, MayAsk, MayMake, IsMade, answer_of, made_by, is_awaited}
 use Rattle.gz_round.specs.Asking.{asks_of, row_out, step_out, write_out, read_out, made_of, if_done, sent_run, marked_as, phase_after}
 use Rattle.gz_round.specs.Standing.{Knows, Stands, IsSound, mark_of, etag_seen, awaited_of}
-use Rattle.gz_round.specs.Following.{MayMakeOf}
+use Rattle.gz_round.specs.Following.{MayMakeOf, IsPlain}
+use Rattle.gz_round.specs.Counting.{IsUntold}
 use Rattle.gz_round.proofs.Lists.{told_after_set, told_same}
 use Rattle.gz_round.proofs.Actions.{is_to_same, is_to_other, now_here, now_other, each_site}
 use Rattle.gz_round.proofs.Known.{known_last, known_after_sent}
@@ -87,7 +88,7 @@ row_none : (o : Option Seen) → row_seen o ≡ None → o ≡ None
 row_none None e = refl
 row_none (Some seen) e = absurd (none-some seen.row (sym e))
 
-known_none : (now : SiteNow) → now.out ≡ false → known now ≡ None → now.row ≡ None
+pub known_none : (now : SiteNow) → now.out ≡ false → known now ≡ None → now.row ≡ None
 known_none now o h = row_none now.row (sym (cond-false now.out None (row_seen now.row) o) ∙ h)
 
 -- the site of a request is the one that is asked
@@ -122,10 +123,17 @@ kind_awaited : (run : Run) (at : ℕ) (mark : Mark) (step : Option RowStep) (row
 kind_awaited run at mark step row out (reads e why) = subst (λ (o : Out). o.awaited ≡ is_awaited o.op) (sym e) refl
 kind_awaited run at mark step row out (writes made before new s r same made_is e) = subst (λ (o : Out). o.awaited ≡ is_awaited o.op) (sym e) refl
 
+-- it is awaited where the step is
+pub kind_plain : (run : Run) (at : ℕ) (mark : Mark) (step : Option RowStep) (row : Option RowAt) (out : Out) → Kind run at mark step row out → IsPlain step → out.awaited ≡ true
+kind_plain run at mark step row out (reads e why) plain = ap (λ o. o.awaited) e
+kind_plain run at mark step row out (writes made before new s r same made_is e) plain =
+    let plain_made : is_notice made ≡ false = subst IsPlain s plain in
+    ap (λ o. o.awaited) e ∙ ap not plain_made
+
 -- it is one that may be sent
-pub kind_may : (c : Config) (w : Caller) (past : List Trace) (run : Run) (ms : List Action) (at number : ℕ) (step : Option RowStep) (out : Out) → at < c.n → run.key ≡ key_of w.call → MayMakeOf c w past ms step →
+pub kind_may : (c : Config) (w : Caller) (past : List Trace) (run : Run) (ms : List Action) (at number : ℕ) (step : Option RowStep) (out : Out) → at < c.n → run.key ≡ key_of w.call → MayMakeOf c w past ms step → IsUntold ms at →
     asks_of run at (mark_of (site_now ms at)) step (known (site_now ms at)) ≡ Some out → MaySend c w past ms (asked_of number out)
-kind_may c w past run ms at number step out l key may h =
+kind_may c w past run ms at number step out l key may untold h =
     let k = asked_kind run at (mark_of (site_now ms at)) step (known (site_now ms at)) out h in
     let here : out.site ≡ at = kind_site run at (mark_of (site_now ms at)) step (known (site_now ms at)) out k.2 in
     let now : site_now ms out.site ≡ site_now ms at = ap (site_now ms) here in
@@ -135,6 +143,7 @@ kind_may c w past run ms at number step out l key may h =
       idle = ap (λ n. n.awaits) now ∙ none_awaits (site_now ms at).awaits k.1;
       asks = subst (λ (n : SiteNow). MayAsk c w past ms n out.op) (sym now) (kind_asks c w past run ms at step out key may k.0 k.2);
       awaited = kind_awaited run at (mark_of (site_now ms at)) step (known (site_now ms at)) out k.2;
+      once = λ e. subst (IsUntold ms) (sym here) untold;
     }
 
 pub changed_sent : (a : Asked) (now : SiteNow) → (after_sent a now).changed ≡ now.changed
@@ -201,5 +210,5 @@ stands_sent c w past run ms at number out l row here h may = record {
       let kept : (site_now ms s).out ≡ false = subst (λ (z : ℕ). (site_now ms z).out ≡ false) same may.kept in
       sound_here (asked_of number out) s (site_now ms s) kept same (h.sites s))
       (λ k. h.sites s);
-  allowed = (may, h.allowed);
+  allowed = (λ about. may, h.allowed);
 }

@@ -1,5 +1,5 @@
 -- A pass over the sites: what each is asked, and what holds once all were asked.
-use Rattle.std.proofs.Common.{◌≡◌, ◌≢◌, ℕ, ◌+◌, ◌<◌, true, false, ◌||◌, not, List, ◌∷◌, length, Option, Some, None, is_some, option_map, refl, sym, ap, ◌∙◌, subst, inl, inr, arith}
+use Rattle.std.proofs.Common.{◌≡◌, ◌≢◌, ℕ, ◌+◌, ◌<◌, ◌≤◌, true, false, ◌||◌, not, List, ◌∷◌, length, Option, Some, None, is_some, option_map, refl, sym, ap, ◌∙◌, subst, inl, inr, ◌⊎◌, arith}
 use Rattle.std.proofs.lemmas.Bool.{cases_Bool, cases_eq, cond-true, cond-false, or_from}
 use Rattle.std.proofs.lemmas.Option.{none-some}
 use Rattle.gz_core.specs.Rows.{RowAt}
@@ -13,15 +13,20 @@ use Rattle.gz_round.specs.declared.hearing.Seen.{Seen}
 use Rattle.gz_round.specs.declared.run.Run.{Run}
 use Rattle.gz_core.specs.History.{Asked, Action, Sent, Caller, Trace, asked_of, is_row_request, sent_from}
 use Rattle.gz_round.specs.Sites.{SiteNow, site_now, known, row_seen}
-use Rattle.gz_round.specs.Sending.{MaySend, answer_of, made_by}
-use Rattle.gz_round.specs.Asking.{asks_of, row_out, step_out, write_out, read_out, made_of, is_notice, sent_run, AskedBy, IsAskedAt}
-use Rattle.gz_round.specs.Standing.{mark_of, awaited_of, etag_seen}
-use Rattle.gz_round.specs.Following.{Asks, IsServed, IsSettledBy}
+use Rattle.gz_core.specs.Names.{BallotAt}
+use Rattle.gz_round.specs.Sent.{of_step, promise_by, round_after}
+use Rattle.gz_round.specs.Counting.{IsUntold, IsUnnoticed}
+use Rattle.gz_round.specs.Sending.{MayRead, MaySend, answer_of, made_by}
+use Rattle.gz_round.specs.Asking.{round_of, asks_of, row_out, step_out, write_out, read_out, made_of, is_notice, sent_run, AskedBy, IsAskedAt}
+use Rattle.gz_round.specs.Standing.{Stands, mark_of, awaited_of, etag_seen}
+use Rattle.gz_round.specs.Following.{Asks, HasAsked, HeldOf, MayMakeOf, IsPlain, IsAwaitedBy}
+use Rattle.gz_round.proofs.Notices.{unnoticed_more, untold_other, awaited_tells}
+use Rattle.gz_round.specs.Goals.{IsServed, IsSettledBy}
 use Rattle.gz_round.proofs.Actions.{is_to_same, is_to_other, now_here, now_other, sent_append}
 use Rattle.gz_round.proofs.Known.{last_known, known_last}
 use Rattle.gz_round.proofs.Guards.{may_kept_of}
 use Rattle.gz_round.proofs.Stages.{held_kept_of}
-use Rattle.gz_round.proofs.Sends.{Kind, reads, writes, asked_kind, kind_site, kind_row, kind_of, kind_may, stands_sent, undone_means}
+use Rattle.gz_round.proofs.Sends.{Kind, reads, writes, asked_kind, kind_site, kind_row, kind_of, kind_may, kind_plain, known_none, stands_sent, undone_means}
 
 write_none : (run : Run) (at : ℕ) (etag : Option ℕ) (step : RowStep) (o : Option RowAt) → write_out run at etag step o ≡ None → o ≡ None
 write_none run at etag step None h = refl
@@ -93,7 +98,7 @@ served_some w run ms at number step out key (writes made before new s r same mad
           ))
     ]
 
-settled_more : (w : Caller) (m : Action) (ms : List Action) (s : ℕ) (seen : Seen) (step : Option RowStep) → IsSettledBy w ms s seen step → IsSettledBy w (m ∷ ms) s seen step
+pub settled_more : (w : Caller) (m : Action) (ms : List Action) (s : ℕ) (seen : Seen) (step : Option RowStep) → IsSettledBy w ms s seen step → IsSettledBy w (m ∷ ms) s seen step
 settled_more w m ms s seen None h = tt
 settled_more w m ms s seen (Some step) h = λ (done : answer_of step seen.row ≡ Done). let k = h done in (k.0, (k.1.0, inr k.1.1))
 
@@ -108,48 +113,112 @@ served_other w ms a s step n h idle kept =
 abbrev pub BelowServed : Caller → List Action → Option RowStep → ℕ → Type 0
 BelowServed w ms step bound = (s : ℕ) → s < bound → IsServed w ms step s
 
-pub record Passed (c : Config) (w : Caller) (past : List Trace) (run : Run) (ms : List Action) (step : Option RowStep) (bound : ℕ) : Type 0 where
-  pub asks : Asks c w past run ms step
+-- what holds once the sites below one were asked, after these actions
+pub record Passed (c : Config) (w : Caller) (past : List Trace) (run : Run) (start ms : List Action) (step : Option RowStep) (bound : ℕ) : Type 0 where
+  pub stands : Stands c w past run ms
+  pub may : MayMakeOf c w past ms step
+  pub held : HeldOf c w past ms step
   pub served : BelowServed w ms step bound
+  pub unnoticed : IsPlain step → IsUnnoticed ms
+  pub untold : (s : ℕ) → bound ≤ s → IsUntold ms s
+  pub rest : (s : ℕ) → bound ≤ s → site_now ms s ≡ site_now start s
+  pub awaited : (s : ℕ) (a : Asked) → (site_now ms s).awaits ≡ Some a → IsAwaitedBy run start step s
 
-asked_none : (c : Config) (w : Caller) (past : List Trace) (run : Run) (ms : List Action) (step : Option RowStep) (at : ℕ) → asks_of run at (mark_of (site_now ms at)) step (known (site_now ms at)) ≡ None →
-    Passed c w past run ms step at → Passed c w past run ms step (at + 1)
-asked_none c w past run ms step at h p = record {
-  asks = p.asks;
-  served = λ (s : ℕ) (l : s < at + 1). elim (cases_eq s at) [ inl e ↦ subst (IsServed w ms step) (sym e) (served_none w run ms at step h) | inr n ↦ p.served s (omega arith) ];
+pub passed_none : (c : Config) (w : Caller) (past : List Trace) (run : Run) (ms : List Action) (step : Option RowStep) → Asks c w past run ms step → Passed c w past run ms ms step 0
+passed_none c w past run ms step h = record {
+  stands = h.stands;
+  may = h.may;
+  held = h.held;
+  served = λ (s : ℕ) (l : s < 0). absurd (omega arith);
+  unnoticed = λ plain. h.unnoticed;
+  untold = λ (s : ℕ) (l : 0 ≤ s). h.unnoticed s;
+  rest = λ (s : ℕ) (l : 0 ≤ s). refl;
+  awaited = λ (s : ℕ) (a : Asked) (e : (site_now ms s).awaits ≡ Some a). inl (a, e);
 }
 
-asked_some : (c : Config) (w : Caller) (past : List Trace) (run : Run) (ms : List Action) (step : Option RowStep) (at number : ℕ) (out : Out) → at < c.n → asks_of run at (mark_of (site_now ms at)) step (known (site_now ms at)) ≡ Some out →
-    Passed c w past run ms step at → Passed c w past (sent_run run at number (mark_of (site_now ms at)) out) (Sent (asked_of number out) ∷ ms) step (at + 1)
-asked_some c w past run ms step at number out l h p =
+pub passed_all : (c : Config) (w : Caller) (past : List Trace) (run : Run) (start ms : List Action) (step : Option RowStep) → Passed c w past run start ms step c.n → HasAsked c w past run start ms step
+passed_all c w past run start ms step p = record { stands = p.stands; may = p.may; held = p.held; served = p.served; unnoticed = p.unnoticed; awaited = p.awaited }
+
+asked_none : (c : Config) (w : Caller) (past : List Trace) (run : Run) (start ms : List Action) (step : Option RowStep) (at : ℕ) → asks_of run at (mark_of (site_now ms at)) step (known (site_now ms at)) ≡ None →
+    Passed c w past run start ms step at → Passed c w past run start ms step (at + 1)
+asked_none c w past run start ms step at h p = record {
+  stands = p.stands;
+  may = p.may;
+  held = p.held;
+  served = λ (s : ℕ) (l : s < at + 1). elim (cases_eq s at) [ inl e ↦ subst (IsServed w ms step) (sym e) (served_none w run ms at step h) | inr n ↦ p.served s (omega arith) ];
+  unnoticed = p.unnoticed;
+  untold = λ (s : ℕ) (l : at + 1 ≤ s). p.untold s (omega arith);
+  rest = λ (s : ℕ) (l : at + 1 ≤ s). p.rest s (omega arith);
+  awaited = p.awaited;
+}
+
+-- a round of a promise is used once it is sent, and stays so
+pub round_rises : (o : Option (ℕ × BallotAt)) (round : ℕ) → round ≤ round_after o round
+round_rises None round = omega arith
+round_rises (Some p) round = omega arith
+
+round_used : (o : Option (ℕ × BallotAt)) (round : ℕ) → round_after o 0 ≤ round_after o round
+round_used None round = omega arith
+round_used (Some p) round = omega arith
+
+awaited_later : (run new : Run) (start : List Action) (step : Option RowStep) (s : ℕ) → run.round ≤ new.round → IsAwaitedBy run start step s → IsAwaitedBy new start step s
+awaited_later run new start step s l (inl before) = inl before
+awaited_later run new start step s l (inr (inl due)) = inr (inl due)
+awaited_later run new start step s l (inr (inr used)) = inr (inr (omega arith))
+
+due_now : (now : SiteNow) → now.out ≡ false → (known now ≡ None) ⊎ (now.changed ≡ true) → (now.out ≡ false) × MayRead now
+due_now now kept (inl none) = (kept, inl (known_none now kept none))
+due_now now kept (inr changed) = (kept, inr changed)
+
+-- why a site is awaited that was asked just now
+awaited_here : (run : Run) (start ms : List Action) (at number : ℕ) (step : Option RowStep) (out : Out) → site_now ms at ≡ site_now start at → (site_now ms at).out ≡ false → Kind run at (mark_of (site_now ms at)) step (known (site_now ms at)) out →
+    IsAwaitedBy (sent_run run at number (mark_of (site_now ms at)) out) start step at
+awaited_here run start ms at number step out same kept (reads e why) = inr (inl (subst (λ (now : SiteNow). (now.out ≡ false) × MayRead now) same (due_now (site_now ms at) kept why)))
+awaited_here run start ms at number step out same kept (writes made before new s r unchanged made_is e) =
+    let step_round : round_of step ≡ round_after (promise_by made) 0 = ap round_of s in
+    let sent_round : round_after (of_step promise_by out.op) run.round ≡ round_after (promise_by made) run.round = ap (λ (o : Out). round_after (of_step promise_by o.op) run.round) e in
+    let used = round_used (promise_by made) run.round in
+    inr (inr (omega arith))
+
+asked_some : (c : Config) (w : Caller) (past : List Trace) (run : Run) (start ms : List Action) (step : Option RowStep) (at number : ℕ) (out : Out) → at < c.n → asks_of run at (mark_of (site_now ms at)) step (known (site_now ms at)) ≡ Some out →
+    Passed c w past run start ms step at → Passed c w past (sent_run run at number (mark_of (site_now ms at)) out) start (Sent (asked_of number out) ∷ ms) step (at + 1)
+asked_some c w past run start ms step at number out l h p =
     let k = asked_kind run at (mark_of (site_now ms at)) step (known (site_now ms at)) out h in
     let here : out.site ≡ at = kind_site run at (mark_of (site_now ms at)) step (known (site_now ms at)) out k.2 in
-    let may : MaySend c w past ms (asked_of number out) = kind_may c w past run ms at number step out l p.asks.stands.key_is p.asks.may h in
+    let may : MaySend c w past ms (asked_of number out) = kind_may c w past run ms at number step out l p.stands.key_is p.may (p.untold at (omega arith)) h in
+    let other : (s : ℕ) → s ≢ at → site_now (Sent (asked_of number out) ∷ ms) s ≡ site_now ms s = λ (s : ℕ) (n : s ≢ at). now_other (Sent (asked_of number out)) ms s (is_to_other (asked_of number out) s (λ (q : s ≡ out.site). n (q ∙ here))) in
     record {
-      asks = record {
-        stands = stands_sent c w past run ms at number out l (kind_row run at (mark_of (site_now ms at)) step (known (site_now ms at)) out k.2) here p.asks.stands may;
-        may = may_kept_of c w past ms (asked_of number out) step (kind_of run at (mark_of (site_now ms at)) step (known (site_now ms at)) out k.2) p.asks.may;
-        held = held_kept_of c w past ms (asked_of number out) step (kind_of run at (mark_of (site_now ms at)) step (known (site_now ms at)) out k.2) p.asks.held;
-      };
+      stands = stands_sent c w past run ms at number out l (kind_row run at (mark_of (site_now ms at)) step (known (site_now ms at)) out k.2) here p.stands may;
+      may = may_kept_of c w past ms (asked_of number out) step (kind_of run at (mark_of (site_now ms at)) step (known (site_now ms at)) out k.2) p.may;
+      held = held_kept_of c w past ms (asked_of number out) step (kind_of run at (mark_of (site_now ms at)) step (known (site_now ms at)) out k.2) p.held;
       served = λ (s : ℕ) (i : s < at + 1). elim (cases_eq s at) [
-        | inl e ↦ subst (IsServed w (Sent (asked_of number out) ∷ ms) step) (sym e) (served_some w run ms at number step out p.asks.stands.key_is k.2)
+        | inl e ↦ subst (IsServed w (Sent (asked_of number out) ∷ ms) step) (sym e) (served_some w run ms at number step out p.stands.key_is k.2)
         | inr n ↦ served_other w ms (asked_of number out) s step (λ (q : s ≡ out.site). n (q ∙ here)) (p.served s (omega arith))
+      ];
+      unnoticed = λ (plain : IsPlain step). unnoticed_more (Sent (asked_of number out)) ms (awaited_tells (asked_of number out) (kind_plain run at (mark_of (site_now ms at)) step (known (site_now ms at)) out k.2 plain)) (p.unnoticed plain);
+      untold = λ (s : ℕ) (i : at + 1 ≤ s).
+          let apart : (e : s ≡ out.site) → ⊥ = λ (e : s ≡ out.site). omega (arith, here, e) in
+          untold_other (asked_of number out) ms s apart (p.untold s (omega arith));
+      rest = λ (s : ℕ) (i : at + 1 ≤ s). other s (λ (e : s ≡ at). omega arith) ∙ p.rest s (omega arith);
+      awaited = λ (s : ℕ) (a : Asked) (e : (site_now (Sent (asked_of number out) ∷ ms) s).awaits ≡ Some a). elim (cases_eq s at) [
+        | inl same ↦ subst (IsAwaitedBy (sent_run run at number (mark_of (site_now ms at)) out) start step) (sym same) (awaited_here run start ms at number step out (p.rest at (omega arith)) k.0 k.2)
+        | inr n ↦ awaited_later run (sent_run run at number (mark_of (site_now ms at)) out) start step s (round_rises (of_step promise_by out.op) run.round) (p.awaited s a (sym (ap (λ now. now.awaits) (other s n)) ∙ e))
       ];
     }
 
-asked_by : (c : Config) (w : Caller) (past : List Trace) (run new : Run) (base : List Action) (first : ℕ) (outs sent : List Out) (step : Option RowStep) (at : ℕ) (o : Option Out) → at < c.n →
+asked_by : (c : Config) (w : Caller) (past : List Trace) (run new : Run) (start base : List Action) (first : ℕ) (outs sent : List Out) (step : Option RowStep) (at : ℕ) (o : Option Out) → at < c.n →
     asks_of run at (mark_of (site_now (sent_from first outs base) at)) step (known (site_now (sent_from first outs base) at)) ≡ o → AskedBy run at first outs (mark_of (site_now (sent_from first outs base) at)) o new sent →
-    Passed c w past run (sent_from first outs base) step at → Passed c w past new (sent_from first sent base) step (at + 1)
-asked_by c w past run new base first outs sent step at None l e h p =
-    subst (λ (r : Run). Passed c w past r (sent_from first sent base) step (at + 1)) (sym h.0) (subst (λ os. Passed c w past run (sent_from first os base) step (at + 1)) (sym h.1) (asked_none c w past run (sent_from first outs base) step at e p))
-asked_by c w past run new base first outs sent step at (Some out) l e h p =
-    let next = asked_some c w past run (sent_from first outs base) step at (first + length outs) out l e p in
+    Passed c w past run start (sent_from first outs base) step at → Passed c w past new start (sent_from first sent base) step (at + 1)
+asked_by c w past run new start base first outs sent step at None l e h p =
+    subst (λ (r : Run). Passed c w past r start (sent_from first sent base) step (at + 1)) (sym h.0) (subst (λ os. Passed c w past run start (sent_from first os base) step (at + 1)) (sym h.1) (asked_none c w past run start (sent_from first outs base) step at e p))
+asked_by c w past run new start base first outs sent step at (Some out) l e h p =
+    let next = asked_some c w past run start (sent_from first outs base) step at (first + length outs) out l e p in
     let actions : sent_from first sent base ≡ Sent (asked_of (first + length outs) out) ∷ sent_from first outs base = ap (λ os. sent_from first os base) h.1 ∙ sent_append first outs out base in
-    subst (λ (r : Run). Passed c w past r (sent_from first sent base) step (at + 1)) (sym h.0) (subst (λ ms. Passed c w past (sent_run run at (first + length outs) (mark_of (site_now (sent_from first outs base) at)) out) ms step (at + 1)) (sym actions) next)
+    subst (λ (r : Run). Passed c w past r start (sent_from first sent base) step (at + 1)) (sym h.0) (subst (λ ms. Passed c w past (sent_run run at (first + length outs) (mark_of (site_now (sent_from first outs base) at)) out) start ms step (at + 1)) (sym actions) next)
 
 -- one more site was asked
-pub passed_more : (c : Config) (w : Caller) (past : List Trace) (run new : Run) (base : List Action) (first : ℕ) (outs sent : List Out) (step : Option RowStep) (at : ℕ) → at < c.n → IsAskedAt run at step first outs new sent →
-    Passed c w past run (sent_from first outs base) step at → Passed c w past new (sent_from first sent base) step (at + 1)
-passed_more c w past run new base first outs sent step at l asked p =
-    asked_by c w past run new base first outs sent step at (asks_of run at (mark_of (site_now (sent_from first outs base) at)) step (known (site_now (sent_from first outs base) at))) l refl
-    (asked (mark_of (site_now (sent_from first outs base) at)) (known (site_now (sent_from first outs base) at)) (p.asks.stands.knows.marks at l) (p.asks.stands.knows.rows at l)) p
+pub passed_more : (c : Config) (w : Caller) (past : List Trace) (run new : Run) (start base : List Action) (first : ℕ) (outs sent : List Out) (step : Option RowStep) (at : ℕ) → at < c.n → IsAskedAt run at step first outs new sent →
+    Passed c w past run start (sent_from first outs base) step at → Passed c w past new start (sent_from first sent base) step (at + 1)
+passed_more c w past run new start base first outs sent step at l asked p =
+    asked_by c w past run new start base first outs sent step at (asks_of run at (mark_of (site_now (sent_from first outs base) at)) step (known (site_now (sent_from first outs base) at))) l refl
+    (asked (mark_of (site_now (sent_from first outs base) at)) (known (site_now (sent_from first outs base) at)) (p.stands.knows.marks at l) (p.stands.knows.rows at l)) p

@@ -45,7 +45,7 @@ pub record IsQuiet (w : Caller) (m : Action) (ms : List Action) : Type 0 where
   pub cast : of_sent cast_by m ≡ None
 
 -- nothing more was sent of which something is read
-unsent : {T : Type 0} (f : RowStep → Option T) (p : T → Bool) (m : Action) (ms : List Action) → of_sent f m ≡ None → some_sent f p (m ∷ ms) ≡ some_sent f p ms
+pub unsent : {T : Type 0} (f : RowStep → Option T) (p : T → Bool) (m : Action) (ms : List Action) → of_sent f m ≡ None → some_sent f p (m ∷ ms) ≡ some_sent f p ms
 unsent f p m ms e = ap (λ o. passes_sent p o || some_sent f p ms) e
 
 clear_more : (c : Config) (x : Name) (m : Action) (ms : List Action) (v : ℕ) → ((u : ℕ) → voted_at x (m ∷ ms) u ≡ voted_at x ms u) → IsClear c x ms v → IsClear c x (m ∷ ms) v
@@ -155,20 +155,27 @@ known_after m ms at seen changed s row e heard k =
       | inr n ↦ inl (sym (ap known (now_other m ms s (e.others s n))) ∙ k)
     ]
 
-passed_known : (c : Config) (m : Action) (ms : List Action) (at : ℕ) (seen : Option Seen) (changed : Bool) (v : ℕ) (b : BallotAt) → Ends m at seen changed → heard_in m ≡ seen → of_sent promise_by m ≡ None → ArePassed c ms v b → ArePassed c (m ∷ ms) v b
-passed_known c m ms at seen changed v b e heard quiet h s row l k above =
-    elim (known_after m ms at seen changed s row e heard k) [
+-- the rows that are known after an action were known, or were heard at it
+abbrev pub AreKnownBy : Action → List Action → Type 0
+AreKnownBy m ms = (s : ℕ) (row : RowAt) → known (site_now (m ∷ ms) s) ≡ Some row → (known (site_now ms s) ≡ Some row) ⊎ ((one : Seen) × (heard_in m ≡ Some one) × (one.row ≡ row))
+
+pub ended_known : (m : Action) (ms : List Action) (at : ℕ) (seen : Option Seen) (changed : Bool) → Ends m at seen changed → heard_in m ≡ seen → AreKnownBy m ms
+ended_known m ms at seen changed e heard s row k = known_after m ms at seen changed s row e heard k
+
+passed_known : (c : Config) (m : Action) (ms : List Action) (v : ℕ) (b : BallotAt) → AreKnownBy m ms → of_sent promise_by m ≡ None → ArePassed c ms v b → ArePassed c (m ∷ ms) v b
+passed_known c m ms v b known_by quiet h s row l k above =
+    elim (known_by s row k) [
       | inl old ↦ passed_more m ms v b quiet (h s row l old above)
       | inr new ↦ passed_now m ms v b quiet (subst (λ o. passes (λ r. promises_above r v b) o ≡ true) (sym new.1) (subst (λ r. promises_above r v b ≡ true) (sym new.2) above))
     ]
 
 -- the phase goes on to stand
-pub stage_more : (c : Config) (w : Caller) (past : List Trace) (m : Action) (ms : List Action) (at : ℕ) (seen : Option Seen) (changed : Bool) (stage : Stage) → Ends m at seen changed → heard_in m ≡ seen → IsQuiet w m ms → StageStands c w past stage ms → StageStands c w past stage (m ∷ ms)
-stage_more c w past m ms at seen changed Look e heard q s = (q.voted ∙ s.0, q.phase ∙ s.1)
-stage_more c w past m ms at seen changed (Fast v) e heard q s =
+pub stage_more : (c : Config) (w : Caller) (past : List Trace) (m : Action) (ms : List Action) (stage : Stage) → AreKnownBy m ms → IsQuiet w m ms → StageStands c w past stage ms → StageStands c w past stage (m ∷ ms)
+stage_more c w past m ms Look known_by q s = (q.voted ∙ s.0, q.phase ∙ s.1)
+stage_more c w past m ms (Fast v) known_by q s =
     (record { above = s.0.above; current = current_more c m ms v s.0.current; next = next_more c m ms v s.0.next; clear = clear_more c w.name m ms v q.voted_at s.0.clear }, s.1, unpromised_more m ms v q.promise s.2)
-stage_more c w past m ms at seen changed (Prepare v b found) e heard q s = (preparing_more c w past m ms v b q s.0, passed_known c m ms at seen changed v b e heard q.promise s.1, λ reads. looked_more c m ms v b found q.promise (s.2 reads))
-stage_more c w past m ms at seen changed (Accept v b x) e heard q s = (classic_more c w m ms v b x q s.0, voting_more c w past m ms v b q s.1, passed_known c m ms at seen changed v b e heard q.promise s.2)
+stage_more c w past m ms (Prepare v b found) known_by q s = (preparing_more c w past m ms v b q s.0, passed_known c m ms v b known_by q.promise s.1, λ reads. looked_more c m ms v b found q.promise (s.2 reads))
+stage_more c w past m ms (Accept v b x) known_by q s = (classic_more c w m ms v b x q s.0, voting_more c w past m ms v b q s.1, passed_known c m ms v b known_by q.promise s.2)
 
 none_of : {T : Type 0} (f : RowStep → Option T) (op : Op) (step : RowStep) → f step ≡ None → IsOf op (Some step) → of_step f op ≡ None
 none_of f (WriteRow key expect made row) step e is = ap f (sym (same_Some step made (is.writes made refl))) ∙ e

@@ -1,29 +1,29 @@
 -- A call that begins stands for nothing having happened.
-use Rattle.std.proofs.Common.{◌≡◌, ℕ, ◌<◌, List, [], length, Option, Some, None, refl, sym, ap, ◌∙◌, arith}
+use Rattle.std.proofs.Common.{◌≡◌, ℕ, ◌<◌, List, [], length, Option, Some, None, refl, sym, arith}
 use Rattle.std.specs.List.{slice_get}
 use Rattle.std.proofs.lemmas.Option.{none-some}
 use Rattle.gz_core.specs.Names.{Name}
 use Rattle.gz_core.specs.Rows.{RowAt}
-use Rattle.gz_core.specs.Calls.{IsOwn, key_of}
-use Rattle.gz_core.specs.declared.calls.Call.{Call}
+use Rattle.gz_core.specs.Calls.{key_of}
 use Rattle.gz_core.specs.declared.values.Value.{Value}
 use Rattle.gz_config.specs.declared.Config.{Config}
 use Rattle.gz_round.specs.declared.run.Mark.{Mark}
 use Rattle.gz_core.specs.History.{Asked, Caller, Trace}
 use Rattle.gz_round.specs.Rounds.{top_rounds}
+use Rattle.gz_round.specs.Standing.{IsNamed}
 use Rattle.gz_round.specs.Following.{Ready}
 use Rattle.gz_round.specs.Starting.{fresh_mark, idle_run}
-use Rattle.gz_round.proofs.Owns.{own_named}
+use Rattle.gz_round.proofs.Notices.{none_noticed}
 
-pub start_ready : (c : Config) (w : Caller) (past : List Trace) (name : Name) (call : Call) (rows : List (Option RowAt)) (marks : List Mark) (round : ℕ) → w.name ≡ name → w.call ≡ call → IsOwn name call w.own → top_rounds past ≡ round →
+pub start_ready : (c : Config) (w : Caller) (past : List Trace) (name : Name) (key : List ℕ) (own : Option Value) (rows : List (Option RowAt)) (marks : List Mark) (round : ℕ) → w.name ≡ name → key_of w.call ≡ key → w.own ≡ own → IsNamed w.name w.own → top_rounds past ≡ round →
     length rows ≡ c.n → ((s : ℕ) → s < c.n → slice_get rows s ≡ Some None) → length marks ≡ c.n → ((s : ℕ) → s < c.n → slice_get marks s ≡ Some fresh_mark) →
-    Ready c w past (idle_run name call round rows marks) []
-start_ready c w past name call rows marks round name_is call_is own_is round_is rows_len rows_none marks_len marks_fresh = record {
+    Ready c w past (idle_run name key own round rows marks) []
+start_ready c w past name key own rows marks round name_is key_is own_is named round_is rows_len rows_none marks_len marks_fresh = record {
   stands = record {
     name_is = sym name_is;
-    key_is = ap key_of (sym call_is);
+    key_is = sym key_is;
     own_is = sym own_is;
-    named = λ (x : Value) (e : w.own ≡ Some x). own_named name call w.own x own_is e ∙ sym name_is;
+    named = named;
     knows = record { rows_len = rows_len; marks_len = marks_len; rows = rows_none; marks = marks_fresh };
     met_is = refl;
     voted_is = refl;
@@ -33,4 +33,6 @@ start_ready c w past name call rows marks round name_is call_is own_is round_is 
     allowed = tt;
   };
   stage = (refl, refl);
+  unnoticed = none_noticed;
+  above = tt;
 }

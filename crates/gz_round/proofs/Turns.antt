@@ -1,8 +1,8 @@
--- What an event comes to: the call runs on, or its answer has its cause.
+-- What an event comes to: the call runs on, or its rows are done with.
 use Rattle.std.proofs.Common.{◌≡◌, ◌≢◌, ℕ, zero, suc, ◌+◌, ◌<◌, ◌≤◌, Bool, true, false, cond, ◌||◌, List, [], ◌∷◌, Option, Some, None, is_some, option_map, refl, sym, ap, ◌∙◌, subst, inl, inr, ◌⊎◌, arith}
 use Rattle.std.specs.Prelude.{nat_lt}
-use Rattle.std.specs.List.{list_any}
-use Rattle.std.proofs.lemmas.Bool.{cases_Bool, true≢false, false≢true, both_ways, or_cases, or_parts, ltb-true, ltb-false, false_from_ne_true}
+use Rattle.std.specs.List.{list_any, count_by}
+use Rattle.std.proofs.lemmas.Bool.{cases_Bool, cond-true, cond-false, true≢false, false≢true, both_ways, or_cases, or_parts, ltb-true, ltb-false, false_from_ne_true}
 use Rattle.std.proofs.lemmas.Option.{same_Some, none-some, slice_get_within}
 use Rattle.gz_core.specs.Names.{Name, BallotAt}
 use Rattle.gz_core.specs.Values.{name_of}
@@ -10,7 +10,7 @@ use Rattle.gz_core.specs.Rows.{RowAt}
 use Rattle.gz_core.specs.Calls.{key_of}
 use Rattle.gz_core.specs.Counts.{count_sites}
 use Rattle.gz_core.specs.declared.calls.Answer.{Answer}
-use Rattle.gz_core.specs.declared.calls.Answer.TheVariants.{Ok, Bytes, Gone, Absent, NoQuorum, Contended, Unsure}
+use Rattle.gz_core.specs.declared.calls.Answer.TheVariants.{Absent, NoQuorum, Contended, Unsure}
 use Rattle.gz_core.specs.declared.calls.UnsureWhy.{UnsureWhy}
 use Rattle.gz_core.specs.declared.calls.UnsureWhy.TheVariants.{NoQuorum as UnsureNoQuorum, Contended as UnsureContended, Trimmed as UnsureTrimmed}
 use Rattle.gz_core.specs.declared.calls.Phase.{Phase}
@@ -31,18 +31,22 @@ use Rattle.gz_round.specs.declared.run.Stage.{Stage}
 use Rattle.gz_round.specs.declared.run.Stage.TheVariants.{Look, Fast, Prepare, Accept}
 use Rattle.gz_core.specs.History.{Asked, Action, Sent, Caller, Trace, IsEarlier, asked_of, sent_from}
 use Rattle.gz_round.specs.Steps.{IsStepOf}
-use Rattle.gz_round.specs.Sites.{site_now, known}
+use Rattle.gz_round.specs.Sites.{SiteNow, site_now, after_sent, known}
 use Rattle.gz_round.specs.Sent.{met, last_promise}
 use Rattle.gz_round.specs.Shown.{heard_at, IsShown, IsCurrent}
-use Rattle.gz_round.specs.Rounds.{MayPromise, rounds_used, promises_above, above_known}
+use Rattle.gz_round.specs.Rounds.{promises_known, MayPromise, rounds_used, promises_above, above_known}
 use Rattle.gz_round.specs.Sending.{MayMake, NoneAbove, answer_of}
-use Rattle.gz_round.specs.Counting.{outs, known_count, IsGoing, IsNoticed, HasNotice}
-use Rattle.gz_round.specs.Causes.{HasCause, IsCutOff, IsOvertaken, UnsureCause, IsValueHeard, IsLearnt, rows_known, is_blank}
+use Rattle.gz_round.specs.Counting.{IsUnnoticed, outs, known_count, IsGoing, IsNoticed, HasNotice}
+use Rattle.gz_round.specs.Causes.{EndsBy, ComesTo, IsCutOff, IsOvertaken, UnsureCause, IsValueHeard, IsLearnt, rows_known, is_blank}
 use Rattle.gz_round.specs.Asking.{IsLeftBy, is_notice, round_of}
-use Rattle.gz_round.specs.Standing.{Knows, Stands, StageStands, ArePassed, AreAskedAgain, IsWaiting, IsWorking, mark_of, awaited_of}
-use Rattle.gz_round.specs.Following.{Asks, MayMakeOf, AreServed, IsSettledBy, NoEvidence, IsUnmet, HeldOf, Turned, HasTurned}
-use Rattle.gz_round.specs.Acting.{IsPlain, TakesStep, RunsOut, Finishes, IsFewIn, IsShortIn, is_overtaken, is_overtaken_in, is_waiting, vote_for, notice_for, stage_step, step_in, working_version, version_in}
+use Rattle.gz_round.specs.Standing.{Knows, Runs, Stands, StageStands, ArePassed, AreAskedAgain, IsWaiting, IsWorking, mark_of, awaited_of}
+use Rattle.gz_round.specs.Following.{Asks, HasAsked, IsPlain, MayMakeOf, NoEvidence, HeldOf, AreDone, Turned, HasTurned}
+use Rattle.gz_round.specs.Acting.{TakesStep, RunsOut, Finishes, IsShortIn, is_waiting, notice_for, working_version, version_in}
+use Rattle.gz_round.specs.declared.outcome.Outcome.{Outcome}
+use Rattle.gz_round.specs.declared.outcome.Outcome.TheVariants.{Goes, Placed, Learnt, Ends as EndsAs}
+use Rattle.gz_round.specs.Goals.{AreServed, IsFewIn, IsSettledBy, IsUnmet, is_overtaken, is_overtaken_in, stage_step, step_in, vote_for}
 use Rattle.gz_round.proofs.Lists.{count_same, any_found, any_told}
+use Rattle.gz_round.proofs.Actions.{each_site}
 use Rattle.gz_round.proofs.Known.{evident_same, last_known, known_last, known_after_sent, out_after_sent, row_after_sent}
 use Rattle.gz_round.proofs.LookBacks.{earlier_refl, back_later, last_promised_at}
 
@@ -121,27 +125,68 @@ unsure_sent c w past run new ms ns (UnsureTrimmed floor) h k wrote same_met same
 learnt_sent : (c : Config) (w : Caller) (v : ℕ) (x : Value) (first : ℕ) (sent : List Out) (ms : List Action) → IsLearnt c w ms v x → IsLearnt c w (sent_from first sent ms) v x
 learnt_sent c w v x first sent ms h = record { reads = h.reads; shown = shown_sent c v (name_of x) first sent ms h.shown; current = current_sent c v first sent ms h.current; heard = value_sent v x first sent ms h.heard }
 
--- reads leave the cause of a plain answer
-plain_sent : (c : Config) (w : Caller) (past : List Trace) (run new : Run) (first : ℕ) (sent : List Out) (ms : List Action) (answer : Answer) → Stands c w past run ms → Stands c w past new (sent_from first sent ms) → new.voted ≡ run.voted → new.wrote ≡ run.wrote →
-    HasCause c w ms answer → IsPlain answer → HasCause c w (sent_from first sent ms) answer
-plain_sent c w past run new first sent ms (Ok v) h k voted_same wrote_same cause plain = absurd plain
-plain_sent c w past run new first sent ms (Bytes v x bytes) h k voted_same wrote_same cause plain = (going_sent c first sent ms cause.0, learnt_sent c w v _ first sent ms cause.1)
-plain_sent c w past run new first sent ms (Gone v x) h k voted_same wrote_same cause plain = (going_sent c first sent ms cause.0, learnt_sent c w v _ first sent ms cause.1)
-plain_sent c w past run new first sent ms Absent h k voted_same wrote_same cause plain =
+-- requests leave the cause of an answer
+cause_sent : (c : Config) (w : Caller) (past : List Trace) (run new : Run) (first : ℕ) (sent : List Out) (ms : List Action) (answer : Answer) → Stands c w past run ms → Stands c w past new (sent_from first sent ms) → new.voted ≡ run.voted → new.wrote ≡ run.wrote →
+    EndsBy c w ms answer → EndsBy c w (sent_from first sent ms) answer
+cause_sent c w past run new first sent ms Absent h k voted_same wrote_same cause =
     (going_sent c first sent ms cause.0, (cause.1.0, omega (arith, cause.1.1, heard_sent c is_blank first sent ms)))
-plain_sent c w past run new first sent ms (NoQuorum phase heard) h k voted_same wrote_same cause plain =
+cause_sent c w past run new first sent ms (NoQuorum phase heard) h k voted_same wrote_same cause =
     (sym k.voted_is ∙ (voted_same ∙ (h.voted_is ∙ cause.0)), cut_sent c w past run new ms (sent_from first sent ms) phase heard h k wrote_same (met_sent first sent ms) (outs_sent c first sent ms) (known_sent c first sent ms) cause.1)
-plain_sent c w past run new first sent ms (Contended m) h k voted_same wrote_same cause plain =
+cause_sent c w past run new first sent ms (Contended m) h k voted_same wrote_same cause =
     (sym k.voted_is ∙ (voted_same ∙ (h.voted_is ∙ cause.0)), overtaken_sent c ms (sent_from first sent ms) m (met_sent first sent ms) cause.1)
-plain_sent c w past run new first sent ms (Unsure why) h k voted_same wrote_same cause plain =
+cause_sent c w past run new first sent ms (Unsure why) h k voted_same wrote_same cause =
     (sym k.voted_is ∙ (voted_same ∙ (h.voted_is ∙ cause.0)), unsure_sent c w past run new ms (sent_from first sent ms) why h k wrote_same (met_sent first sent ms) (outs_sent c first sent ms) (known_sent c first sent ms) cause.1)
-plain_sent c w past run new first sent ms answer h k voted_same wrote_same cause plain = absurd cause
+cause_sent c w past run new first sent ms answer h k voted_same wrote_same cause = absurd cause
 
--- a call that ends after its reads
-pub close_turned : (c : Config) (w : Caller) (past : List Trace) (run new : Run) (ms : List Action) (first : ℕ) (sent : List Out) (answer : Answer) → Stands c w past run ms → HasCause c w ms answer × IsPlain answer →
-    Asks c w past new (sent_from first sent ms) None → IsLeftBy run new None → Turned c w past new (sent_from first sent ms) (Some answer)
-close_turned c w past run new ms first sent answer h cause asks left =
-    (asks.stands.allowed, plain_sent c w past run new first sent ms answer h asks.stands (left.voted refl) (left.wrote refl) cause.0 cause.1, asks.stands.round_is)
+-- a site that has answered all that was asked of it before one more request
+quiet_before : (a : Asked) (now : SiteNow) → (after_sent a now).unanswered ≡ false → now.unanswered ≡ false
+quiet_before a now e =
+    elim (cases_Bool a.awaited) [
+      | inl t ↦ absurd (true≢false (sym (ap (λ n. n.unanswered) (cond-true a.awaited _ now t)) ∙ e))
+      | inr t ↦ sym (ap (λ n. n.unanswered) (cond-false a.awaited _ now t)) ∙ e
+    ]
+
+quiet_after_sent : (a : Asked) (ms : List Action) (s : ℕ) → (site_now (Sent a ∷ ms) s).unanswered ≡ false → (site_now ms s).unanswered ≡ false
+quiet_after_sent a ms s = each_site (λ n. n.unanswered ≡ false → (site_now ms s).unanswered ≡ false) (Sent a) ms s (λ h. quiet_before a (site_now ms s)) (λ h. λ e. e)
+
+noticed_one : (c : Config) (w : Caller) (v : ℕ) (a : Asked) (ms : List Action) → IsNoticed c w ms v → IsNoticed c w (Sent a ∷ ms) v
+noticed_one c w v a ms h s l kept quiet seen last x own done =
+    let notice = h s l (out_after_sent a ms s ∙ kept) (quiet_after_sent a ms s quiet) seen (row_after_sent a ms s ∙ last) x own done in
+    (notice.0, inr notice.1)
+
+-- and what the rows come to
+comes_sent : (c : Config) (w : Caller) (past : List Trace) (run new : Run) (first : ℕ) (sent : List Out) (ms : List Action) (outcome : Outcome) → Stands c w past run ms → Stands c w past new (sent_from first sent ms) → new.voted ≡ run.voted → new.wrote ≡ run.wrote →
+    ComesTo c w ms outcome → ComesTo c w (sent_from first sent ms) outcome
+comes_sent c w past run new first sent ms Goes h k voted_same wrote_same comes = absurd comes
+comes_sent c w past run new first sent ms (Placed v) h k voted_same wrote_same comes =
+    (going_sent c first sent ms comes.0, (comes.1.0, comes.1.1, shown_sent c v w.name first sent ms comes.1.2), over_sent (λ ns. IsNoticed c w ns v) (noticed_one c w v) first sent ms comes.2)
+comes_sent c w past run new first sent ms (Learnt v x) h k voted_same wrote_same comes = (going_sent c first sent ms comes.0, learnt_sent c w v x first sent ms comes.1)
+comes_sent c w past run new first sent ms (EndsAs answer) h k voted_same wrote_same comes = cause_sent c w past run new first sent ms answer h k voted_same wrote_same comes
+
+-- each site that was served was asked again
+pub again_from : (c : Config) (w : Caller) (ms : List Action) (step : Option RowStep) → AreServed c w ms step → AreAskedAgain c ms
+again_from c w ms step served s l may idle =
+    elim (cases_Bool (site_now ms s).out) [
+      | inl e ↦ e
+      | inr e ↦ (let k = served s l idle e in elim may [ inl none ↦ absurd (none-some k.0 (sym none ∙ k.1)) | inr changed ↦ absurd (both_ways (site_now ms s).changed k.2 changed) ])
+    ]
+
+turned_done : (c : Config) (w : Caller) (past : List Trace) (run : Run) (ms : List Action) (outcome : Outcome) → AreDone c w past run ms outcome → Turned c w past run ms outcome
+turned_done c w past run ms Goes done = absurd done.comes
+turned_done c w past run ms outcome done = done
+
+-- the rows of a call are done with after its reads
+pub close_turned : (c : Config) (w : Caller) (past : List Trace) (run new : Run) (ms : List Action) (first : ℕ) (sent : List Out) (outcome : Outcome) → Stands c w past run ms → ComesTo c w ms outcome →
+    HasAsked c w past new ms (sent_from first sent ms) None → IsLeftBy run new None → Turned c w past new (sent_from first sent ms) outcome
+close_turned c w past run new ms first sent outcome h comes asks left =
+    turned_done c w past new (sent_from first sent ms) outcome (record {
+      key_is = asks.stands.key_is;
+      own_is = asks.stands.own_is;
+      allowed = asks.stands.allowed;
+      reads = again_from c w (sent_from first sent ms) None asks.served;
+      comes = comes_sent c w past run new first sent ms outcome h asks.stands (left.voted refl) (left.wrote refl) comes;
+      round_is = asks.stands.round_is;
+    })
 
 idle_from : (o : Option Asked) (b : Bool) → b ≡ is_some o → b ≡ false → o ≡ None
 idle_from None b e f = refl
@@ -174,18 +219,25 @@ finish_asks c w past run ms v step f is =
     let own : w.own ≡ Some x = f.own.1 in
     let step_is : step ≡ Some (Decide v x) = is ∙ ap (notice_for v) (f.stands.own_is ∙ own) in
     let shown : IsShown c ms v (name_of x) = subst (λ (n : Name). IsShown c ms v n) (sym (f.stands.named x own)) f.shown in
-    record { stands = f.stands; may = subst (MayMakeOf c w past ms) (sym step_is) (shown, inl own); held = subst (HeldOf c w past ms) (sym step_is) tt }
+    record { stands = f.stands; may = subst (MayMakeOf c w past ms) (sym step_is) (shown, inl own); held = subst (HeldOf c w past ms) (sym step_is) tt; unnoticed = f.unnoticed }
 
 -- a call whose value is chosen, once the others got a notice
 pub finish_turned : (c : Config) (w : Caller) (past : List Trace) (run new : Run) (ms : List Action) (first : ℕ) (sent : List Out) (v : ℕ) (step : Option RowStep) → Finishes c w past run ms v → step ≡ notice_for v run.own →
-    (Asks c w past run ms step → Asks c w past new (sent_from first sent ms) step × AreServed c w (sent_from first sent ms) step) → Turned c w past new (sent_from first sent ms) (Some (Ok v))
+    (Asks c w past run ms step → HasAsked c w past new ms (sent_from first sent ms) step) → Turned c w past new (sent_from first sent ms) (Placed v)
 finish_turned c w past run new ms first sent v step f is asked =
     let x : Value = f.own.0 in
     let own : w.own ≡ Some x = f.own.1 in
     let step_is : step ≡ Some (Decide v x) = is ∙ ap (notice_for v) (f.stands.own_is ∙ own) in
     let done = asked (finish_asks c w past run ms v step f is) in
-    let served : AreServed c w (sent_from first sent ms) (Some (Decide v x)) = subst (AreServed c w (sent_from first sent ms)) step_is done.1 in
-    (done.0.stands.allowed, (going_sent c first sent ms f.going, (x, own, shown_sent c v w.name first sent ms f.shown), noticed_from c w past new (sent_from first sent ms) v x done.0.stands own served), done.0.stands.round_is)
+    let served : AreServed c w (sent_from first sent ms) (Some (Decide v x)) = subst (AreServed c w (sent_from first sent ms)) step_is done.served in
+    record {
+      key_is = done.stands.key_is;
+      own_is = done.stands.own_is;
+      allowed = done.stands.allowed;
+      reads = again_from c w (sent_from first sent ms) step done.served;
+      comes = (going_sent c first sent ms f.going, (x, own, shown_sent c v w.name first sent ms f.shown), noticed_from c w past new (sent_from first sent ms) v x done.stands own served);
+      round_is = done.stands.round_is;
+    }
 
 -- no known row promises a ballot above
 pub none_above_listed : (c : Config) (run : Run) (ms : List Action) (v : ℕ) (b : BallotAt) → Knows c run ms → list_any (above_known v b) run.rows ≡ false → NoneAbove c ms v b
@@ -244,14 +296,6 @@ stage_kept c w past run new ms ns (Accept v b x) h k left then ahead s may held 
 pub earlier_sent : (first : ℕ) (sent : List Out) (ms : List Action) → IsEarlier ms (sent_from first sent ms)
 earlier_sent first sent ms = over_sent (IsEarlier ms) (λ (a : Asked) (ns : List Action) (h : IsEarlier ms ns). inr h) first sent ms (earlier_refl ms)
 
--- each site that was served was asked again
-pub again_from : (c : Config) (w : Caller) (ms : List Action) (step : Option RowStep) → AreServed c w ms step → AreAskedAgain c ms
-again_from c w ms step served s l may idle =
-    elim (cases_Bool (site_now ms s).out) [
-      | inl e ↦ e
-      | inr e ↦ (let k = served s l idle e in elim may [ inl none ↦ absurd (none-some k.0 (sym none ∙ k.1)) | inr changed ↦ absurd (both_ways (site_now ms s).changed k.2 changed) ])
-    ]
-
 awaits_some : (o : Option Asked) → is_some (option_map awaited_of o) ≡ true → (a : Asked) × (o ≡ Some a)
 awaits_some None h = absurd (false≢true h)
 awaits_some (Some a) h = (a, refl)
@@ -299,6 +343,16 @@ unmet_out c w past run ms (Fast v) first sent enough s none = (s.0.above, eviden
 unmet_out c w past run ms (Prepare v b found) first sent enough s none = (s.0.works.pass.above, evidence_sent c v first sent ms none)
 unmet_out c w past run ms (Accept v b x) first sent enough s none = (s.1.works.pass.above, evidence_sent c v first sent ms none)
 
+-- requests leave a goal unmet
+unmet_sent : (c : Config) (run new : Run) (ms : List Action) (stage : Stage) (first : ℕ) (sent : List Out) → new.rows ≡ run.rows → IsUnmet c run stage ms → IsUnmet c new stage (sent_from first sent ms)
+unmet_sent c run new ms Look first sent rows (inl few) = let same = known_sent c first sent ms in inl (omega arith)
+unmet_sent c run new ms Look first sent rows (inr none) =
+    let above : 1 ≤ highest_of run.rows = none.0 in
+    inr (subst (λ (known : List (Option RowAt)). (1 ≤ highest_of known) × NoEvidence c (sent_from first sent ms) (highest_of known)) (sym rows) (above, evidence_sent c (highest_of run.rows) first sent ms none.1))
+unmet_sent c run new ms (Fast v) first sent rows none = evidence_sent c v first sent ms none
+unmet_sent c run new ms (Prepare v b found) first sent rows none = evidence_sent c v first sent ms none
+unmet_sent c run new ms (Accept v b x) first sent rows none = evidence_sent c v first sent ms none
+
 -- the step of a phase is no notice
 stage_plain : (stage : Stage) (own : Option Value) (step : RowStep) → step_in stage own ≡ Some step → is_notice step ≡ false
 stage_plain Look own step e = absurd (none-some step e)
@@ -306,6 +360,10 @@ stage_plain (Fast v) None step e = absurd (none-some step e)
 stage_plain (Fast v) (Some x) step e = sym (ap is_notice (same_Some (FastVote v x) step e))
 stage_plain (Prepare v b found) own step e = sym (ap is_notice (same_Some (Promise v b) step e))
 stage_plain (Accept v b x) own step e = sym (ap is_notice (same_Some (ClassicVote v b x) step e))
+
+plain_from : (o : Option RowStep) → ((step : RowStep) → o ≡ Some step → is_notice step ≡ false) → IsPlain o
+plain_from None h = tt
+plain_from (Some step) h = h step refl
 
 -- where nothing is awaited after a pass, no known row takes the step
 pub untaken_from : (c : Config) (w : Caller) (ms : List Action) (step : RowStep) → is_notice step ≡ false → AreServed c w ms (Some step) → ((s : ℕ) → s < c.n → (site_now ms s).awaits ≡ None) → (s : ℕ) (row : RowAt) → s < c.n → rows_known ms s ≡ Some row → answer_of step row ≢ Done
@@ -322,6 +380,13 @@ short_from c run (Prepare v b found) (inl l) ahead = let far = ltb-false run.rou
 short_from c run (Prepare v b found) (inr l) ahead = l
 short_from c run (Accept v b x) few ahead = tt
 
+-- and so few promise the ballot still
+few_still : (c : Config) (run new : Run) (stage : Stage) → new.rows ≡ run.rows → IsShortIn c run.rows stage → IsFewIn c new stage
+few_still c run new Look rows short = tt
+few_still c run new (Fast v) rows short = tt
+few_still c run new (Prepare v b found) rows short = inr (subst (λ (known : List (Option RowAt)). count_by (promises_known v b) known < c.qc) (sym rows) short)
+few_still c run new (Accept v b x) rows short = tt
+
 -- a ballot that isn't overtaken isn't once more of its promises were sent
 still_ahead : (run new : Run) (stage : Stage) → new.rows ≡ run.rows → run.round ≤ new.round → is_overtaken_in run stage ≡ false → is_overtaken_in new stage ≡ false
 still_ahead run new Look rows rises e = refl
@@ -335,12 +400,20 @@ still_ahead run new (Prepare v b found) rows rises e =
     ])
 still_ahead run new (Accept v b x) rows rises e = ap (list_any (above_known v b)) rows ∙ e
 
+-- the step of the phase stays the same
+step_left : (run new : Run) (step : Option RowStep) → step ≡ stage_step run → IsLeftBy run new step → step ≡ stage_step new
+step_left run new step is left = is ∙ (ap (step_in run.stage) (sym left.own) ∙ ap (λ st. step_in st new.own) (sym left.stage))
+
 -- after the step was made at each site that takes it
-pub record Stepped (c : Config) (w : Caller) (past : List Trace) (new : Run) (ms : List Action) (step : Option RowStep) : Type 0 where
+pub record Stepped (c : Config) (w : Caller) (past : List Trace) (new : Run) (ms : List Action) : Type 0 where
   pub stands : Stands c w past new ms
   pub stage : StageStands c w past new.stage ms
+  pub unmet : IsUnmet c new new.stage ms
+  pub few : IsFewIn c new new.stage
+  pub ahead : is_overtaken new ≡ false
+  pub served : AreServed c w ms (stage_step new)
+  pub unnoticed : IsUnnoticed ms
   pub going : IsGoing c ms
-  pub served : AreServed c w ms step
 
 pub steps_step : (c : Config) (w : Caller) (past : List Trace) (run : Run) (ms : List Action) (step : Option RowStep) → TakesStep c w past run ms → step ≡ stage_step run → IsStepOf step
 steps_step c w past run ms step p is = subst IsStepOf (sym is) (stage_is_step c w past run.own ms run.stage p.carries.acts.ready.stage)
@@ -349,44 +422,69 @@ pub steps_ask : (c : Config) (w : Caller) (past : List Trace) (run : Run) (ms : 
 steps_ask c w past run ms step p is =
     let a = p.carries.acts in
     let h : Stands c w past run ms = a.ready.stands in
-    record { stands = h; may = subst (MayMakeOf c w past ms) (sym is) (stage_may c w past run ms run.stage h a.ready.stage p.ahead); held = subst (HeldOf c w past ms) (sym is) (stage_held c w past run ms run.stage h a.ready.stage p.ahead) }
+    record { stands = h; may = subst (MayMakeOf c w past ms) (sym is) (stage_may c w past run ms run.stage h a.ready.stage p.ahead); held = subst (HeldOf c w past ms) (sym is) (stage_held c w past run ms run.stage h a.ready.stage p.ahead); unnoticed = a.ready.unnoticed }
 
 pub stepped_from : (c : Config) (w : Caller) (past : List Trace) (run new : Run) (ms : List Action) (first : ℕ) (sent : List Out) (step : Option RowStep) → TakesStep c w past run ms → step ≡ stage_step run →
-    (Asks c w past run ms step → Asks c w past new (sent_from first sent ms) step × AreServed c w (sent_from first sent ms) step) → IsLeftBy run new step → Stepped c w past new (sent_from first sent ms) step
+    (Asks c w past run ms step → HasAsked c w past new ms (sent_from first sent ms) step) → IsLeftBy run new step → Stepped c w past new (sent_from first sent ms)
 stepped_from c w past run new ms first sent step p is asked left =
     let a = p.carries.acts in
     let h : Stands c w past run ms = a.ready.stands in
     let done = asked (steps_ask c w past run ms step p is) in
-    let k : Stands c w past new (sent_from first sent ms) = done.0.stands in
-    let stage : StageStands c w past run.stage (sent_from first sent ms) = stage_kept c w past run new ms (sent_from first sent ms) run.stage h k (subst (IsLeftBy run new) is left) (earlier_sent first sent ms) p.ahead a.ready.stage (subst (MayMakeOf c w past (sent_from first sent ms)) is done.0.may) (subst (HeldOf c w past (sent_from first sent ms)) is done.0.held) in
-    record { stands = k; stage = subst (λ st. StageStands c w past st (sent_from first sent ms)) (sym left.stage) stage; going = going_sent c first sent ms a.going; served = done.1 }
+    let k : Stands c w past new (sent_from first sent ms) = done.stands in
+    let stage : StageStands c w past run.stage (sent_from first sent ms) = stage_kept c w past run new ms (sent_from first sent ms) run.stage h k (subst (IsLeftBy run new) is left) (earlier_sent first sent ms) p.ahead a.ready.stage (subst (MayMakeOf c w past (sent_from first sent ms)) is done.may) (subst (HeldOf c w past (sent_from first sent ms)) is done.held) in
+    let steps : step ≡ stage_step new = step_left run new step is left in
+    let plain : IsPlain step = subst IsPlain (sym is) (plain_from (step_in run.stage run.own) (stage_plain run.stage run.own)) in
+    record {
+      stands = k;
+      stage = subst (λ st. StageStands c w past st (sent_from first sent ms)) (sym left.stage) stage;
+      unmet = subst (λ st. IsUnmet c new st (sent_from first sent ms)) (sym left.stage) (unmet_sent c run new ms run.stage first sent left.rows a.unmet);
+      few = subst (λ st. IsFewIn c new st) (sym left.stage) (few_still c run new run.stage left.rows (short_from c run run.stage p.carries.few p.ahead));
+      ahead = subst (λ st. is_overtaken_in new st ≡ false) (sym left.stage) (still_ahead run new run.stage left.rows left.rises p.ahead);
+      served = subst (AreServed c w (sent_from first sent ms)) steps done.served;
+      unnoticed = done.unnoticed plain;
+      going = going_sent c first sent ms a.going;
+    }
 
 -- a request is awaited, and the call runs on
-pub stepped_runs : (c : Config) (w : Caller) (past : List Trace) (new : Run) (ms : List Action) (step : Option RowStep) → Stepped c w past new ms step → is_waiting new ≡ true → HasTurned c w past new ms None
-stepped_runs c w past new ms step p e = ([], inl refl, record { stands = p.stands; stage = p.stage; again = again_from c w ms step p.served; going = p.going; waits = waits_from c new ms p.stands.knows e })
+pub stepped_runs : (c : Config) (w : Caller) (past : List Trace) (new : Run) (ms : List Action) → Stepped c w past new ms → is_waiting new ≡ true → HasTurned c w past new ms Goes
+stepped_runs c w past new ms p e =
+    let runs : Runs c w past new ms = record {
+      stands = p.stands;
+      stage = p.stage;
+      unmet = p.unmet;
+      few = p.few;
+      ahead = p.ahead;
+      again = again_from c w ms (stage_step new) p.served;
+      served = p.served;
+      unnoticed = p.unnoticed;
+      going = p.going;
+      waits = waits_from c new ms p.stands.knows e;
+    } in
+    ([], inl refl, runs)
 
 -- nothing is awaited, and the phase has ended without its goal
-pub stepped_out : (c : Config) (w : Caller) (past : List Trace) (run new : Run) (ms : List Action) (first : ℕ) (sent : List Out) (step : Option RowStep) → TakesStep c w past run ms → step ≡ stage_step run → IsLeftBy run new step → Stepped c w past new (sent_from first sent ms) step → is_waiting new ≡ false → RunsOut c w past new (sent_from first sent ms)
+pub stepped_out : (c : Config) (w : Caller) (past : List Trace) (run new : Run) (ms : List Action) (first : ℕ) (sent : List Out) (step : Option RowStep) → TakesStep c w past run ms → step ≡ stage_step run → IsLeftBy run new step → Stepped c w past new (sent_from first sent ms) → is_waiting new ≡ false → RunsOut c w past new (sent_from first sent ms)
 stepped_out c w past run new ms first sent step p is left q e =
     let ns = sent_from first sent ms in
     let a = p.carries.acts in
     let idle : (s : ℕ) → s < c.n → (site_now (sent_from first sent ms) s).awaits ≡ None = λ (s : ℕ) (l : s < c.n). idle_of c new (sent_from first sent ms) s (site_now (sent_from first sent ms) s).awaits q.stands.knows e l refl in
-    let heard = heard_from c w (sent_from first sent ms) step q.served idle in
+    let heard = heard_from c w (sent_from first sent ms) (stage_step new) q.served idle in
     let enough : c.qc ≤ known_count c (sent_from first sent ms) = quorum_known c (sent_from first sent ms) heard q.going.enough in
     let out = unmet_out c w past run ms run.stage first sent enough a.ready.stage a.unmet in
     let version : version_in run.stage (highest_of run.rows) ≡ working_version new = ap (version_in run.stage) (ap highest_of (sym left.rows)) ∙ ap (λ st. version_in st (highest_of new.rows)) (sym left.stage) in
-    let steps : step ≡ stage_step new = is ∙ (ap (step_in run.stage) (sym left.own) ∙ ap (λ st. step_in st new.own) (sym left.stage)) in
     record {
       stands = q.stands;
       stage = q.stage;
       going = q.going;
+      unnoticed = q.unnoticed;
       short = subst (λ st. IsShortIn c new.rows st) (sym left.stage) (subst (λ rows. IsShortIn c rows run.stage) (sym left.rows) (short_from c run run.stage p.carries.few p.ahead));
-      ahead = subst (λ st. is_overtaken_in new st ≡ false) (sym left.stage) (still_ahead run new run.stage left.rows left.rises p.ahead);
+      ahead = q.ahead;
       above = subst (λ (n : ℕ). 1 ≤ n) version out.0;
       none = subst (NoEvidence c (sent_from first sent ms)) version out.1;
       idle = idle;
       heard = heard;
-      untaken = λ (made : RowStep) (k : stage_step new ≡ Some made). untaken_from c w (sent_from first sent ms) made (stage_plain new.stage new.own made k) (subst (AreServed c w (sent_from first sent ms)) (steps ∙ k) q.served) idle;
+      again = again_from c w (sent_from first sent ms) (stage_step new) q.served;
+      untaken = λ (made : RowStep) (k : stage_step new ≡ Some made). untaken_from c w (sent_from first sent ms) made (stage_plain new.stage new.own made k) (subst (AreServed c w (sent_from first sent ms)) k q.served) idle;
     }
 
 -- the step of a phase whose ballot isn't overtaken promises no later round

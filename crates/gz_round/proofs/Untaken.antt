@@ -8,7 +8,7 @@ use Rattle.gz_core.specs.Values.{name_of}
 use Rattle.gz_core.specs.Rows.{RowAt, column_in}
 use Rattle.gz_core.specs.Slots.{slots, slot_of, slot_decision, vote_pair}
 use Rattle.gz_core.specs.declared.slots.Slot.{Slot}
-use Rattle.gz_core.specs.declared.slots.Slot.TheVariants.{Gone, DecidedAs}
+use Rattle.gz_core.specs.declared.slots.Slot.TheVariants.{Gone, DecidedAs, OpenAt}
 use Rattle.gz_core.specs.Counts.{count_sites}
 use Rattle.gz_core.specs.declared.rows.Column.{Column}
 use Rattle.gz_core.specs.declared.rows.Column.TheVariants.{Open, Decided}
@@ -112,6 +112,12 @@ open_fresh promise b l =
     let above : is_below b promise ≡ false = grind (arith, nat_tests) in
     let other : same_ballot promise b ≡ false = false_from_ne_true (same_ballot promise b) (λ (e : same_ballot promise b ≡ true). let same = ap (λ (d : BallotAt). d.round) (same_means promise b e) in omega arith) in
     cond-false (is_below b promise) (Below promise) (cond (same_ballot promise b) Already Done) above ∙ cond-false (same_ballot promise b) Already Done other
+
+-- one that promises some ballot is open, and takes that of a later round
+pub open_taken : (slot : Slot) (floor : ℕ) (d b : BallotAt) → slot_promises_above slot d ≡ true → slot_round slot < b.round → promise_at b floor slot ≡ Done
+open_taken Gone floor d b e l = absurd (false≢true e)
+open_taken (DecidedAs x) floor d b e l = absurd (false≢true e)
+open_taken (OpenAt promise vote) floor d b e l = open_fresh promise b l
 
 slot_fresh : (b : BallotAt) (floor : ℕ) (o : Option Column) → slot_round (slot_of o) < b.round → IsUndecided (slot_of o) → promise_at b floor (slot_of o) ≡ Done
 slot_fresh b floor None l u = open_fresh fast b l

@@ -1,16 +1,15 @@
 -- What a call does at an event, once what came was noted.
-use Rattle.std.specs.Prelude.{ℕ, ◌≡◌, ◌≢◌, ◌≤◌, ◌<◌, ◌+◌, ◌⊎◌, ◌||◌, nat_lt, nat_le, max, Bool, true, false, List, [], ◌∷◌, if◌then◌else◌, Option, Some, None, is_some, IsSome, slice_get}
+use Rattle.std.specs.Prelude.{ℕ, ◌≡◌, ◌≢◌, ◌≤◌, ◌<◌, ◌+◌, ◌⊎◌, nat_le, max, Bool, true, false, List, [], ◌∷◌, if◌then◌else◌, Option, Some, None, is_some}
 use Rattle.gz_core.specs.Names.{BallotAt, IsClassic}
 use Rattle.gz_core.specs.Rows.{RowAt}
 use Rattle.gz_core.specs.declared.values.Value.{Value}
-use Rattle.gz_core.specs.declared.values.Value.TheVariants.{Tomb, Put}
 use Rattle.gz_core.specs.declared.calls.Answer.{Answer}
-use Rattle.gz_core.specs.declared.calls.Answer.TheVariants.{Ok, Bytes, Gone, NoQuorum, Contended, Unsure}
+use Rattle.gz_core.specs.declared.calls.Answer.TheVariants.{NoQuorum, Contended, Unsure}
 use Rattle.std.specs.List.{count_by, list_any}
 use Rattle.gz_core.specs.declared.calls.UnsureWhy.TheVariants.{NoQuorum as UnsureNoQuorum, Contended as UnsureContended}
 use Rattle.gz_config.specs.declared.Config.{Config}
 use Rattle.gz_core.specs.declared.requests.RowStep.{RowStep}
-use Rattle.gz_core.specs.declared.requests.RowStep.TheVariants.{FastVote, Promise, ClassicVote, Decide}
+use Rattle.gz_core.specs.declared.requests.RowStep.TheVariants.{Decide}
 use Rattle.gz_pick.specs.Looks.{row_top, highest_of}
 use Rattle.gz_round.specs.declared.run.Run.{Run}
 use Rattle.gz_round.specs.declared.run.Stage.{Stage}
@@ -23,35 +22,19 @@ use Rattle.gz_core.specs.History.{Action, Caller, Trace, sent_from}
 use Rattle.gz_round.specs.Sites.{site_now}
 use Rattle.gz_round.specs.Sent.{has_promised_at}
 use Rattle.gz_round.specs.Shown.{heard_at, IsShown, IsGrounded}
-use Rattle.gz_round.specs.Rounds.{passed_since, promises_known, above_known, round_known}
+use Rattle.gz_round.specs.Rounds.{passed_since, promises_known, promises_above, round_known}
 use Rattle.gz_round.specs.Sending.{NoEvidence, MayGiveIn, rows_known, answer_of}
-use Rattle.gz_round.specs.Counting.{IsGoing}
-use Rattle.gz_round.specs.Causes.{row_value}
-use Rattle.gz_round.specs.Standing.{Stands, StageStands, MayPass}
-use Rattle.gz_round.specs.Following.{Ready, IsUnmet}
-
--- an answer that says nothing of notices, nor of what every site was asked
-abbrev pub IsPlain : Answer → Type 0
-IsPlain (Ok v) = ⊥
-IsPlain answer = Unit {0}
-
-abbrev pub vote_for : ℕ → Option Value → Option RowStep
-vote_for v None = None
-vote_for v (Some x) = Some (FastVote v x)
+use Rattle.gz_round.specs.Counting.{IsGoing, IsUnnoticed}
+use Rattle.gz_round.specs.declared.outcome.Outcome.{Outcome}
+use Rattle.gz_round.specs.declared.outcome.Outcome.TheVariants.{Goes, Ends}
+pub use Rattle.gz_round.specs.Causes.{ComesTo}
+use Rattle.gz_round.specs.Standing.{Stands, StageStands, AreAskedAgain, MayPass}
+use Rattle.gz_round.specs.Goals.{IsUnmet, IsFewIn, is_overtaken, stage_step}
+use Rattle.gz_round.specs.Following.{Ready}
 
 abbrev pub notice_for : ℕ → Option Value → Option RowStep
 notice_for v None = None
 notice_for v (Some x) = Some (Decide v x)
-
-abbrev pub step_in : Stage → Option Value → Option RowStep
-step_in Look own = None
-step_in (Fast v) own = vote_for v own
-step_in (Prepare v b found) own = Some (Promise v b)
-step_in (Accept v b x) own = Some (ClassicVote v b x)
-
--- the step of the phase: none in `Look`, in `Fast` a vote for the call's value, then a promise and a classic vote
-abbrev pub stage_step : Run → Option RowStep
-stage_step run = step_in run.stage run.own
 
 abbrev pub version_in : Stage → ℕ → ℕ
 version_in Look highest = highest
@@ -72,13 +55,6 @@ pub record IsGoalUnmet (c : Config) (w : Caller) (past : List Trace) (run : Run)
 abbrev pub CanAct : Config → Run → Type 0
 CanAct c run = (w : Caller) × (past : List Trace) × (ms : List Action) × IsGoalUnmet c w past run ms
 
--- a quorum of known rows doesn't promise the call's ballot yet
-abbrev pub IsFewIn : Config → Run → Stage → Type 0
-IsFewIn c run Look = Unit {0}
-IsFewIn c run (Fast v) = Unit {0}
-IsFewIn c run (Prepare v b found) = (run.round < b.round) ⊎ (count_by (promises_known v b) run.rows < c.qc)
-IsFewIn c run (Accept v b x) = Unit {0}
-
 -- nor is there a quorum of promises
 pub record Carries (c : Config) (w : Caller) (past : List Trace) (run : Run) (ms : List Action) : Type 0 where
   pub acts : IsGoalUnmet c w past run ms
@@ -97,16 +73,6 @@ abbrev pub ChoiceMeans : Config → Caller → List Trace → Run → List Actio
 ChoiceMeans c w past run ms Wait = IsFewIn c run run.stage
 ChoiceMeans c w past run ms (AcceptNext stage) = Carries c w past (record run { stage = stage }) ms
 ChoiceMeans c w past run ms GiveIn = MayGiveIn c w past ms
-
--- the ballot of the phase leads no further: a known row promises one above, or the call never promised it
-abbrev pub is_overtaken_in : Run → Stage → Bool
-is_overtaken_in run Look = false
-is_overtaken_in run (Fast v) = false
-is_overtaken_in run (Prepare v b found) = nat_lt run.round b.round || list_any (above_known v b) run.rows
-is_overtaken_in run (Accept v b x) = list_any (above_known v b) run.rows
-
-abbrev pub is_overtaken : Run → Bool
-is_overtaken run = is_overtaken_in run run.stage
 
 -- fewer known rows than a quorum promise the ballot that is prepared
 abbrev pub IsShortIn : Config → List (Option RowAt) → Stage → Type 0
@@ -128,21 +94,39 @@ pub record RunsOut (c : Config) (w : Caller) (past : List Trace) (run : Run) (ms
   pub stands : Stands c w past run ms
   pub stage : StageStands c w past run.stage ms
   pub going : IsGoing c ms
+  pub unnoticed : IsUnnoticed ms
   pub short : IsShortIn c run.rows run.stage
   pub ahead : is_overtaken run ≡ false
   pub above : 1 ≤ working_version run
   pub none : NoEvidence c ms (working_version run)
   pub idle : (s : ℕ) → s < c.n → (site_now ms s).awaits ≡ None
   pub heard : (s : ℕ) → s < c.n → (site_now ms s).out ≡ false → (row : RowAt) × (rows_known ms s ≡ Some row)
+  pub again : AreAskedAgain c ms
   pub untaken : (step : RowStep) → stage_step run ≡ Some step → (s : ℕ) (row : RowAt) → s < c.n → rows_known ms s ≡ Some row → answer_of step row ≢ Done
 
 abbrev pub CanRunOut : Config → Run → ℕ → List Out → Type 0
 CanRunOut c run first outs = (w : Caller) × (past : List Trace) × (ms : List Action) × RunsOut c w past run (sent_from first outs ms)
 
+-- a known row promises a ballot at the version, and can be asked for another promise
+pub record IsAskableAt (c : Config) (ms : List Action) (v : ℕ) (s : ℕ) : Type 0 where
+  pub inside : s < c.n
+  pub row : RowAt
+  pub known : rows_known ms s ≡ Some row
+  pub ballot : BallotAt
+  pub above : promises_above row v ballot ≡ true
+  pub idle : (site_now ms s).awaits ≡ None
+  pub same : (site_now ms s).changed ≡ false
+
+-- all that is awaited once a ballot was prepared is its promise: nothing was, and no read was due; or else a row can promise it
+abbrev pub IsPreparable : Config → List Action → ℕ → Type 0
+IsPreparable c ms v = (((s : ℕ) → s < c.n → (site_now ms s).awaits ≡ None) × AreAskedAgain c ms) ⊎ ((s : ℕ) × IsAskableAt c ms v s)
+
 -- a call prepares a ballot at a version
 pub record Prepares (c : Config) (w : Caller) (past : List Trace) (run : Run) (ms : List Action) (v : ℕ) : Type 0 where
   pub stands : Stands c w past run ms
   pub going : IsGoing c ms
+  pub unnoticed : IsUnnoticed ms
+  pub askable : IsPreparable c ms v
   pub pass : MayPass c w ms v
   pub grounded : IsGrounded c ms v
   pub passed : (d : BallotAt) → has_promised_at ms v d ≡ true → passed_since v d ms ≡ true
@@ -167,6 +151,7 @@ pub record IsBallotAbove (run : Run) (v : ℕ) (b : BallotAt) : Type 0 where
 pub record Finishes (c : Config) (w : Caller) (past : List Trace) (run : Run) (ms : List Action) (v : ℕ) : Type 0 where
   pub stands : Stands c w past run ms
   pub going : IsGoing c ms
+  pub unnoticed : IsUnnoticed ms
   pub above : 1 ≤ v
   pub shown : IsShown c ms v w.name
   pub own : (x : Value) × (w.own ≡ Some x)
@@ -177,18 +162,6 @@ CanFinish c run v = (w : Caller) × (past : List Trace) × (ms : List Action) ×
 -- the call can go on
 abbrev pub CanFollow : Config → Run → Type 0
 CanFollow c run = (w : Caller) × (past : List Trace) × (ms : List Action) × Ready c w past run ms × IsGoing c ms
-
--- the row that is known of a site has a value at the version
-abbrev pub HasKnownValue : Run → ℕ → ℕ → Type 0
-HasKnownValue run s v = (row : RowAt) × (slice_get run.rows s ≡ Some (Some row)) × IsSome (row_value row v)
-
--- the answer gives this value
-abbrev pub IsAnswerFor : Value → ℕ → Answer → Type 0
-IsAnswerFor (Tomb name) v answer = answer ≡ Gone v name
-IsAnswerFor (Put put) v answer = answer ≡ Bytes v put.name put.bytes
-
-abbrev pub IsAnswerOf : RowAt → ℕ → Answer → Type 0
-IsAnswerOf row v answer = (x : Value) × (row_value row v ≡ Some x) × IsAnswerFor x v answer
 
 -- the answer of a call that was overtaken too often
 abbrev pub contended_of : Run → Answer
@@ -217,5 +190,5 @@ abbrev pub is_waiting : Run → Bool
 is_waiting run = list_any (λ mark. is_some mark.awaited) run.marks
 
 -- what is left once a ballot was prepared at every site that takes it: to wait, or to give in
-abbrev pub prepared_of : Run → Option Answer
-prepared_of run = if is_waiting run then None else Some (given_in_of run)
+abbrev pub prepared_of : Run → Outcome
+prepared_of run = if is_waiting run then Goes else Ends (given_in_of run)

@@ -1,11 +1,10 @@
--- When each answer of a call comes, by what the call has sent and heard.
+-- What a call's rows come to, by what it has sent and heard of rows.
 use Rattle.std.specs.Prelude.{ℕ, Bool, true, false, ◌≡◌, ◌≤◌, ◌<◌, ◌+◌, ◌&&◌, ◌==◌, List, Some, None}
 use Rattle.gz_core.specs.Values.{name_of}
 use Rattle.gz_core.specs.Rows.{RowAt}
 use Rattle.gz_core.specs.declared.values.Value.{Value}
-use Rattle.gz_core.specs.declared.values.Value.TheVariants.{Tomb, Put}
 use Rattle.gz_core.specs.declared.calls.Answer.{Answer}
-use Rattle.gz_core.specs.declared.calls.Answer.TheVariants.{Ok, Thin, Short, Bytes, Incomplete, Gone, Absent, Unborn, Collected, Swept, Held, NoQuorum, Contended, Unsure}
+use Rattle.gz_core.specs.declared.calls.Answer.TheVariants.{Absent, NoQuorum, Contended, Unsure}
 use Rattle.gz_core.specs.declared.calls.UnsureWhy.{UnsureWhy}
 use Rattle.gz_core.specs.declared.calls.UnsureWhy.TheVariants.{NoQuorum as UnsureNoQuorum, Contended as UnsureContended, Trimmed as UnsureTrimmed}
 use Rattle.gz_core.specs.declared.calls.Phase.{Phase}
@@ -14,8 +13,10 @@ use Rattle.gz_pick.specs.Looks.{row_top}
 use Rattle.gz_core.specs.History.{Action, Caller}
 use Rattle.gz_round.specs.Sent.{met, voted, phase_of}
 use Rattle.gz_round.specs.Shown.{heard_at, IsShown, IsCurrent}
+use Rattle.gz_round.specs.declared.outcome.Outcome.{Outcome}
+use Rattle.gz_round.specs.declared.outcome.Outcome.TheVariants.{Goes, Placed, Learnt, Ends}
 pub use Rattle.gz_round.specs.Shown.{vote_value, column_value, row_value, IsValueHeard}
-pub use Rattle.gz_round.specs.Sending.{rows_known}
+pub use Rattle.gz_round.specs.Sites.{rows_known}
 use Rattle.gz_round.specs.Counting.{outs, known_count, IsGoing, IsNoticed}
 
 -- the call writes a value, which is shown at the version
@@ -54,20 +55,18 @@ UnsureCause c ms (UnsureNoQuorum phase heard) = IsCutOff c ms phase heard
 UnsureCause c ms (UnsureContended m) = IsOvertaken c ms m
 UnsureCause c ms (UnsureTrimmed floor) = ⊥
 
--- when each answer comes. An answer other than the last three comes only while the call could go on. No call of this
--- store stores fragments, reads an old version or collects one yet.
-abbrev pub HasCause : Config → Caller → List Action → Answer → Type 0
-HasCause c w ms (Ok v) = IsGoing c ms × IsChosenOwn c w ms v × IsNoticed c w ms v
-HasCause c w ms (Thin v stored) = ⊥
-HasCause c w ms (Short stored) = ⊥
-HasCause c w ms (Bytes v x bytes) = IsGoing c ms × IsLearnt c w ms v (Put (record { name = x; bytes = bytes }))
-HasCause c w ms (Incomplete v x fates) = ⊥
-HasCause c w ms (Gone v x) = IsGoing c ms × IsLearnt c w ms v (Tomb x)
-HasCause c w ms Absent = IsGoing c ms × IsAbsent c w ms
-HasCause c w ms (Unborn latest) = ⊥
-HasCause c w ms (Collected floor) = ⊥
-HasCause c w ms (Swept floor dropped) = ⊥
-HasCause c w ms (Held why) = ⊥
-HasCause c w ms (NoQuorum phase heard) = (voted w.name ms ≡ false) × IsCutOff c ms phase heard
-HasCause c w ms (Contended m) = (voted w.name ms ≡ false) × IsOvertaken c ms m
-HasCause c w ms (Unsure why) = (voted w.name ms ≡ true) × UnsureCause c ms why
+-- when the rows of a call end it with an answer. It ends as absent only while it could go on.
+abbrev pub EndsBy : Config → Caller → List Action → Answer → Type 0
+EndsBy c w ms Absent = IsGoing c ms × IsAbsent c w ms
+EndsBy c w ms (NoQuorum phase heard) = (voted w.name ms ≡ false) × IsCutOff c ms phase heard
+EndsBy c w ms (Contended m) = (voted w.name ms ≡ false) × IsOvertaken c ms m
+EndsBy c w ms (Unsure why) = (voted w.name ms ≡ true) × UnsureCause c ms why
+EndsBy c w ms answer = ⊥
+
+-- what the rows of a call come to once they are done with: its own value is chosen at a version, and the sites have notice; a
+-- value is learnt; or an answer. The first two come only while the call could go on.
+abbrev pub ComesTo : Config → Caller → List Action → Outcome → Type 0
+ComesTo c w ms Goes = ⊥
+ComesTo c w ms (Placed v) = IsGoing c ms × IsChosenOwn c w ms v × IsNoticed c w ms v
+ComesTo c w ms (Learnt v x) = IsGoing c ms × IsLearnt c w ms v x
+ComesTo c w ms (Ends answer) = EndsBy c w ms answer

@@ -4,32 +4,31 @@ use Rattle.gz_core.specs.Names.{Name}
 use Rattle.gz_core.specs.Rows.{RowAt}
 use Rattle.gz_core.specs.Calls.{key_of}
 use Rattle.gz_core.specs.declared.values.Value.{Value}
-use Rattle.gz_core.specs.declared.calls.Answer.{Answer}
 use Rattle.gz_config.specs.declared.Config.{Config}
 use Rattle.gz_core.specs.declared.requests.RowStep.{RowStep}
 use Rattle.gz_core.specs.declared.requests.RowStep.TheVariants.{FastVote, Promise, ClassicVote, Decide, Trim}
-use Rattle.gz_core.specs.declared.requests.Op.TheVariants.{WriteRow}
 use Rattle.gz_core.specs.declared.requests.Out.{Out}
-use Rattle.gz_accept.specs.declared.answers.Step.TheVariants.{Done}
-use Rattle.gz_pick.specs.Looks.{row_top, row_name, highest_of}
+use Rattle.gz_pick.specs.Looks.{row_top, row_name}
 use Rattle.gz_round.specs.declared.run.Run.{Run}
 use Rattle.gz_round.specs.declared.run.Stage.{Stage}
 use Rattle.gz_round.specs.declared.run.Stage.TheVariants.{Look, Fast, Prepare, Accept}
 use Rattle.gz_round.specs.declared.following.Next.{Next}
 use Rattle.gz_round.specs.declared.following.Next.TheVariants.{Wait, Vote, Chosen, Learnt, Absent}
-use Rattle.gz_round.specs.declared.hearing.Seen.{Seen}
 use Rattle.gz_core.specs.History.{Asked, Action, Sent, Caller, Trace, IsClosing, sent_from}
 use Rattle.gz_round.specs.Sites.{site_now}
 use Rattle.gz_round.specs.Sent.{voted, IsUnpromised}
 use Rattle.gz_round.specs.Shown.{heard_at, IsShown, IsCurrent}
 use Rattle.gz_round.specs.Rounds.{rounds_used}
 pub use Rattle.gz_round.specs.Sending.{NoEvidence}
-use Rattle.gz_round.specs.Sending.{MayMake, MayFastVote, AreAllowed, NoneAbove, answer_of, made_by}
-use Rattle.gz_round.specs.Counting.{known_count, HasNotice}
-use Rattle.gz_round.specs.Causes.{HasCause, IsAbsent, is_blank}
-use Rattle.gz_round.specs.Asking.{is_notice}
+use Rattle.gz_round.specs.Sending.{MayMake, MayFastVote, MayRead, AreAllowed, NoneAbove}
+use Rattle.gz_round.specs.Counting.{IsUnnoticed}
+use Rattle.gz_round.specs.declared.outcome.Outcome.{Outcome}
+use Rattle.gz_round.specs.declared.outcome.Outcome.TheVariants.{Goes}
+use Rattle.gz_round.specs.Causes.{ComesTo, IsAbsent, is_blank}
+use Rattle.gz_round.specs.Asking.{is_notice, round_of}
+use Rattle.gz_round.specs.Goals.{IsUnmet, IsOvertakenAskably, AreServed}
 pub use Rattle.gz_round.specs.Standing.{MayPass}
-use Rattle.gz_round.specs.Standing.{Stands, StageStands, Runs, IsPreparing, IsVoting}
+use Rattle.gz_round.specs.Standing.{Stands, StageStands, Runs, AreAskedAgain, IsPreparing, IsVoting}
 
 -- a site whose row is known shows a row without a vote, a decision or a floor
 abbrev pub is_blank_known : Option RowAt → Bool
@@ -41,10 +40,13 @@ abbrev pub is_topless : Option RowAt → Bool
 is_topless None = true
 is_topless (Some row) = row_top row == 0
 
--- what was noted is kept, and the phase stands
+-- what was noted is kept, and the phase stands; no notice was sent, and where the phase's ballot leads no further, that was
+-- just heard
 pub record Ready (c : Config) (w : Caller) (past : List Trace) (run : Run) (ms : List Action) : Type 0 where
   pub stands : Stands c w past run ms
   pub stage : StageStands c w past run.stage ms
+  pub unnoticed : IsUnnoticed ms
+  pub above : IsOvertakenAskably c run run.stage ms
 
 abbrev pub IsReady : Config → Run → Type 0
 IsReady c run = (w : Caller) × (past : List Trace) × (ms : List Action) × Ready c w past run ms
@@ -62,13 +64,6 @@ IsStageAt Look v = ⊥
 IsStageAt (Fast u) v = u ≡ v
 IsStageAt (Prepare u b found) v = u ≡ v
 IsStageAt (Accept u b x) v = u ≡ v
-
--- the phase's goal isn't reached
-abbrev pub IsUnmet : Config → Run → Stage → List Action → Type 0
-IsUnmet c run Look ms = (known_count c ms < c.qc) ⊎ ((1 ≤ highest_of run.rows) × NoEvidence c ms (highest_of run.rows))
-IsUnmet c run (Fast v) ms = NoEvidence c ms v
-IsUnmet c run (Prepare v b found) ms = NoEvidence c ms v
-IsUnmet c run (Accept v b x) ms = NoEvidence c ms v
 
 -- a call that writes nothing knows the value of a version, from the row of a site, and nothing above it has begun
 pub record IsFound (c : Config) (w : Caller) (run : Run) (ms : List Action) (v : ℕ) (s : ℕ) : Type 0 where
@@ -106,24 +101,32 @@ abbrev pub HeldOf : Config → Caller → List Trace → List Action → Option 
 HeldOf c w past ms None = Unit {0}
 HeldOf c w past ms (Some step) = HeldBy c w past ms step
 
--- where a step is done, the site got a notice
-abbrev pub IsSettledBy : Caller → List Action → ℕ → Seen → Option RowStep → Type 0
-IsSettledBy w ms s seen None = Unit {0}
-IsSettledBy w ms s seen (Some step) = answer_of step seen.row ≡ Done → (is_notice step ≡ true) × HasNotice ms s (WriteRow (key_of w.call) seen.etag step (made_by step seen.row))
-
--- all that may be asked of a site was asked: it is awaited, or out, or its last row stands and takes no step
-abbrev pub IsServed : Caller → List Action → Option RowStep → ℕ → Type 0
-IsServed w ms step s = (site_now ms s).awaits ≡ None → (site_now ms s).out ≡ false →
-    (seen : Seen) × ((site_now ms s).row ≡ Some seen) × ((site_now ms s).changed ≡ false) × IsSettledBy w ms s seen step
-
-abbrev pub AreServed : Config → Caller → List Action → Option RowStep → Type 0
-AreServed c w ms step = (s : ℕ) → s < c.n → IsServed w ms step s
-
--- a step may be made on the rows that are kept
+-- a step may be made on the rows that are kept, and no notice was sent
 pub record Asks (c : Config) (w : Caller) (past : List Trace) (run : Run) (ms : List Action) (step : Option RowStep) : Type 0 where
   pub stands : Stands c w past run ms
   pub may : MayMakeOf c w past ms step
   pub held : HeldOf c w past ms step
+  pub unnoticed : IsUnnoticed ms
+
+-- a step that is awaited, or none
+abbrev pub IsPlain : Option RowStep → Type 0
+IsPlain None = Unit {0}
+IsPlain (Some step) = is_notice step ≡ false
+
+-- why a request of a site is awaited after a pass: one was awaited before it, or a read was due, or the step was made, and so
+-- the round of its promise was used
+abbrev pub IsAwaitedBy : Run → List Action → Option RowStep → ℕ → Type 0
+IsAwaitedBy run before step s =
+    ((a : Asked) × ((site_now before s).awaits ≡ Some a)) ⊎ ((((site_now before s).out ≡ false) × MayRead (site_now before s)) ⊎ (round_of step ≤ run.round))
+
+-- each site was asked for all that it may be asked for, after these actions
+pub record HasAsked (c : Config) (w : Caller) (past : List Trace) (run : Run) (before ms : List Action) (step : Option RowStep) : Type 0 where
+  pub stands : Stands c w past run ms
+  pub may : MayMakeOf c w past ms step
+  pub held : HeldOf c w past ms step
+  pub served : AreServed c w ms step
+  pub unnoticed : IsPlain step → IsUnnoticed ms
+  pub awaited : (s : ℕ) (a : Asked) → (site_now ms s).awaits ≡ Some a → IsAwaitedBy run before step s
 
 abbrev pub CanAsk : Config → Run → ℕ → List Out → Option RowStep → Type 0
 CanAsk c run first outs step = (w : Caller) × (past : List Trace) × (ms : List Action) × Asks c w past run (sent_from first outs ms) step
@@ -132,11 +135,21 @@ CanAsk c run first outs step = (w : Caller) × (past : List Trace) × (ms : List
 abbrev pub IsOneMore : ℕ → List Action → List Action → Type 0
 IsOneMore at old new = (new ≡ old) ⊎ ((a : Asked) × (new ≡ Sent a ∷ old) × (a.site ≡ at))
 
--- after an event: the call runs on, or its answer has its cause
-abbrev pub Turned : Config → Caller → List Trace → Run → List Action → Option Answer → Type 0
-Turned c w past run ms None = Runs c w past run ms
-Turned c w past run ms (Some answer) = AreAllowed c w past ms × HasCause c w ms answer × (run.round ≡ rounds_used past ms)
+-- the rows of a call are done with: they came to something, each site that was due to be read is read or out, and the call's
+-- key, its own value and the rounds that its session used are kept
+pub record AreDone (c : Config) (w : Caller) (past : List Trace) (run : Run) (ms : List Action) (outcome : Outcome) : Type 0 where
+  pub key_is : run.key ≡ key_of w.call
+  pub own_is : run.own ≡ w.own
+  pub allowed : AreAllowed c w past ms
+  pub reads : AreAskedAgain c ms
+  pub comes : ComesTo c w ms outcome
+  pub round_is : run.round ≡ rounds_used past ms
+
+-- after an event: the call runs on, or its rows are done with
+abbrev pub Turned : Config → Caller → List Trace → Run → List Action → Outcome → Type 0
+Turned c w past run ms Goes = Runs c w past run ms
+Turned c w past run ms outcome = AreDone c w past run ms outcome
 
 -- the same, where the event may close by every site going out
-abbrev pub HasTurned : Config → Caller → List Trace → Run → List Action → Option Answer → Type 0
-HasTurned c w past run ms answer = (closing : List Action) × IsClosing closing × Turned c w past run (closing ++ ms) answer
+abbrev pub HasTurned : Config → Caller → List Trace → Run → List Action → Outcome → Type 0
+HasTurned c w past run ms outcome = (closing : List Action) × IsClosing closing × Turned c w past run (closing ++ ms) outcome

@@ -6,6 +6,7 @@ pub mod Choosing
 pub mod Counting
 pub mod Evidence
 pub mod Following
+pub mod Goals
 pub mod LookBack
 pub mod Noting
 pub mod Numbering

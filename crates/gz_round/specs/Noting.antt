@@ -43,6 +43,6 @@ written_of (Some awaited) = awaited.written
 abbrev pub written_at : Mark → Option RowAt
 written_at mark = written_of mark.awaited
 
--- a reply was noted
-abbrev pub IsReplyNoted : Run → ℕ → Reply → Run → Type 0
-IsReplyNoted old at reply new = (mark : Mark) (row : Option RowAt) → slice_get old.marks at ≡ Some mark → slice_get old.rows at ≡ Some row → new ≡ noted_by old at mark row (seen_in (written_at mark) (as_heard (written_at mark) reply)) (is_changed reply)
+-- a reply to a call over n sites was noted
+abbrev pub IsReplyNoted : ℕ → Run → ℕ → Reply → Run → Type 0
+IsReplyNoted n old at reply new = (mark : Mark) (row : Option RowAt) → slice_get old.marks at ≡ Some mark → slice_get old.rows at ≡ Some row → new ≡ noted_by old at mark row (seen_in (written_at mark) (as_heard n (written_at mark) reply)) (is_changed reply)

@@ -20,10 +20,11 @@ use Rattle.gz_pick.specs.Evidences.{IsEvident}
 use Rattle.gz_pick.specs.Choices.{pick_of, AreHeardSites}
 use Rattle.gz_pick.specs.declared.heard.Heard.{Heard}
 use Rattle.gz_pick.specs.declared.heard.Pick.TheVariants.{Free}
-use Rattle.gz_round.specs.Counting.{IsGoing}
+use Rattle.gz_round.specs.Counting.{IsGoing, IsUntold}
+use Rattle.gz_round.specs.Causes.{IsChosenOwn, IsLearnt}
 use Rattle.gz_round.specs.LookBack.{before_promise, IsLookedBack}
 use Rattle.gz_round.specs.Rounds.{MayPromise, MayClassicVote, IsPromiseHeard, has_classic_cast, promises_known, promises_above, IsValueKnown}
-use Rattle.gz_core.specs.History.{Asked, Action, Sent, Handed, GaveUp, Rested, GaveIn, Caller, Trace}
+use Rattle.gz_core.specs.History.{Asked, Action, Sent, Handed, GaveUp, Rested, GaveIn, Caller, Trace, is_row_request}
 pub use Rattle.gz_round.specs.Sites.{rows_known}
 use Rattle.gz_round.specs.Sites.{SiteNow, site_now, as_heard, written_by}
 use Rattle.gz_round.specs.Sent.{is_notice, last_promise, IsUnpromised}
@@ -87,17 +88,19 @@ abbrev pub is_awaited : Op → Bool
 is_awaited (WriteRow key expect step row) = not (is_notice step)
 is_awaited op = true
 
--- a request goes out only to a site that isn't out, and of which no row request is awaited
+-- a request goes out only to a site that isn't out, and of which no row request is awaited; one that nobody awaits only to a
+-- site that got none
 pub record MaySend (c : Config) (w : Caller) (past : List Trace) (ms : List Action) (a : Asked) : Type 0 where
   pub site : a.site < c.n
   pub kept : (site_now ms a.site).out ≡ false
   pub idle : (site_now ms a.site).awaits ≡ None
   pub asks : MayAsk c w past ms (site_now ms a.site) a.op
   pub awaited : a.awaited ≡ is_awaited a.op
+  pub once : a.awaited ≡ false → IsUntold ms a.site
 
--- row requests rest once a value is shown
-abbrev pub MayRest : Config → List Action → Type 0
-MayRest c ms = (v : ℕ) × (x : Name) × IsShown c ms v x
+-- row requests rest once the call's own value is chosen, or the call learnt a value
+abbrev pub MayRest : Config → Caller → List Action → Type 0
+MayRest c w ms = ((v : ℕ) × IsChosenOwn c w ms v) ⊎ ((v : ℕ) × (x : Value) × IsLearnt c w ms v x)
 
 -- no value is known to be chosen at the version
 abbrev pub NoEvidence : Config → List Action → ℕ → Type 0
@@ -177,18 +180,20 @@ pub data MayGiveIn (c : Config) (w : Caller) (past : List Trace) (ms : List Acti
   NoValue : (v : ℕ) (b : BallotAt) → IsWithoutValue c w ms v b → MayGiveIn c w past ms
   Collected : (v : ℕ) (b : BallotAt) → IsCollected c w past ms v b → MayGiveIn c w past ms
 
--- a reply or a give-up is of a request that is awaited, and a reply is one as the call hears it
+-- a row request is awaited
 abbrev pub IsAwaitedOf : List Action → Asked → Type 0
 IsAwaitedOf ms a = (site_now ms a.site).awaits ≡ Some a
 
+-- a row request is one that may be sent; a reply or a give-up of one is of a request that is awaited, and a reply is one as
+-- the call hears it. Requests for blobs have rules of their own.
 abbrev pub IsAllowed : Config → Caller → List Trace → List Action → Action → Type 0
-IsAllowed c w past ms (Sent a) = MaySend c w past ms a
-IsAllowed c w past ms (Handed a reply) = IsAwaitedOf ms a × (as_heard (written_by a.op) reply ≡ reply)
-IsAllowed c w past ms (GaveUp a) = IsAwaitedOf ms a
-IsAllowed c w past ms Rested = MayRest c ms
+IsAllowed c w past ms (Sent a) = is_row_request a.op ≡ true → MaySend c w past ms a
+IsAllowed c w past ms (Handed a reply) = is_row_request a.op ≡ true → IsAwaitedOf ms a × (as_heard c.n (written_by a.op) reply ≡ reply)
+IsAllowed c w past ms (GaveUp a) = is_row_request a.op ≡ true → IsAwaitedOf ms a
+IsAllowed c w past ms Rested = MayRest c w ms
 IsAllowed c w past ms GaveIn = MayGiveIn c w past ms
 
--- each action of a call was allowed when it came
+-- each action of a call that is about rows was allowed when it came
 abbrev pub AreAllowed : Config → Caller → List Trace → List Action → Type 0
 AreAllowed c w past [] = Unit {0}
 AreAllowed c w past (m ∷ ms) = IsAllowed c w past ms m × AreAllowed c w past ms

@@ -8,7 +8,7 @@ use Rattle.gz_core.specs.declared.requests.RowStep.{RowStep}
 use Rattle.gz_core.specs.declared.requests.RowStep.TheVariants.{FastVote, Promise, ClassicVote, Decide, Trim}
 use Rattle.gz_core.specs.declared.requests.Op.{Op}
 use Rattle.gz_core.specs.declared.requests.Op.TheVariants.{WriteRow}
-use Rattle.gz_core.specs.History.{Action, Sent, Handed, GaveUp, Rested, GaveIn}
+use Rattle.gz_core.specs.History.{Action, Sent, Handed, GaveUp, Rested, GaveIn, is_row_request}
 use Rattle.gz_round.specs.Sites.{is_changed}
 
 -- a step that nobody awaits: the others get notice of what is chosen
@@ -120,10 +120,10 @@ phase_or_look (Some phase) = phase
 abbrev pub phase_of : List Action → Phase
 phase_of ms = phase_or_look (last_sent phase_by ms)
 
--- a reply shows that a write was overtaken
+-- a reply of a row request shows that a write was overtaken
 abbrev pub overtakes : Action → Bool
 overtakes (Sent a) = false
-overtakes (Handed a reply) = is_changed reply
+overtakes (Handed a reply) = is_row_request a.op && is_changed reply
 overtakes (GaveUp a) = false
 overtakes Rested = false
 overtakes GaveIn = false

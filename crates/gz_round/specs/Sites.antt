@@ -3,6 +3,10 @@
 use Rattle.std.specs.Prelude.{ℕ, ◌≡◌, ◌⊎◌, Bool, true, false, ◌&&◌, ◌||◌, ◌==◌, ◌^◌, nat_lt, if◌then◌else◌, List, [], ◌∷◌, length, Option, Some, None}
 use Rattle.std.specs.List.{list_all}
 use Rattle.gz_core.specs.Rows.{RowAt, empty_row}
+use Rattle.gz_core.specs.declared.fragments.FragRef.{FragRef}
+use Rattle.gz_core.specs.declared.values.Value.{Value}
+use Rattle.gz_core.specs.declared.values.Value.TheVariants.{Tomb, Put}
+use Rattle.gz_core.specs.declared.rows.Vote.{Vote}
 use Rattle.gz_core.specs.declared.rows.Column.{Column}
 use Rattle.gz_core.specs.declared.rows.Column.TheVariants.{Open, Decided}
 use Rattle.gz_core.specs.declared.requests.Op.{Op}
@@ -12,33 +16,47 @@ use Rattle.gz_core.specs.declared.requests.Reply.TheVariants.{Row, NoRow, Writte
 use Rattle.gz_round.specs.declared.hearing.Seen.{Seen}
 use Rattle.gz_core.specs.History.{Asked, Action, Sent, Handed, GaveUp, Rested, GaveIn, is_row_request}
 
--- a promise below the rounds that no run reaches
-abbrev pub column_stands : Column → Bool
-column_stands (Open promise vote) = nat_lt promise.round (2 ^ 31)
-column_stands (Decided value) = true
+-- a fragment at one of n sites
+abbrev pub fragment_stands : ℕ → FragRef → Bool
+fragment_stands n fragment = nat_lt fragment.site n
+
+-- a value with no fragment elsewhere
+abbrev pub value_stands : ℕ → Value → Bool
+value_stands n (Tomb name) = true
+value_stands n (Put put) = list_all (fragment_stands n) put.fragments
+
+abbrev pub vote_stands : ℕ → Option Vote → Bool
+vote_stands n None = true
+vote_stands n (Some vote) = value_stands n vote.value
+
+-- such a value, and a promise below the rounds that no run reaches
+abbrev pub column_stands : ℕ → Column → Bool
+column_stands n (Open promise vote) = nat_lt promise.round (2 ^ 31) && vote_stands n vote
+column_stands n (Decided value) = value_stands n value
 
 -- the same at a version that a run can reach
-abbrev pub entry_stands : ℕ × Column → Bool
-entry_stands c = nat_lt c.0 (2 ^ 62) && column_stands c.1
+abbrev pub entry_stands : ℕ → ℕ × Column → Bool
+entry_stands n c = nat_lt c.0 (2 ^ 62) && column_stands n c.1
 
--- a row that a run can hold: no version or floor of 2^62 or more, no round of 2^31 or more, fewer than 2^22 columns
-abbrev pub can_stand : RowAt → Bool
-can_stand row = nat_lt row.floor (2 ^ 62) && (nat_lt (length row.columns) (2 ^ 22) && list_all entry_stands row.columns)
+-- a row that a run over n sites can hold: no version or floor of 2^62 or more, no round of 2^31 or more, fewer than 2^22
+-- columns, and no value with a fragment at a site that isn't below n
+abbrev pub can_stand : ℕ → RowAt → Bool
+can_stand n row = nat_lt row.floor (2 ^ 62) && (nat_lt (length row.columns) (2 ^ 22) && list_all (entry_stands n) row.columns)
 
 -- the row that a request writes
 abbrev pub written_by : Op → Option RowAt
 written_by (WriteRow key expect step row) = Some row
 written_by op = None
 
--- a row that no run can hold isn't heard: the reply that shows it is heard as a failure
-abbrev pub if_it_stands : RowAt → Reply → Reply
-if_it_stands row reply = if can_stand row then reply else Failed
+-- a row that no run over n sites can hold isn't heard: the reply that shows it is heard as a failure
+abbrev pub if_it_stands : ℕ → RowAt → Reply → Reply
+if_it_stands n row reply = if can_stand n row then reply else Failed
 
--- a reply as the call hears it, where this is the row that its request writes
-abbrev pub as_heard : Option RowAt → Reply → Reply
-as_heard written (Row etag row) = if_it_stands row (Row etag row)
-as_heard (Some row) (Written etag) = if_it_stands row (Written etag)
-as_heard written reply = reply
+-- a reply as a call over n sites hears it, where this is the row that its request writes
+abbrev pub as_heard : ℕ → Option RowAt → Reply → Reply
+as_heard n written (Row etag row) = if_it_stands n row (Row etag row)
+as_heard n (Some row) (Written etag) = if_it_stands n row (Written etag)
+as_heard n written reply = reply
 
 abbrev pub seen_written : ℕ → Option RowAt → Option Seen
 seen_written etag None = None
@@ -88,7 +106,20 @@ after GaveIn now = record { row = now.row; changed = now.changed; out = true; aw
 abbrev pub is_to : Asked → ℕ → Bool
 is_to a s = is_row_request a.op && (a.site == s)
 
--- whether an action concerns a site: resting and giving in concern all
+-- whether an action is about rows, and not of a request for a blob
+abbrev pub is_about_rows : Action → Bool
+is_about_rows (Sent a) = is_row_request a.op
+is_about_rows (Handed a reply) = is_row_request a.op
+is_about_rows (GaveUp a) = is_row_request a.op
+is_about_rows Rested = true
+is_about_rows GaveIn = true
+
+-- each action is of a request for a blob
+abbrev pub AreBlobs : List Action → Type 0
+AreBlobs [] = Unit {0}
+AreBlobs (m ∷ ms) = (is_about_rows m ≡ false) × AreBlobs ms
+
+-- whether an action concerns what is known of a site: resting and giving in concern all
 abbrev pub concerns : Action → ℕ → Bool
 concerns (Sent a) s = is_to a s
 concerns (Handed a reply) s = is_to a s
@@ -113,10 +144,10 @@ known now = if now.out then None else row_seen now.row
 abbrev pub rows_known : List Action → ℕ → Option RowAt
 rows_known ms s = known (site_now ms s)
 
--- the row that is heard at an action
+-- the row that is heard at an action: only a reply of a row request shows one
 abbrev pub heard_in : Action → Option Seen
 heard_in (Sent a) = None
-heard_in (Handed a reply) = seen_in (written_by a.op) reply
+heard_in (Handed a reply) = if is_row_request a.op then seen_in (written_by a.op) reply else None
 heard_in (GaveUp a) = None
 heard_in Rested = None
 heard_in GaveIn = None

@@ -1,6 +1,6 @@
 -- What a running call keeps stands for what has happened to it.
 use Rattle.std.specs.Prelude.{ℕ, true, false, if◌then◌else◌, ◌≡◌, ◌≢◌, ◌≤◌, ◌<◌, ◌+◌, ◌⊎◌, List, length, slice_get, Option, Some, None, is_some, option_map}
-use Rattle.gz_core.specs.Names.{BallotAt, IsClassic}
+use Rattle.gz_core.specs.Names.{Name, BallotAt, IsClassic}
 use Rattle.gz_core.specs.Rows.{RowAt}
 use Rattle.gz_core.specs.Calls.{key_of}
 use Rattle.gz_core.specs.Values.{name_of}
@@ -20,7 +20,8 @@ use Rattle.gz_round.specs.Shown.{IsCurrent, IsClear, IsGrounded}
 use Rattle.gz_round.specs.LookBack.{IsLookedBack}
 use Rattle.gz_round.specs.Rounds.{MayClassicVote, IsUnused, rounds_used, promises_above, passed_since}
 use Rattle.gz_round.specs.Sending.{AreAllowed, MayFastVote, MayRead, IsUncast, IsBegun, rows_known}
-use Rattle.gz_round.specs.Counting.{IsGoing}
+use Rattle.gz_round.specs.Counting.{IsGoing, IsUnnoticed}
+use Rattle.gz_round.specs.Goals.{IsUnmet, IsFewIn, is_overtaken, AreServed, stage_step}
 
 abbrev pub etag_seen : Option Seen → Option ℕ
 etag_seen None = None
@@ -53,12 +54,16 @@ pub record IsSound (now : SiteNow) (s : ℕ) : Type 0 where
 abbrev pub AreSound : List Action → Type 0
 AreSound ms = (s : ℕ) → IsSound (site_now ms s) s
 
+-- a call's own value, where it writes one, has the call's name
+abbrev pub IsNamed : Name → Option Value → Type 0
+IsNamed name own = (x : Value) → own ≡ Some x → name_of x ≡ name
+
 -- the call keeps what has happened to it, and each action of it was allowed
 pub record Stands (c : Config) (w : Caller) (past : List Trace) (run : Run) (ms : List Action) : Type 0 where
   pub name_is : run.name ≡ w.name
   pub key_is : run.key ≡ key_of w.call
   pub own_is : run.own ≡ w.own
-  pub named : (x : Value) → w.own ≡ Some x → name_of x ≡ w.name
+  pub named : IsNamed w.name w.own
   pub knows : Knows c run ms
   pub met_is : run.met ≡ met ms
   pub voted_is : run.voted ≡ voted w.name ms
@@ -115,12 +120,17 @@ AreAskedAgain c ms = (s : ℕ) → s < c.n → MayRead (site_now ms s) → (site
 abbrev pub IsWaiting : Config → List Action → Type 0
 IsWaiting c ms = (s : ℕ) × (a : Asked) × (s < c.n) × ((site_now ms s).awaits ≡ Some a)
 
--- between two events: the phase stands, each site is asked for what it may be asked, the call can go on, and it
--- awaits a request
+-- between two events: the phase stands, short of its goal and of a quorum of promises that it could vote by, and its ballot
+-- leads on; each site is asked for what it may be asked, and got no notice; the call can go on, and it awaits a request
 pub record Runs (c : Config) (w : Caller) (past : List Trace) (run : Run) (ms : List Action) : Type 0 where
   pub stands : Stands c w past run ms
   pub stage : StageStands c w past run.stage ms
+  pub unmet : IsUnmet c run run.stage ms
+  pub few : IsFewIn c run run.stage
+  pub ahead : is_overtaken run ≡ false
   pub again : AreAskedAgain c ms
+  pub served : AreServed c w ms (stage_step run)
+  pub unnoticed : IsUnnoticed ms
   pub going : IsGoing c ms
   pub waits : IsWaiting c ms
 

@@ -1,10 +1,14 @@
 -- How a call begins.
-use Rattle.std.specs.Prelude.{ℕ, ◌≤◌, false, List, length, Option, None}
+use Rattle.std.specs.Prelude.{ℕ, ◌≡◌, ◌≤◌, ◌<◌, ◌+◌, zero, suc, true, false, List, [], ◌∷◌, length, slice_get, Option, Some, None}
+use Rattle.std.specs.List.{All}
 use Rattle.gz_core.specs.Names.{Name}
 use Rattle.gz_core.specs.Rows.{RowAt}
-use Rattle.gz_core.specs.Calls.{key_of, own_value}
+use Rattle.gz_core.specs.declared.values.Value.{Value}
 use Rattle.gz_core.specs.declared.calls.Call.{Call}
 use Rattle.gz_core.specs.declared.calls.Call.TheVariants.{Put, Delete, Get, GetAt, Collect}
+use Rattle.gz_core.specs.History.{is_row_request}
+use Rattle.gz_core.specs.declared.requests.Op.TheVariants.{ReadRow}
+use Rattle.gz_core.specs.declared.requests.Out.{Out}
 use Rattle.gz_core.specs.declared.calls.Phase.TheVariants.{Look as NotBegun}
 use Rattle.gz_round.specs.declared.run.Mark.{Mark}
 use Rattle.gz_round.specs.declared.run.Run.{Run}
@@ -23,11 +27,11 @@ abbrev pub fresh_mark : Mark
 fresh_mark = record { etag = None; changed = false; out = false; left = None; awaited = None }
 
 -- a call that has done nothing, over these sites
-abbrev pub idle_run : Name → Call → ℕ → List (Option RowAt) → List Mark → Run
-idle_run name call round rows marks = record {
+abbrev pub idle_run : Name → List ℕ → Option Value → ℕ → List (Option RowAt) → List Mark → Run
+idle_run name key own round rows marks = record {
   name = name;
-  key = key_of call;
-  own = own_value name call;
+  key = key;
+  own = own;
   rows = rows;
   marks = marks;
   met = 0;
@@ -36,3 +40,25 @@ idle_run name call round rows marks = record {
   round = round;
   stage = Look;
 }
+
+-- nothing is known of a site, and nothing was asked of it
+abbrev pub IsUnread : Run → ℕ → Type 0
+IsUnread run s = (slice_get run.rows s ≡ Some None) × (slice_get run.marks s ≡ Some fresh_mark)
+
+-- nothing is of n sites
+abbrev pub AreUnread : ℕ → Run → Type 0
+AreUnread n run = (s : ℕ) → s < n → IsUnread run s
+
+-- the requests that read the rows of n sites, the first of which has this number
+abbrev pub reads_from : List ℕ → ℕ → ℕ → List Out
+reads_from key s zero = []
+reads_from key s (suc n) = record { site = s; op = ReadRow key; awaited = true } ∷ reads_from key (s + 1) n
+
+-- requests for rows alone
+abbrev pub AreForRows : List Out → Type 0
+AreForRows outs = All (λ (out : Out). is_row_request out.op ≡ true) outs
+
+-- what a call sends about rows at one event: requests for rows alone, no more than two of each of sixteen sites
+pub record AreRowRequests (outs : List Out) : Type 0 where
+  pub rows : AreForRows outs
+  pub few : length outs ≤ 32

@@ -2,26 +2,32 @@
 ghost use Rattle.std.specs.Prelude.{IsSome, ◌≡◌, ◌≤◌, ◌<◌, ◌+◌, ◌^◌, ℕ, List, [], length, Some, slice_get, IfOk, MatchOption};
 ghost use Rattle.gz_core.specs.Rows.{RowAt};
 ghost use Rattle.gz_core.specs.Configurations.{IsConfig};
+ghost use Rattle.gz_core.specs.Calls.{key_of};
 ghost use Rattle.gz_core.specs.History.{Action, Caller, Trace, sent_from};
+ghost use Rattle.gz_round.specs.Starting.{reads_from, AreRowRequests};
+ghost use Rattle.gz_round.specs.Sites.{AreBlobs};
 ghost use Rattle.gz_round.specs.Standing.{Stands, Runs, IsKept};
 ghost use Rattle.gz_round.specs.Counting.{IsGoing};
 ghost use Rattle.std.specs.Option.{option_copied};
-ghost use Rattle.gz_round.specs.Causes.{HasCause, row_value, column_value, vote_value};
-ghost use Rattle.gz_round.specs.Acting.{IsPlain, IsGoalUnmet, CanAct, CanFollow, Carries, CanCarry, is_overtaken, contended_of, cut_off_of, given_in_of, CanFinish, Finishes, HasKnownValue, IsAnswerFor, IsAnswerOf, stage_step, vote_for, notice_for, working_version};
+ghost use Rattle.gz_round.specs.Causes.{EndsBy, row_value, column_value, vote_value};
+ghost use Rattle.gz_round.specs.Goals.{is_overtaken, stage_step, vote_for};
+ghost use Rattle.gz_round.specs.Acting.{IsGoalUnmet, CanAct, CanFollow, Carries, CanCarry, ComesTo, contended_of, cut_off_of, given_in_of, CanFinish, Finishes, notice_for, working_version};
+ghost use Rattle.gz_round.specs.declared.outcome.Outcome.TheVariants.{Ends, Learnt};
 ghost use Rattle.gz_round.specs.Following.{Ready, IsReady, Turned, HasTurned};
 
 use crate::choosing::Choice;
 use crate::following::Next;
+use crate::outcome::{Outcome, RowTurn};
 use crate::run::{Run, Stage, copy_of};
 use gz_core::{
-    Answer, Ballot, Column, Config, Items, Out, Row, RowStep, SiteId, Turn, UnsureWhy, Value,
-    Version, Vote,
+    Answer, Ballot, Column, Config, Items, Out, Row, RowStep, SiteId, UnsureWhy, Value, Version,
+    Vote,
 };
 use gz_pick::highest;
 use std::alloc::{AllocError, Global};
 
 impl Run {
-    /// The reads with which a call begins.
+    /// The reads with which a call begins to ask sites for rows, before which it may have stored fragments.
     pub fn open(
         &mut self,
         alloc: Global,
@@ -30,10 +36,12 @@ impl Run {
     ) -> Result<Items<Out>, AllocError>
         requires config { IsConfig config.now }
         requires first { first < 2 ^ 31 }
-        requires opens { (w : Caller) × (past : List Trace) × Ready config.now w past self.old [] }
+        requires ready { IsReady config.now self.old }
         requires stage { self.old.stage ≡ Stage.Look }
-        ensures { IfOk result (λ send. (w : Caller) (past : List Trace) → Ready config.now w past self.old []
-            → Runs config.now w past self.new (sent_from first send [])) }
+        ensures runs { IfOk result (λ send. (w : Caller) (past : List Trace) (ms : List Action) → Ready config.now w past self.old ms → AreBlobs ms
+            → Runs config.now w past self.new (sent_from first send ms)) }
+        ensures reads { IfOk result (λ send. (w : Caller) (past : List Trace) (ms : List Action) → Ready config.now w past self.old ms → AreBlobs ms
+            → send ≡ reads_from (key_of w.call) 0 config.now.n) }
     {
         let send = self.first_pass(alloc, config, &None, first)?;
         Ok(send)
@@ -45,16 +53,17 @@ impl Run {
         alloc: Global,
         config: &Config,
         first: u32,
-    ) -> Result<Turn, AllocError>
+    ) -> Result<RowTurn, AllocError>
         requires config { IsConfig config.now }
         requires first { first < 2 ^ 31 }
         requires round { self.old.round < 2 ^ 31 + first }
         requires ready { IsReady config.now self.old }
-        ensures { IfOk result (λ turn. (w : Caller) (past : List Trace) (ms : List Action) → Ready config.now w past self.old ms
-            → HasTurned config.now w past self.new (sent_from first turn.send ms) turn.answer) }
+        ensures turned { IfOk result (λ turn. (w : Caller) (past : List Trace) (ms : List Action) → Ready config.now w past self.old ms
+            → HasTurned config.now w past self.new (sent_from first turn.send ms) turn.outcome) }
+        ensures sends { IfOk result (λ turn. AreRowRequests turn.send) }
     {
         match self.stop(config) {
-            Some(answer) => self.close(alloc, config, first, answer),
+            Some(answer) => self.close(alloc, config, first, Outcome::Ends { answer }),
             None => self.turn_by_rows(alloc, config, first),
         }
     }
@@ -64,7 +73,7 @@ impl Run {
         requires config { IsConfig config.now }
         requires kept { IsKept config.now self.now }
         ensures { (w : Caller) (past : List Trace) (ms : List Action) → Stands config.now w past self.now ms
-            → MatchOption result (IsGoing config.now ms) (λ answer. HasCause config.now w ms answer × IsPlain answer) }
+            → MatchOption result (IsGoing config.now ms) (EndsBy config.now w ms) }
     {
         if self.met >= config.tries {
             return Some(self.contended());
@@ -111,13 +120,14 @@ impl Run {
         alloc: Global,
         config: &Config,
         first: u32,
-    ) -> Result<Turn, AllocError>
+    ) -> Result<RowTurn, AllocError>
         requires config { IsConfig config.now }
         requires first { first < 2 ^ 31 }
         requires round { self.old.round < 2 ^ 31 + first }
         requires follows { CanFollow config.now self.old }
-        ensures { IfOk result (λ turn. (w : Caller) (past : List Trace) (ms : List Action) → Ready config.now w past self.old ms → IsGoing config.now ms
-            → HasTurned config.now w past self.new (sent_from first turn.send ms) turn.answer) }
+        ensures turned { IfOk result (λ turn. (w : Caller) (past : List Trace) (ms : List Action) → Ready config.now w past self.old ms → IsGoing config.now ms
+            → HasTurned config.now w past self.new (sent_from first turn.send ms) turn.outcome) }
+        ensures sends { IfOk result (λ turn. AreRowRequests turn.send) }
     {
         match self.next(config) {
             Next::Wait => self.propose_or_step(alloc, config, first),
@@ -127,10 +137,13 @@ impl Run {
             },
             Next::Chosen { version } => self.finish(alloc, config, first, version),
             Next::Learnt { version, site } => {
-                let answer = self.told(version, site)?;
-                self.close(alloc, config, first, answer)
+                let value = self.value_of(version, site)?;
+                self.close(alloc, config, first, Outcome::Learnt { version, value })
             },
-            Next::Absent => self.close(alloc, config, first, Answer::Absent),
+            Next::Absent => {
+                let answer = Answer::Absent;
+                self.close(alloc, config, first, Outcome::Ends { answer })
+            },
         }
     }
 
@@ -140,13 +153,14 @@ impl Run {
         alloc: Global,
         config: &Config,
         first: u32,
-    ) -> Result<Turn, AllocError>
+    ) -> Result<RowTurn, AllocError>
         requires config { IsConfig config.now }
         requires first { first < 2 ^ 31 }
         requires round { self.old.round < 2 ^ 31 + first }
         requires acts { CanAct config.now self.old }
-        ensures { IfOk result (λ turn. (w : Caller) (past : List Trace) (ms : List Action) → IsGoalUnmet config.now w past self.old ms
-            → HasTurned config.now w past self.new (sent_from first turn.send ms) turn.answer) }
+        ensures turned { IfOk result (λ turn. (w : Caller) (past : List Trace) (ms : List Action) → IsGoalUnmet config.now w past self.old ms
+            → HasTurned config.now w past self.new (sent_from first turn.send ms) turn.outcome) }
+        ensures sends { IfOk result (λ turn. AreRowRequests turn.send) }
     {
         match self.choose(alloc, config)? {
             Choice::Wait => self.step_or_prepare(alloc, config, first),
@@ -159,13 +173,15 @@ impl Run {
     }
 
     /// Every site goes out, and nothing is sent.
-    fn give_in(&self, alloc: Global) -> Turn
+    fn give_in(&self, alloc: Global) -> RowTurn
         ensures send { result.send ≡ [] }
-        ensures answer { result.answer ≡ Some (given_in_of self.now) }
+        ensures outcome { result.outcome ≡ Ends (given_in_of self.now) }
     {
-        Turn {
+        RowTurn {
             send: Items::new(alloc),
-            answer: Some(self.given_in()),
+            outcome: Outcome::Ends {
+                answer: self.given_in(),
+            },
         }
     }
 
@@ -175,13 +191,14 @@ impl Run {
         alloc: Global,
         config: &Config,
         first: u32,
-    ) -> Result<Turn, AllocError>
+    ) -> Result<RowTurn, AllocError>
         requires config { IsConfig config.now }
         requires first { first < 2 ^ 31 }
         requires round { self.old.round < 2 ^ 31 + first }
         requires carries { CanCarry config.now self.old }
-        ensures { IfOk result (λ turn. (w : Caller) (past : List Trace) (ms : List Action) → Carries config.now w past self.old ms
-            → HasTurned config.now w past self.new (sent_from first turn.send ms) turn.answer) }
+        ensures turned { IfOk result (λ turn. (w : Caller) (past : List Trace) (ms : List Action) → Carries config.now w past self.old ms
+            → HasTurned config.now w past self.new (sent_from first turn.send ms) turn.outcome) }
+        ensures sends { IfOk result (λ turn. AreRowRequests turn.send) }
     {
         if self.is_overtaken() {
             let version = self.working();
@@ -251,59 +268,46 @@ impl Run {
         }
     }
 
-    /// Ends the call with an answer. Reads that are due go out all the same.
+    /// Ends the call's work on rows. Reads that are due go out all the same.
     fn close(
         &mut self,
         alloc: Global,
         config: &Config,
         first: u32,
-        answer: Answer,
-    ) -> Result<Turn, AllocError>
+        outcome: Outcome,
+    ) -> Result<RowTurn, AllocError>
         requires config { IsConfig config.now }
         requires first { first < 2 ^ 31 }
-        requires kept { IsKept config.now self.old }
-        ensures { IfOk result (λ turn. (w : Caller) (past : List Trace) (ms : List Action) → Stands config.now w past self.old ms
-            → HasCause config.now w ms answer × IsPlain answer → Turned config.now w past self.new (sent_from first turn.send ms) turn.answer) }
+        requires ready { IsReady config.now self.old }
+        ensures turned { IfOk result (λ turn. (w : Caller) (past : List Trace) (ms : List Action) → Ready config.now w past self.old ms
+            → ComesTo config.now w ms outcome → Turned config.now w past self.new (sent_from first turn.send ms) turn.outcome) }
+        ensures sends { IfOk result (λ turn. AreRowRequests turn.send) }
     {
         let send = self.first_pass(alloc, config, &None, first)?;
-        Ok(Turn {
-            send,
-            answer: Some(answer),
-        })
+        Ok(RowTurn { send, outcome })
     }
 
-    /// Ends a call whose value is chosen: every site that can take it gets a notice.
+    /// Tells each site that can take it that the call's value is chosen.
     fn finish(
         &mut self,
         alloc: Global,
         config: &Config,
         first: u32,
         version: Version,
-    ) -> Result<Turn, AllocError>
+    ) -> Result<RowTurn, AllocError>
         requires config { IsConfig config.now }
         requires first { first < 2 ^ 31 }
         requires finishes { CanFinish config.now self.old version }
-        ensures { IfOk result (λ turn. (w : Caller) (past : List Trace) (ms : List Action) → Finishes config.now w past self.old ms version
-            → Turned config.now w past self.new (sent_from first turn.send ms) turn.answer) }
+        ensures turned { IfOk result (λ turn. (w : Caller) (past : List Trace) (ms : List Action) → Finishes config.now w past self.old ms version
+            → Turned config.now w past self.new (sent_from first turn.send ms) turn.outcome) }
+        ensures sends { IfOk result (λ turn. AreRowRequests turn.send) }
     {
         let step = self.notice(version)?;
         let send = self.first_pass(alloc, config, &step, first)?;
-        Ok(Turn {
+        Ok(RowTurn {
             send,
-            answer: Some(Answer::Ok { version }),
+            outcome: Outcome::Placed { version },
         })
-    }
-
-    /// The answer of a call that has learnt the value of a version, which the row of this site has.
-    fn told(&self, version: Version, site: SiteId) -> Result<Answer, AllocError>
-        requires site { site < length self.now.rows }
-        requires known { HasKnownValue self.now site version }
-        ensures { IfOk result (λ answer. (row : RowAt) → slice_get self.now.rows site ≡ Some (Some row) → IsAnswerOf row version answer) }
-    {
-        match self.rows.at(site.index()) {
-            None => unreachable!(),
-            Some(row) => answer_at(row, version),
-        }
     }
 }
 
@@ -321,37 +325,6 @@ fn classic_vote(
         ballot,
         value,
     }))
-}
-
-/// The answer with the value that a row has at a version.
-fn answer_at(row: &Row, version: Version) -> Result<Answer, AllocError>
-    requires { IsSome (row_value row.now version) }
-    ensures { IfOk result (λ answer. IsAnswerOf row.now version answer) }
-{
-    match value_at(row, version) {
-        None => unreachable!(),
-        Some(value) => answer_with(value, version),
-    }
-}
-
-fn answer_with(value: &Value, version: Version) -> Result<Answer, AllocError>
-    ensures { IfOk result (λ answer. IsAnswerFor value.now version answer) }
-{
-    match value {
-        Value::Tomb { name } => Ok(Answer::Gone {
-            version,
-            name: *name,
-        }),
-        Value::Put(put) => {
-            let name = put.name;
-            let bytes = put.bytes.clone()?;
-            Ok(Answer::Bytes {
-                version,
-                name,
-                bytes,
-            })
-        },
-    }
 }
 
 /// The value that a row has at a version, of a vote or a decision.

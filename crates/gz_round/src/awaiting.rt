@@ -1,9 +1,5 @@
 //! Which requests a call awaits.
 ghost use Rattle.std.specs.Prelude.{◌≡◌, ℕ, List, Some, count_by, MatchOption};
-ghost use Rattle.gz_config.specs.declared.Config.{Config};
-ghost use Rattle.gz_core.specs.History.{Action};
-ghost use Rattle.gz_round.specs.Standing.{Knows, AreSound};
-ghost use Rattle.gz_round.specs.Numbering.{AreNumbered, IsLiveAt};
 ghost use Rattle.gz_round.specs.Awaiting.{has_number, IsSiteOf, is_mark_live, number_of, lower_of, IsLeastFrom};
 
 use crate::run::{Mark, Run};
@@ -29,18 +25,10 @@ impl Run {
         count_live(self.marks.as_slice())
     }
 
-    /// The `i`-th lowest number of the requests that are awaited, counted from 0. Takes no memory.
-    pub fn live_at(&self, i: u32) -> Option<u32>
-        ensures { (c : Config) (ms : List Action) (next : ℕ) → Knows c self.now ms → AreSound ms → AreNumbered c ms next → IsLiveAt c ms i result }
+    /// The least number from `low` on of a request that is awaited. Takes no memory.
+    pub fn least_from(&self, low: u64) -> Option<u32>
+        ensures { IsLeastFrom self.now.marks low result }
     {
-        let mut low: u64 = 0;
-        for place in 0..i {
-            let _ = place;
-            match least_from(self.marks.as_slice(), low) {
-                None => return None,
-                Some(n) => low = n as u64 + 1,
-            }
-        }
         least_from(self.marks.as_slice(), low)
     }
 }

@@ -129,7 +129,7 @@ impl Run {
     }
 
     /// A copy of the value that the row of a site has at a version.
-    fn value_of(&self, version: Version, site: SiteId) -> Result<Value, AllocError>
+    pub fn value_of(&self, version: Version, site: SiteId) -> Result<Value, AllocError>
         requires site { site < length self.now.rows }
         requires has { (row : RowAt) × (slice_get self.now.rows site ≡ Some (Some row)) × IsSome (row_value row version) }
         ensures { IfOk result (λ value. (row : RowAt) → slice_get self.now.rows site ≡ Some (Some row) → row_value row version ≡ Some value) }

@@ -2,12 +2,12 @@
 ghost use Rattle.std.specs.Prelude.{◌≡◌, ◌<◌, ◌+◌, ◌^◌, length, slice_get, Option, Some, None, IfOk};
 ghost use Rattle.gz_core.specs.Rows.{RowAt};
 ghost use Rattle.std.specs.List.{list_all};
-ghost use Rattle.gz_round.specs.Sites.{column_stands, entry_stands, can_stand, if_it_stands, as_heard, seen_in};
+ghost use Rattle.gz_round.specs.Sites.{fragment_stands, value_stands, vote_stands, column_stands, entry_stands, can_stand, if_it_stands, as_heard, seen_in};
 ghost use Rattle.gz_round.specs.declared.run.Mark.{Mark};
 ghost use Rattle.gz_round.specs.Noting.{heard_run, overtaken_run, left_run};
 
 use crate::run::{Mark, Run};
-use gz_core::{Column, Etag, Reply, Row, Version};
+use gz_core::{Column, Etag, FragRef, Reply, Row, Value, Version, Vote};
 use std::alloc::{AllocError, Global};
 
 /// A row that was heard, and the tag that it stands under (none: there was no row).
@@ -26,63 +26,103 @@ const ROUNDS: u32 = 1 << 31;
 /// A row of a run has fewer columns.
 const COLUMNS: usize = 1 << 22;
 
-/// Whether a run can hold the row. One that no run can hold is not heard.
-pub fn can_stand(row: &Row) -> bool
-    ensures { result ≡ can_stand row.now }
+/// Whether a run over `n` sites can hold the row. One that no run can hold is not heard.
+pub fn can_stand(n: u16, row: &Row) -> bool
+    ensures { result ≡ can_stand n row.now }
 {
-    row.floor().number() < VERSIONS && row.columns().len() < COLUMNS && columns_stand(row.columns())
+    row.floor().number() < VERSIONS
+        && row.columns().len() < COLUMNS
+        && columns_stand(n, row.columns())
 }
 
-fn columns_stand(columns: &[(Version, Column)]) -> bool
-    ensures { result ≡ list_all entry_stands columns.now }
+fn columns_stand(n: u16, columns: &[(Version, Column)]) -> bool
+    ensures { result ≡ list_all (entry_stands n) columns.now }
 {
     for entry in columns {
-        if !entry_stands(entry) {
+        if !entry_stands(n, entry) {
             return false;
         }
     }
     true
 }
 
-fn entry_stands(entry: &(Version, Column)) -> bool
-    ensures { result ≡ entry_stands entry.now }
+fn entry_stands(n: u16, entry: &(Version, Column)) -> bool
+    ensures { result ≡ entry_stands n entry.now }
 {
-    entry.0.number() < VERSIONS && column_stands(&entry.1)
+    entry.0.number() < VERSIONS && column_stands(n, &entry.1)
 }
 
-fn column_stands(column: &Column) -> bool
-    ensures { result ≡ column_stands column.now }
+fn column_stands(n: u16, column: &Column) -> bool
+    ensures { result ≡ column_stands n column.now }
 {
     match column {
-        Column::Open { promise, .. } => promise.round < ROUNDS,
-        Column::Decided { .. } => true,
+        Column::Open { promise, vote } => promise.round < ROUNDS && vote_stands(n, vote),
+        Column::Decided { value } => value_stands(n, value),
     }
 }
 
-/// The row that a reply shows, where `written` is the row that its request writes, if it is a write.
+fn vote_stands(n: u16, vote: &Option<Vote>) -> bool
+    ensures { result ≡ vote_stands n vote.now }
+{
+    match vote {
+        None => true,
+        Some(vote) => value_stands(n, &vote.value),
+    }
+}
+
+/// Whether each fragment of a value lies at one of `n` sites.
+fn value_stands(n: u16, value: &Value) -> bool
+    ensures { result ≡ value_stands n value.now }
+{
+    match value {
+        Value::Tomb { .. } => true,
+        Value::Put(put) => fragments_stand(n, put.fragments.as_slice()),
+    }
+}
+
+fn fragments_stand(n: u16, fragments: &[FragRef]) -> bool
+    ensures { result ≡ list_all (fragment_stands n) fragments.now }
+{
+    for fragment in fragments {
+        if !fragment_stands(n, fragment) {
+            return false;
+        }
+    }
+    true
+}
+
+fn fragment_stands(n: u16, fragment: &FragRef) -> bool
+    ensures { result ≡ fragment_stands n fragment.now }
+{
+    fragment.site.index() < n as usize
+}
+
+/// The row that a reply shows to a call over `n` sites, where `written` is the row that its request writes, if it is a
+/// write.
 pub fn shown_by(
     alloc: Global,
+    n: u16,
     written: &Option<Row>,
     answer: &Reply,
 ) -> Result<Option<Seen>, AllocError>
-    ensures { IfOk result (λ seen. seen ≡ seen_in written.now (as_heard written.now answer.now)) }
+    ensures { IfOk result (λ seen. seen ≡ seen_in written.now (as_heard n written.now answer.now)) }
 {
     match answer {
-        Reply::Row { etag, row } => seen_under(*etag, row),
+        Reply::Row { etag, row } => seen_under(n, *etag, row),
         Reply::NoRow => Ok(Some(Seen {
             etag: None,
             row: Row::empty(alloc),
         })),
-        Reply::Written { etag } => seen_written(*etag, written),
+        Reply::Written { etag } => seen_written(n, *etag, written),
         _ => Ok(None),
     }
 }
 
 /// The row, under its tag, if a run can hold it.
-fn seen_under(etag: Etag, row: &Row) -> Result<Option<Seen>, AllocError>
-    ensures { IfOk result (λ seen. seen ≡ seen_in None (if_it_stands row.now (Reply.Row etag row.now))) }
+fn seen_under(n: u16, etag: Etag, row: &Row) -> Result<Option<Seen>, AllocError>
+    ensures { IfOk result (λ seen. seen ≡ seen_in None (if_it_stands n row.now (Reply.Row etag row.now))) }
 {
-    if can_stand(row) {
+    if can_stand(n, row) {
         let row = row.clone()?;
         Ok(Some(Seen {
             etag: Some(etag),
@@ -94,12 +134,12 @@ fn seen_under(etag: Etag, row: &Row) -> Result<Option<Seen>, AllocError>
 }
 
 /// The row that was written, under its new tag, if a run can hold it.
-fn seen_written(etag: Etag, written: &Option<Row>) -> Result<Option<Seen>, AllocError>
-    ensures { IfOk result (λ seen. seen ≡ seen_in written.now (as_heard written.now (Reply.Written etag))) }
+fn seen_written(n: u16, etag: Etag, written: &Option<Row>) -> Result<Option<Seen>, AllocError>
+    ensures { IfOk result (λ seen. seen ≡ seen_in written.now (as_heard n written.now (Reply.Written etag))) }
 {
     match written {
         None => Ok(None),
-        Some(row) => seen_under(etag, row),
+        Some(row) => seen_under(n, etag, row),
     }
 }
 

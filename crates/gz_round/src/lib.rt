@@ -11,6 +11,7 @@ pub mod hearing;
 mod looking_back;
 pub mod making;
 mod noting;
+pub mod outcome;
 mod passing;
 mod preparing;
 mod rounds;
@@ -19,4 +20,5 @@ mod starting;
 
 pub use following::Next;
 pub use hearing::Seen;
+pub use outcome::{Outcome, RowTurn};
 pub use run::{Awaited, Mark, Run, Stage};

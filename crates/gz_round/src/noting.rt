@@ -10,20 +10,26 @@ ghost use Rattle.gz_round.specs.declared.run.Mark.{Mark};
 
 use crate::hearing::{Seen, shown_by};
 use crate::run::Run;
-use gz_core::Reply;
+use gz_core::{Config, Reply};
 use std::alloc::{AllocError, Global};
 
 impl Run {
     /// Notes a reply of the request that is awaited from a site.
-    pub fn note_reply(&mut self, alloc: Global, at: usize, answer: &Reply) -> Result<(), AllocError>
+    pub fn note_reply(
+        &mut self,
+        alloc: Global,
+        config: &Config,
+        at: usize,
+        answer: &Reply,
+    ) -> Result<(), AllocError>
         requires rows { at < length self.old.rows }
         requires marks { at < length self.old.marks }
         requires met { self.old.met + 1 < 2 ^ 32 }
-        ensures noted { OnOk result (IsReplyNoted self.old at answer.now self.new) }
-        ensures ready { OnOk result ((c : Config) (w : Caller) (past : List Trace) (ms : List Action) (a : Asked) → at < c.n
-            → (site_now ms at).awaits ≡ Some a → Ready c w past self.old ms → Ready c w past self.new (Handed a (as_heard (written_by a.op) answer.now) ∷ ms)) }
+        ensures noted { OnOk result (IsReplyNoted config.now.n self.old at answer.now self.new) }
+        ensures ready { OnOk result ((w : Caller) (past : List Trace) (ms : List Action) (a : Asked) → at < config.now.n
+            → (site_now ms at).awaits ≡ Some a → Ready config.now w past self.old ms → Ready config.now w past self.new (Handed a (as_heard config.now.n (written_by a.op) answer.now) ∷ ms)) }
     {
-        let seen = self.shown_at(alloc, at, answer)?;
+        let seen = self.shown_at(alloc, config.n, at, answer)?;
         self.note(at, seen, is_changed(answer));
         Ok(())
     }
@@ -38,14 +44,20 @@ impl Run {
         self.leave(at);
     }
 
-    /// The row that a reply of a site's request shows.
-    fn shown_at(&self, alloc: Global, at: usize, answer: &Reply) -> Result<Option<Seen>, AllocError>
+    /// The row that a reply of a site's request shows, of `n` sites.
+    fn shown_at(
+        &self,
+        alloc: Global,
+        n: u16,
+        at: usize,
+        answer: &Reply,
+    ) -> Result<Option<Seen>, AllocError>
         requires { at < length self.now.marks }
-        ensures { IfOk result (λ seen. (mark : Mark) → slice_get self.now.marks at ≡ Some mark → seen ≡ seen_in (written_at mark) (as_heard (written_at mark) answer.now)) }
+        ensures { IfOk result (λ seen. (mark : Mark) → slice_get self.now.marks at ≡ Some mark → seen ≡ seen_in (written_at mark) (as_heard n (written_at mark) answer.now)) }
     {
         match &self.marks.at(at).awaited {
-            None => shown_by(alloc, &None, answer),
-            Some(awaited) => shown_by(alloc, &awaited.written, answer),
+            None => shown_by(alloc, n, &None, answer),
+            Some(awaited) => shown_by(alloc, n, &awaited.written, answer),
         }
     }
 

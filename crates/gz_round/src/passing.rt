@@ -1,10 +1,11 @@
 //! One pass over the sites: each is asked for all that it may be asked for.
-ghost use Rattle.std.specs.Prelude.{◌≡◌, ◌≤◌, ◌<◌, ◌+◌, ◌^◌, ℕ, List, [], length, IfOk, OnOk};
+ghost use Rattle.std.specs.Prelude.{◌≡◌, ◌≤◌, ◌<◌, ◌+◌, ◌++◌, ◌^◌, ℕ, List, [], length, IfOk, OnOk};
 ghost use Rattle.gz_core.specs.Configurations.{IsConfig};
 ghost use Rattle.gz_core.specs.History.{Action, Caller, Trace, sent_from};
+ghost use Rattle.gz_round.specs.Starting.{AreUnread, AreForRows, reads_from};
 ghost use Rattle.gz_round.specs.Steps.{IsStepOf};
 ghost use Rattle.gz_round.specs.Asking.{IsAskedAt, IsLeftBy};
-ghost use Rattle.gz_round.specs.Following.{Asks, AreServed, CanAsk};
+ghost use Rattle.gz_round.specs.Following.{Asks, HasAsked, CanAsk};
 
 use crate::run::Run;
 use gz_core::{Config, Items, Out, RowStep};
@@ -53,9 +54,11 @@ impl Run {
 
         ensures asked { OnOk result ((w : Caller) (past : List Trace) (ms : List Action)
             → Asks config.now w past self.old (sent_from first send.old ms) step.now
-            → Asks config.now w past self.new (sent_from first send.new ms) step.now × AreServed config.now w (sent_from first send.new ms) step.now) }
+            → HasAsked config.now w past self.new (sent_from first send.old ms) (sent_from first send.new ms) step.now) }
         ensures left { OnOk result (IsLeftBy self.old self.new step.now) }
         ensures few { OnOk result (length send.new ≤ length send.old + config.now.n) }
+        ensures rows { OnOk result (AreForRows send.old → AreForRows send.new) }
+        ensures reads { OnOk result (AreUnread config.now.n self.old → send.new ≡ send.old ++ reads_from self.old.key 0 config.now.n) }
     {
         for at in 0..config.n as usize {
             self.ask(at, step, first, send)?;
@@ -77,9 +80,11 @@ impl Run {
         requires asks { CanAsk config.now self.old first [] step.now }
 
         ensures asked { IfOk result (λ send. (w : Caller) (past : List Trace) (ms : List Action) → Asks config.now w past self.old ms step.now
-            → Asks config.now w past self.new (sent_from first send ms) step.now × AreServed config.now w (sent_from first send ms) step.now) }
+            → HasAsked config.now w past self.new ms (sent_from first send ms) step.now) }
         ensures left { OnOk result (IsLeftBy self.old self.new step.now) }
         ensures few { IfOk result (λ send. length send ≤ config.now.n) }
+        ensures rows { IfOk result (λ send. AreForRows send) }
+        ensures reads { IfOk result (λ send. AreUnread config.now.n self.old → send ≡ reads_from self.old.key 0 config.now.n) }
     {
         let mut send = Items::new(alloc);
         self.ask_all(config, step, first, &mut send)?;

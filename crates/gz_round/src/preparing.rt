@@ -2,11 +2,13 @@
 ghost use Rattle.std.specs.Prelude.{◌≡◌, ◌≤◌, ◌<◌, ◌+◌, ◌^◌, List, [], length, None, IfOk};
 ghost use Rattle.gz_core.specs.Configurations.{IsConfig};
 ghost use Rattle.gz_core.specs.History.{Action, Caller, Trace, sent_from};
+ghost use Rattle.gz_round.specs.Starting.{AreForRows, AreRowRequests};
 ghost use Rattle.gz_round.specs.Following.{HasTurned};
-ghost use Rattle.gz_round.specs.Acting.{TakesStep, CanStep, RunsOut, CanRunOut, Prepares, CanPrepare, IsBallotAbove, given_in_of, ended_of, prepared_of, is_overtaken};
+ghost use Rattle.gz_round.specs.Acting.{TakesStep, CanStep, RunsOut, CanRunOut, Prepares, CanPrepare, IsBallotAbove, given_in_of, ended_of, prepared_of};
 
+use crate::outcome::{Outcome, RowTurn};
 use crate::run::{Run, Stage};
-use gz_core::{Answer, Ballot, Config, Items, Out, RowStep, Turn, UnsureWhy, Version};
+use gz_core::{Answer, Ballot, Config, Items, Out, RowStep, UnsureWhy, Version};
 use std::alloc::{AllocError, Global};
 
 impl Run {
@@ -17,37 +19,48 @@ impl Run {
         alloc: Global,
         config: &Config,
         first: u32,
-    ) -> Result<Turn, AllocError>
+    ) -> Result<RowTurn, AllocError>
         requires config { IsConfig config.now }
         requires first { first < 2 ^ 31 }
         requires round { self.old.round < 2 ^ 31 + first }
         requires steps { CanStep config.now self.old }
-        ensures { IfOk result (λ turn. (w : Caller) (past : List Trace) (ms : List Action) → TakesStep config.now w past self.old ms
-            → HasTurned config.now w past self.new (sent_from first turn.send ms) turn.answer) }
+        ensures turned { IfOk result (λ turn. (w : Caller) (past : List Trace) (ms : List Action) → TakesStep config.now w past self.old ms
+            → HasTurned config.now w past self.new (sent_from first turn.send ms) turn.outcome) }
+        ensures sends { IfOk result (λ turn. AreRowRequests turn.send) }
     {
         let step = self.step()?;
         let send = self.first_pass(alloc, config, &step, first)?;
         if self.waits() {
-            return Ok(Turn { send, answer: None });
+            return Ok(RowTurn {
+                send,
+                outcome: Outcome::Goes,
+            });
         }
         self.run_out(config, first, send)
     }
 
     /// A phase that ended without its goal: a classic ballot is prepared after `Look` and `Fast`; where one leads no
     /// further, every site goes out.
-    fn run_out(&mut self, config: &Config, first: u32, send: Items<Out>) -> Result<Turn, AllocError>
+    fn run_out(
+        &mut self,
+        config: &Config,
+        first: u32,
+        send: Items<Out>,
+    ) -> Result<RowTurn, AllocError>
         requires config { IsConfig config.now }
         requires first { first < 2 ^ 31 }
         requires round { self.old.round < 2 ^ 31 + first }
         requires few { length send ≤ 16 }
+        requires rows { AreForRows send }
         requires runs_out { CanRunOut config.now self.old first send }
-        ensures { IfOk result (λ turn. (w : Caller) (past : List Trace) (ms : List Action) → RunsOut config.now w past self.old (sent_from first send ms)
-            → HasTurned config.now w past self.new (sent_from first turn.send ms) turn.answer) }
+        ensures turned { IfOk result (λ turn. (w : Caller) (past : List Trace) (ms : List Action) → RunsOut config.now w past self.old (sent_from first send ms)
+            → HasTurned config.now w past self.new (sent_from first turn.send ms) turn.outcome) }
+        ensures sends { IfOk result (λ turn. AreRowRequests turn.send) }
     {
         match self.ended() {
-            Some(answer) => Ok(Turn {
+            Some(answer) => Ok(RowTurn {
                 send,
-                answer: Some(answer),
+                outcome: Outcome::Ends { answer },
             }),
             None => {
                 let version = self.working();
@@ -90,14 +103,16 @@ impl Run {
         first: u32,
         version: Version,
         send: Items<Out>,
-    ) -> Result<Turn, AllocError>
+    ) -> Result<RowTurn, AllocError>
         requires config { IsConfig config.now }
         requires first { first < 2 ^ 31 }
         requires round { self.old.round < 2 ^ 31 + first }
         requires few { length send ≤ 16 }
+        requires rows { AreForRows send }
         requires prepares { CanPrepare config.now self.old first send version }
-        ensures { IfOk result (λ turn. (w : Caller) (past : List Trace) (ms : List Action) → Prepares config.now w past self.old (sent_from first send ms) version
-            → HasTurned config.now w past self.new (sent_from first turn.send ms) turn.answer) }
+        ensures turned { IfOk result (λ turn. (w : Caller) (past : List Trace) (ms : List Action) → Prepares config.now w past self.old (sent_from first send ms) version
+            → HasTurned config.now w past self.new (sent_from first turn.send ms) turn.outcome) }
+        ensures sends { IfOk result (λ turn. AreRowRequests turn.send) }
     {
         let ballot = self.next_ballot(version);
         self.promise(config, first, version, ballot, send)
@@ -111,14 +126,16 @@ impl Run {
         version: Version,
         ballot: Ballot,
         send: Items<Out>,
-    ) -> Result<Turn, AllocError>
+    ) -> Result<RowTurn, AllocError>
         requires config { IsConfig config.now }
         requires first { first < 2 ^ 31 }
         requires few { length send ≤ 16 }
+        requires rows { AreForRows send }
         requires prepares { CanPrepare config.now self.old first send version }
         requires ballot { IsBallotAbove self.old version ballot }
-        ensures { IfOk result (λ turn. (w : Caller) (past : List Trace) (ms : List Action) → Prepares config.now w past self.old (sent_from first send ms) version
-            → HasTurned config.now w past self.new (sent_from first turn.send ms) turn.answer) }
+        ensures turned { IfOk result (λ turn. (w : Caller) (past : List Trace) (ms : List Action) → Prepares config.now w past self.old (sent_from first send ms) version
+            → HasTurned config.now w past self.new (sent_from first turn.send ms) turn.outcome) }
+        ensures sends { IfOk result (λ turn. AreRowRequests turn.send) }
     {
         let found = self.look_back(config, version)?;
         self.stage = Stage::Prepare {
@@ -129,18 +146,20 @@ impl Run {
         let step = Some(RowStep::Promise { version, ballot });
         let mut send = send;
         self.ask_all(config, &step, first, &mut send)?;
-        let answer = self.prepared();
-        Ok(Turn { send, answer })
+        let outcome = self.prepared();
+        Ok(RowTurn { send, outcome })
     }
 
     /// What is left once a ballot was prepared at every site that takes it: to wait, or to give in.
-    fn prepared(&self) -> Option<Answer>
+    fn prepared(&self) -> Outcome
         ensures { result ≡ prepared_of self.now }
     {
         if self.waits() {
-            None
+            Outcome::Goes
         } else {
-            Some(self.given_in())
+            Outcome::Ends {
+                answer: self.given_in(),
+            }
         }
     }
 }

@@ -2,7 +2,8 @@
 ghost use Rattle.std.specs.Prelude.{◌≡◌, ◌≤◌, ◌<◌, ◌+◌, ◌^◌, max};
 ghost use Rattle.std.specs.List.{list_any, count_by};
 ghost use Rattle.gz_round.specs.Rounds.{round_known, above_known, promises_known, slot_round, slot_promises_above};
-ghost use Rattle.gz_round.specs.Acting.{round_in, is_overtaken, IsBallotAbove};
+ghost use Rattle.gz_round.specs.Goals.{is_overtaken};
+ghost use Rattle.gz_round.specs.Acting.{round_in, IsBallotAbove};
 
 use crate::run::{Run, Stage};
 use gz_core::{Ballot, Row, Slot, Version};

@@ -198,6 +198,25 @@ impl Drop for Run {
 }
 
 impl Run {
+    /// The object's key, of a call that asks for no rows any more.
+    pub fn into_key(self) -> Key
+        ensures { result ≡ self.key }
+    {
+        let Run {
+            name: _,
+            key,
+            own: _,
+            rows: _,
+            marks: _,
+            met: _,
+            voted: _,
+            wrote: _,
+            round: _,
+            stage: _,
+        } = self;
+        key
+    }
+
     /// A copy of all that the call keeps.
     pub fn copy(&self) -> Result<Run, AllocError>
         ensures { IfOk result (λ run. run ≡ self.now) }

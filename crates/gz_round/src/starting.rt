@@ -1,41 +1,41 @@
 //! How a call begins.
 ghost use Rattle.std.specs.Prelude.{◌≡◌, ℕ, ◌≤◌, ◌<◌, List, [], length, slice_get, Some, None, IfOk};
-ghost use Rattle.gz_core.specs.Calls.{IsOwn, key_of, own_value};
+ghost use Rattle.gz_core.specs.Calls.{key_of};
 ghost use Rattle.gz_core.specs.History.{Caller, Trace};
 ghost use Rattle.gz_round.specs.Rounds.{top_rounds};
 ghost use Rattle.gz_round.specs.Following.{Ready};
-ghost use Rattle.gz_round.specs.Starting.{IsWithin, fresh_mark, idle_run};
+ghost use Rattle.gz_round.specs.Standing.{IsNamed};
+ghost use Rattle.gz_round.specs.Starting.{fresh_mark, idle_run};
 
 use crate::run::{Mark, Run, Stage};
-use gz_core::{Call, Config, Items, Key, Phase, PutName, PutValue, Row, Value};
+use gz_core::{Config, Items, Key, Phase, PutName, Row, Value};
 use std::alloc::{AllocError, Global};
 
 impl Run {
-    /// A call that has sent nothing and heard nothing, of a session that promised ballots up to a round.
+    /// A call that has sent nothing and heard nothing, which writes this value if it writes one, of a session that promised
+    /// ballots up to a round.
     pub fn start(
         alloc: Global,
         config: &Config,
         name: PutName,
-        call: Call,
+        key: Key,
+        own: Option<Value>,
         round: u32,
     ) -> Result<Run, AllocError>
-        requires { IsWithin call }
-        ensures own { IfOk result (λ run. IsOwn name call run.own) }
-        ensures ready { IfOk result (λ run. (w : Caller) (past : List Trace) → w.name ≡ name → w.call ≡ call → w.own ≡ run.own → top_rounds past ≡ round → Ready config.now w past run []) }
+        ensures ready { IfOk result (λ run. (w : Caller) (past : List Trace) → w.name ≡ name → key_of w.call ≡ key → w.own ≡ own
+            → IsNamed w.name w.own → top_rounds past ≡ round → Ready config.now w past run []) }
         ensures stage { IfOk result (λ run. run.stage ≡ Stage.Look) }
     {
-        let mut run = Run::idle(alloc, name, call, round);
+        let mut run = Run::idle(alloc, name, key, own, round);
         run.rows = no_rows(alloc, config.n as usize)?;
         run.marks = fresh_marks(alloc, config.n as usize)?;
         Ok(run)
     }
 
     /// A call that knows no site yet.
-    fn idle(alloc: Global, name: PutName, call: Call, round: u32) -> Run
-        requires { IsWithin call }
-        ensures { result ≡ idle_run name call round [] [] }
+    fn idle(alloc: Global, name: PutName, key: Key, own: Option<Value>, round: u32) -> Run
+        ensures { result ≡ idle_run name key own round [] [] }
     {
-        let (key, own) = parts(name, call);
         Run {
             name,
             key,
@@ -48,20 +48,6 @@ impl Run {
             round,
             stage: Stage::Look,
         }
-    }
-}
-
-/// The key of a call, and the value that it writes.
-fn parts(name: PutName, call: Call) -> (Key, Option<Value>)
-    requires { IsWithin call }
-    ensures key { result.0 ≡ key_of call }
-    ensures own { result.1 ≡ own_value name call }
-{
-    match call {
-        Call::Put { key, bytes } => (key, Some(Value::Put(PutValue { name, bytes }))),
-        Call::Delete { key } => (key, Some(Value::Tomb { name })),
-        Call::Get { key } => (key, None),
-        Call::GetAt { .. } | Call::Collect { .. } => unreachable!(),
     }
 }
 

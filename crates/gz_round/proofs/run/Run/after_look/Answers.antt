@@ -1,8 +1,9 @@
 use Rattle.std.proofs.Common.{◌≡◌, ◌∙◌, sym, ap, subst, inl, inr, arith}
 use Rattle.gz_pick.specs.Looks.{highest_of}
 use Rattle.gz_round.specs.Evidence.{NoneEvident}
-use Rattle.gz_round.specs.Following.{IsUnmet, MayPass}
+use Rattle.gz_round.specs.Following.{MayPass}
 use Rattle.gz_round.specs.Standing.{StageStands}
+use Rattle.gz_round.specs.Goals.{IsUnmet}
 use Rattle.gz_round.proofs.Known.{none_evident, known_counted}
 use Rattle.gz_round.proofs.Follows.{first_from, latest_from, highest_positive}
 use Rattle.gz_round.proofs.run.Run.after_look.Goals as goal

@@ -1,5 +1,6 @@
 use Rattle.gz_round.proofs.Passes.{inside_rows, inside_marks}
-use Rattle.std.proofs.Common.{◌≡◌, subst, arith}
+use Rattle.std.proofs.Common.{◌≡◌, ℕ, ◌++◌, ◌∙◌, ap, subst, arith}
+use Rattle.gz_round.specs.Starting.{reads_from}
 use Rattle.gz_round.proofs.Passes.{Going, going_none, going_more, going_all}
 use Rattle.gz_round.proofs.run.Run.ask_all.Goals as goal
 
@@ -36,6 +37,14 @@ ask-requires-clause-few c =
     let sites = c.requires.config.sites in
     let few = c.loop-at.invariant.few in
     omega (arith, c.requires.few)
+
+pub returns-clause-rows : goal.returns-clause-rows
+returns-clause-rows c = c.loop-at.invariant.rows
+
+pub returns-clause-reads : goal.returns-clause-reads
+returns-clause-reads c = λ unread.
+    let done : c.loop-at.at ≡ c.args.config.now.n = omega arith in
+    (c.loop-at.invariant.reads unread).sent_is ∙ ap (λ (n : ℕ). c.args.send.now ++ reads_from c.args.self.now.key 0 n) done
 
 pub returns-clause-left : goal.returns-clause-left
 returns-clause-left c = c.loop-at.invariant.left

@@ -1,9 +1,10 @@
 use Rattle.std.proofs.Common.{inl, inr}
-use Rattle.gz_round.specs.Acting.{CanAct, IsFewIn}
+use Rattle.gz_round.specs.Acting.{CanAct}
 use Rattle.gz_round.proofs.Proposals.{few_promises}
 use Rattle.std.proofs.Common.{arith, ap, sym, subst}
 use Rattle.gz_core.specs.Names.{BallotAt}
 use Rattle.gz_round.specs.Acting.{ChoiceMeans}
+use Rattle.gz_round.specs.Goals.{IsFewIn}
 use Rattle.gz_round.proofs.Proposals.{chosen_means}
 use Rattle.gz_round.proofs.run.Run.choose_in.Goals as goal
 

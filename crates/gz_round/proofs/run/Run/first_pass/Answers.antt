@@ -1,12 +1,17 @@
-use Rattle.std.proofs.Common.{ap, length, arith}
+use Rattle.std.proofs.Common.{◌≡◌, true, ◌++◌, ◌∙◌, ap, length, arith}
 use Rattle.gz_round.specs.Following.{CanAsk}
 use Rattle.std.proofs.Common.{sym, subst}
-use Rattle.gz_core.specs.History.{sent_from}
-use Rattle.gz_round.specs.Following.{Asks}
+use Rattle.gz_core.specs.History.{is_row_request, sent_from}
+use Rattle.gz_core.specs.declared.requests.Out.{Out}
+use Rattle.gz_round.specs.Starting.{AreForRows, reads_from}
+use Rattle.std.proofs.lemmas.List.Elements.{All-nil}
+use Rattle.gz_round.specs.Following.{Asks, HasAsked}
 use Rattle.gz_round.proofs.run.Run.first_pass.Goals as goal
 
 pub returns-clause-asked : goal.returns-clause-asked
-returns-clause-asked c = λ w past ms k. c.in_ok-ask_all.ensures.asked w past ms (subst (λ outs. Asks c.args.config.now w past c.args.self.now (sent_from c.args.first outs ms) c.args.step.now) (sym c.new-send.ensures) k)
+returns-clause-asked c = λ w past ms k.
+    subst (λ outs. HasAsked c.args.config.now w past c.ask_all.new.self (sent_from c.args.first outs ms) (sent_from c.args.first c.ask_all.new.send ms) c.args.step.now) c.new-send.ensures
+    (c.in_ok-ask_all.ensures.asked w past ms (subst (λ outs. Asks c.args.config.now w past c.args.self.now (sent_from c.args.first outs ms) c.args.step.now) (sym c.new-send.ensures) k))
 
 pub ask_all-requires-clause-config : goal.ask_all-requires-clause-config
 ask_all-requires-clause-config c = c.requires.config
@@ -25,6 +30,12 @@ ask_all-requires-clause-asks c = subst (λ outs. CanAsk c.args.config.now c.args
 
 pub returns-clause-left : goal.returns-clause-left
 returns-clause-left c = c.in_ok-ask_all.ensures.left
+
+pub returns-clause-rows : goal.returns-clause-rows
+returns-clause-rows c = c.in_ok-ask_all.ensures.rows (subst AreForRows (sym c.new-send.ensures) (All-nil (λ (o : Out). is_row_request o.op ≡ true)))
+
+pub returns-clause-reads : goal.returns-clause-reads
+returns-clause-reads c = λ unread. c.in_ok-ask_all.ensures.reads unread ∙ ap (λ outs. outs ++ reads_from c.args.self.now.key 0 c.args.config.now.n) c.new-send.ensures
 
 pub returns-clause-few : goal.returns-clause-few
 returns-clause-few c = omega (arith, c.in_ok-ask_all.ensures.few, ap length c.new-send.ensures)

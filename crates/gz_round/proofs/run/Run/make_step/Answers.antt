@@ -5,9 +5,9 @@ use Rattle.gz_round.specs.Acting.{CanStep}
 use Rattle.gz_round.proofs.Turns.{steps_ask, stepped_from, stepped_runs, stepped_out, stepped_round}
 use Rattle.gz_round.proofs.run.Run.make_step.Goals as goal
 
-pub returns-then-waits : goal.returns-then-waits
-returns-then-waits c = λ w past ms p.
-    stepped_runs c.args.config.now w past c.first_pass.new.self _ c.in_ok-step.step (stepped_from c.args.config.now w past c.args.self.now c.first_pass.new.self ms c.args.first c.in_ok-send.send c.in_ok-step.step p c.in_ok-step.ensures (c.in_ok-send.ensures.asked w past ms) c.in_ok-send.ensures.left) (cc)
+pub returns-then-waits-clause-turned : goal.returns-then-waits-clause-turned
+returns-then-waits-clause-turned c = λ w past ms p.
+    stepped_runs c.args.config.now w past c.first_pass.new.self _ (stepped_from c.args.config.now w past c.args.self.now c.first_pass.new.self ms c.args.first c.in_ok-send.send c.in_ok-step.step p c.in_ok-step.ensures (c.in_ok-send.ensures.asked w past ms) c.in_ok-send.ensures.left) (cc)
 
 pub run_out-requires-clause-runs_out : goal.run_out-requires-clause-runs_out
 run_out-requires-clause-runs_out c =
@@ -25,12 +25,12 @@ first_pass-requires-clause-asks c =
     let k : CanStep c.args.config.now c.args.self.now = c.requires.steps in
     (k.0, k.1, k.2, steps_ask c.args.config.now k.0 k.1 c.args.self.now k.2 c.in_ok-step.step k.3 c.in_ok-step.ensures)
 
-pub returns : goal.returns
-returns c =
+pub returns-clause-turned : goal.returns-clause-turned
+returns-clause-turned c =
     IfOk-weaker c.run_out.result _ _ (λ turn h. λ w past ms p.
     h w past ms (stepped_out c.args.config.now w past c.args.self.now c.first_pass.new.self ms c.args.first c.in_ok-send.send c.in_ok-step.step p c.in_ok-step.ensures c.in_ok-send.ensures.left
     (stepped_from c.args.config.now w past c.args.self.now c.first_pass.new.self ms c.args.first c.in_ok-send.send c.in_ok-step.step p c.in_ok-step.ensures (c.in_ok-send.ensures.asked w past ms) c.in_ok-send.ensures.left)
-    (cc))) c.run_out.ensures
+    (cc))) c.run_out.ensures.turned
 
 pub first_pass-requires-clause-config : goal.first_pass-requires-clause-config
 first_pass-requires-clause-config c = c.requires.config
@@ -60,3 +60,12 @@ run_out-requires-clause-round c =
     let k : CanStep c.args.config.now c.args.self.now = c.requires.steps in
     let round = stepped_round c.args.self.now c.first_pass.new.self c.in_ok-step.step c.in_ok-step.ensures k.3.ahead c.in_ok-send.ensures.left in
     omega (arith, c.requires.round, round)
+
+pub returns-then-waits-clause-sends : goal.returns-then-waits-clause-sends
+returns-then-waits-clause-sends c =
+    let few = c.in_ok-send.ensures.few in
+    let sites = c.requires.config.sites in
+    record { rows = c.in_ok-send.ensures.rows; few = omega arith }
+
+pub run_out-requires-clause-rows : goal.run_out-requires-clause-rows
+run_out-requires-clause-rows c = c.in_ok-send.ensures.rows

@@ -5,6 +5,6 @@ use Rattle.gz_round.proofs.Replies.{ready_handed}
 use Rattle.gz_round.proofs.run.Run.note_reply.Goals as goal
 
 pub returns-clause-ready : goal.returns-clause-ready
-returns-clause-ready c = λ k w past ms a l awaits r.
-    ready_handed k w past c.args.self.now c.note.new.self ms c.args.at a c.args.answer.now l awaits r (λ mark row e there.
-    c.note.ensures mark row e there ∙ (ap (λ s. noted_by c.args.self.now c.args.at mark row s c.is_changed.result) (c.in_ok-seen.ensures mark e) ∙ ap (noted_by c.args.self.now c.args.at mark row (seen_in (written_at mark) (as_heard (written_at mark) c.args.answer.now))) c.is_changed.ensures))
+returns-clause-ready c = λ w past ms a l awaits r.
+    ready_handed c.args.config.now w past c.args.self.now c.note.new.self ms c.args.at a c.args.answer.now l awaits r (λ mark row e there.
+    c.note.ensures mark row e there ∙ (ap (λ s. noted_by c.args.self.now c.args.at mark row s c.is_changed.result) (c.in_ok-seen.ensures mark e) ∙ ap (noted_by c.args.self.now c.args.at mark row (seen_in (written_at mark) (as_heard c.args.config.now.n (written_at mark) c.args.answer.now))) c.is_changed.ensures))

@@ -1,3 +1,4 @@
+use Rattle.std.proofs.Common.{arith}
 use Rattle.std.proofs.Common.{sym, subst}
 use Rattle.std.proofs.lemmas.Result.{IfOk-weaker}
 use Rattle.gz_core.specs.History.{sent_from}
@@ -6,18 +7,26 @@ use Rattle.gz_round.proofs.GivingIn.{ended_turned}
 use Rattle.gz_round.proofs.Prepares.{out_prepares}
 use Rattle.gz_round.proofs.run.Run.run_out.Goals as goal
 
-pub returns-in-Some : goal.returns-in-Some
-returns-in-Some c = λ w past ms r. ended_turned c.args.config.now w past c.args.self.now (sent_from c.args.first c.args.send ms) c.in-Some.answer c.requires.config r (sym c.in-Some.ensures)
+pub returns-in-Some-clause-turned : goal.returns-in-Some-clause-turned
+returns-in-Some-clause-turned c = λ w past ms r. ended_turned c.args.config.now w past c.args.self.now (sent_from c.args.first c.args.send ms) c.in-Some.answer c.requires.config r (sym c.in-Some.ensures)
 
 pub prepare-requires-clause-prepares : goal.prepare-requires-clause-prepares
 prepare-requires-clause-prepares c =
     let k : CanRunOut c.args.config.now c.args.self.now c.args.first c.args.send = c.requires.runs_out in
     (k.0, k.1, k.2, subst (Prepares c.args.config.now k.0 k.1 c.args.self.now (sent_from c.args.first c.args.send k.2)) (sym c.working-version.ensures) (out_prepares c.args.config.now k.0 k.1 c.args.self.now (sent_from c.args.first c.args.send k.2) k.3 (sym c.in-None.ensures)))
 
-pub returns-in-None : goal.returns-in-None
-returns-in-None c =
+pub returns-in-None-clause-turned : goal.returns-in-None-clause-turned
+returns-in-None-clause-turned c =
     IfOk-weaker c.prepare.result _ _ (λ turn h. λ w past ms r.
-    h w past ms (subst (Prepares c.args.config.now w past c.args.self.now (sent_from c.args.first c.args.send ms)) (sym c.working-version.ensures) (out_prepares c.args.config.now w past c.args.self.now (sent_from c.args.first c.args.send ms) r (sym c.in-None.ensures)))) c.prepare.ensures
+    h w past ms (subst (Prepares c.args.config.now w past c.args.self.now (sent_from c.args.first c.args.send ms)) (sym c.working-version.ensures) (out_prepares c.args.config.now w past c.args.self.now (sent_from c.args.first c.args.send ms) r (sym c.in-None.ensures)))) c.prepare.ensures.turned
 
 pub prepare-requires-clause-round : goal.prepare-requires-clause-round
 prepare-requires-clause-round c = c.requires.round
+
+pub returns-in-Some-clause-sends : goal.returns-in-Some-clause-sends
+returns-in-Some-clause-sends c =
+    let few = c.requires.few in
+    record { rows = c.requires.rows; few = omega arith }
+
+pub prepare-requires-clause-rows : goal.prepare-requires-clause-rows
+prepare-requires-clause-rows c = c.requires.rows

@@ -2,7 +2,7 @@ use Rattle.std.proofs.Common.{[], refl, inl}
 use Rattle.std.proofs.lemmas.Result.{IfOk-weaker}
 use Rattle.gz_round.proofs.run.Run.take_turn.Goals as goal
 
-pub returns-in-Some : goal.returns-in-Some
-returns-in-Some c =
+pub returns-in-Some-clause-turned : goal.returns-in-Some-clause-turned
+returns-in-Some-clause-turned c =
     IfOk-weaker c.close.result _ _ (λ turn p. λ w past ms r.
-    ([], inl refl, p w past ms r.stands (c.in-Some.ensures w past ms r.stands))) c.close.ensures
+    ([], inl refl, p w past ms r (c.in-Some.ensures w past ms r.stands))) c.close.ensures.turned
