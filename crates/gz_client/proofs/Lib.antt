@@ -1,4 +1,22 @@
+mod Apart
+mod Beginning
+mod Counted
 pub mod Exactly
+mod Extending
+mod Fetching
+mod Following
+mod FragmentTold
+mod Fragments
 pub mod Holding
+mod Kept
+mod Learning
+pub mod Listed
 pub mod Live
-mod LiveRequests
+pub mod LiveRequests
+mod Puts
+mod RowTold
+pub mod Rules
+pub mod Sent
+mod Standing
+mod StoringFirst
+mod Telling

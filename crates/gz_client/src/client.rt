@@ -4,13 +4,16 @@ ghost use Rattle.gz_core.specs.Configurations.{IsConfig};
 ghost use Rattle.gz_core.specs.History.{Trace, Handed, GaveUp};
 ghost use Rattle.gz_round.specs.Sites.{as_heard, written_by};
 ghost use Rattle.gz_round.specs.Starting.{IsWithin};
-ghost use Rattle.gz_round.specs.Following.{IsReady};
-ghost use Rattle.gz_client.specs.Traces.{Holds, CanBegin, CanLearn, IsSameClient, HasActed, IsRunning, Begins, Extends, going_on, live_count, IsLiveAtIn};
+ghost use Rattle.gz_client.specs.Traces.{Holds, CanBegin, CanLearn, IsSameClient, IsRunning, Begins, Extends};
+ghost use Rattle.gz_client.specs.Changes.{changed, CanChange};
 
+mod beginning;
+mod learning;
 mod live;
 
-use gz_core::{Call, Config, PutName, Reply, Session, Turn};
-use gz_round::Run;
+use crate::running::{Change, Running};
+use gz_core::{Call, Config, Reply, Session, Turn};
+use gz_data::{Came, Storing};
 use std::alloc::{AllocError, Global};
 
 /// The client of one session, and the greatest round that it promised: at most one call of it runs.
@@ -19,7 +22,7 @@ pub struct Client {
     session: Session,
     calls: u32,
     round: u32,
-    run: Option<Run>,
+    running: Option<Running>,
 }
 
 impl Drop for Client {
@@ -29,7 +32,7 @@ impl Drop for Client {
             session: _,
             calls: _,
             round: _,
-            run: _,
+            running: _,
         } = self;
     }
 }
@@ -47,7 +50,7 @@ impl Client {
             session,
             calls: 0,
             round: 0,
-            run: None,
+            running: None,
         }
     }
 
@@ -61,8 +64,8 @@ impl Client {
         ensures same { IsSameClient self.old self.new }
         ensures err { OnErr result (self.new ≡ self.old) }
     {
-        let (client, turn) = self.begun(alloc, call, first)?;
-        *self = client;
+        let (change, turn) = self.begun(alloc, &call, first)?;
+        self.take(change);
         Ok(turn)
     }
 
@@ -78,17 +81,17 @@ impl Client {
         requires told { CanLearn self.old n first }
         requires first { first < 2 ^ 31 }
 
-        ensures ok { IfOk result (λ turn. Extends self.old self.new n first (λ a. Handed a (as_heard (written_by a.op) answer.now)) turn) }
+        ensures ok { IfOk result (λ turn. Extends self.old self.new n first (λ a. Handed a (as_heard self.old.config.n (written_by a.op) answer.now)) turn) }
         ensures same { IsSameClient self.old self.new }
         ensures err { OnErr result (self.new ≡ self.old) }
     {
-        let (client, turn) = self.handed(alloc, n, answer, first)?;
-        *self = client;
+        let (change, turn) = self.handed(alloc, n, answer, first)?;
+        self.take(change);
         Ok(turn)
     }
 
     /// Notifies the client that request `n`, which it awaits, won't be answered. What it sends at this goes out
-    /// under the numbers from `first` on, in their order.
+    /// under the numbers from `first` on, in their order. Takes no memory where that is nothing and the call goes on.
     pub fn give_up(&mut self, alloc: Global, n: u32, first: u32) -> Result<Turn, AllocError>
         requires told { CanLearn self.old n first }
         requires first { first < 2 ^ 31 }
@@ -97,105 +100,49 @@ impl Client {
         ensures same { IsSameClient self.old self.new }
         ensures err { OnErr result (self.new ≡ self.old) }
     {
-        let (client, turn) = self.gave_up(alloc, n, first)?;
-        *self = client;
+        let (change, turn) = self.gave_up(alloc, n, first)?;
+        self.take(change);
         Ok(turn)
     }
 
-    /// The client once it has begun a call, and its turn, for a caller that has more memory to take before it changes.
-    pub fn begun(&self, alloc: Global, call: Call, first: u32) -> Result<(Client, Turn), AllocError>
-        requires begin { CanBegin self.now }
-        requires within { IsWithin call }
-        requires first { first < 2 ^ 31 }
-
-        ensures ok { IfOk result (λ after. Begins self.now after.0 first call after.1) }
-        ensures same { IfOk result (λ after. IsSameClient self.now after.0) }
+    /// Changes as an event has it. Takes no memory.
+    pub fn take(&mut self, change: Change)
+        requires { CanChange self.old change }
+        ensures { self.new ≡ changed self.old change }
     {
-        let name = PutName {
-            session: self.session,
-            seq: self.calls + 1,
-        };
-        let mut run = Run::start(alloc, &self.config, name, call, self.round)?;
-        let send = run.open(alloc, &self.config, first)?;
-        let turn = Turn { send, answer: None };
-        Ok((self.with_run(self.calls + 1, run.round, Some(run)), turn))
-    }
-
-    /// The client once a reply of request `n`, which it awaits, was handed to it, and its turn, for a caller that has more
-    /// memory to take before it changes.
-    pub fn handed(
-        &self,
-        alloc: Global,
-        n: u32,
-        answer: &Reply,
-        first: u32,
-    ) -> Result<(Client, Turn), AllocError>
-        requires told { CanLearn self.now n first }
-        requires first { first < 2 ^ 31 }
-
-        ensures ok { IfOk result (λ after. Extends self.now after.0 n first (λ a. Handed a (as_heard (written_by a.op) answer.now)) after.1) }
-        ensures same { IfOk result (λ after. IsSameClient self.now after.0) }
-    {
-        let mut run = self.copy_run()?;
-        let at = run.site_of(n);
-        run.note_reply(alloc, at, answer)?;
-        self.take_turn(alloc, run, first)
-    }
-
-    /// The client once it was told that request `n`, which it awaits, won't be answered, and its turn, for a caller that
-    /// has more memory to take before it changes.
-    pub fn gave_up(&self, alloc: Global, n: u32, first: u32) -> Result<(Client, Turn), AllocError>
-        requires told { CanLearn self.now n first }
-        requires first { first < 2 ^ 31 }
-
-        ensures ok { IfOk result (λ after. Extends self.now after.0 n first (λ a. GaveUp a) after.1) }
-        ensures same { IfOk result (λ after. IsSameClient self.now after.0) }
-    {
-        let mut run = self.copy_run()?;
-        let at = run.site_of(n);
-        run.note_give_up(at);
-        self.take_turn(alloc, run, first)
-    }
-
-    /// The client once its running call has acted, and its turn: `run` is the call with what it was told.
-    fn take_turn(&self, alloc: Global, run: Run, first: u32) -> Result<(Client, Turn), AllocError>
-        requires config { IsConfig self.now.config }
-        requires first { first < 2 ^ 31 }
-        requires round { run.round < 2 ^ 31 + first }
-        requires ready { IsReady self.now.config run }
-
-        ensures ok { IfOk result (λ after. HasActed self.now after.0 run first after.1) }
-        ensures same { IfOk result (λ after. IsSameClient self.now after.0) }
-    {
-        let mut run = run;
-        let turn = run.take_turn(alloc, &self.config, first)?;
-        Ok((
-            self.with_run(self.calls, run.round, going_on(run, &turn)),
-            turn,
-        ))
-    }
-
-    /// The client of the same session, with so many calls, this round and this running call.
-    fn with_run(&self, calls: u32, round: u32, run: Option<Run>) -> Client
-        ensures { result ≡ record self.now { calls = calls; round = round; run = run } }
-    {
-        Client {
-            config: self.config,
-            session: self.session,
-            calls,
-            round,
-            run,
+        match change {
+            Change::Runs {
+                calls,
+                round,
+                running,
+            } => {
+                self.calls = calls;
+                self.round = round;
+                self.running = running;
+            },
+            Change::Counts { n, counts } => self.count(n, counts),
+            Change::Keeps { n, came } => self.keep(n, came),
         }
     }
 
-    /// A copy of the running call.
-    fn copy_run(&self) -> Result<Run, AllocError>
-        requires { IsSome self.now.run }
-        ensures { IfOk result (λ run. self.now.run ≡ Some run) }
+    /// Awaits the request that stores a fragment no more, and has other counters.
+    fn count(&mut self, n: u32, counts: Storing)
+        ensures { self.new ≡ changed self.old (Change.Counts n counts) }
     {
-        match &self.run {
-            None => unreachable!(),
-            Some(run) => run.copy(),
+        match &mut self.running {
+            Some(running) => running.count(n, counts),
+            None => {},
+        }
+    }
+
+    /// Awaits the request that reads a fragment no more, and keeps what came of it.
+    fn keep(&mut self, n: u32, came: Came)
+        requires { CanChange self.old (Change.Keeps n came) }
+        ensures { self.new ≡ changed self.old (Change.Keeps n came) }
+    {
+        match &mut self.running {
+            Some(running) => running.keep(n, came),
+            None => {},
         }
     }
 
@@ -203,48 +150,6 @@ impl Client {
     pub fn runs(&self) -> bool
         ensures { (next : ℕ) (ts : List Trace) → Holds self.now next ts → (IsTrue result ↔ IsRunning ts) }
     {
-        self.run.is_some()
-    }
-
-    /// How many requests are awaited. Takes no memory.
-    pub fn live_count(&self) -> u32
-        ensures { (next : ℕ) (ts : List Trace) → Holds self.now next ts → result ≡ live_count self.now.config ts }
-    {
-        match &self.run {
-            None => 0,
-            Some(run) => saturated(run.live_count()),
-        }
-    }
-
-    /// The `i`-th lowest number of the requests that are awaited, counted from 0. Takes no memory.
-    pub fn live_at(&self, i: u32) -> Option<u32>
-        ensures { (next : ℕ) (ts : List Trace) → Holds self.now next ts → IsLiveAtIn self.now.config ts i result }
-    {
-        match &self.run {
-            None => None,
-            Some(run) => run.live_at(i),
-        }
-    }
-}
-
-/// The call that goes on where it wasn't answered.
-fn going_on(run: Run, turn: &Turn) -> Option<Run>
-    ensures { result ≡ going_on run turn.now.answer }
-{
-    if turn.answer.is_some() {
-        None
-    } else {
-        Some(run)
-    }
-}
-
-/// A count as a number of 32 bits, of which a call's never needs more.
-fn saturated(count: usize) -> u32
-    ensures { count < 2 ^ 32 → result ≡ count }
-{
-    if count < 1 << 32 {
-        count as u32
-    } else {
-        u32::MAX
+        self.running.is_some()
     }
 }

@@ -3,6 +3,8 @@
 
 pub mod client;
 mod law;
+pub mod running;
 
 pub use client::Client;
 pub use law::ends_exactly;
+pub use running::{Change, Running};

@@ -7,7 +7,7 @@ use Rattle.gz_client.specs.declared.client.Client.{Client}
 use Rattle.gz_client.specs.Traces.{Holds, CanLearn, Extends, live}
 use Rattle.gz_client_tests.specs.Holding.{IsHeld}
 use Rattle.gz_client.proofs.Holding.{can_be_told}
-use Rattle.gz_client.proofs.Live.{live_when}
+use Rattle.gz_client.proofs.LiveRequests.{live_when}
 
 -- a client may learn of a request that it awaits, by its own word
 pub told_when : (client : Client) (n first calls : ℕ) (awaits : Bool) → IsHeld client calls first → ((next : ℕ) (ts : List Trace) → Holds client next ts → awaits ≡ nat_lt 0 (live client.config (λ m. m == n) ts)) → awaits ≡ true → CanLearn client n first

@@ -1,11 +1,13 @@
-//! Three sites, of which each stores a row, and the requests that were sent to them.
+//! Three sites, of which each stores a row and the records of fragments, and the requests that were sent to them.
 ghost use Rattle.std.specs.Prelude.{◌+◌, ◌<◌, ◌≤◌, ◌≡◌, length, IfOk};
 
 use crate::answers::{Answered, answered_of};
 use gz_accept::{fast_vote, promise};
 use gz_core::{
-    Ballot, Etag, Items, Op, Out, PutName, PutValue, Reply, Row, Session, Turn, Value, Version,
+    Ballot, BlobName, Config, Etag, Items, Key, Op, Out, PutName, PutValue, Reply, Row, Session,
+    Turn, Value, Version,
 };
+use gz_data::{Made, make};
 use std::alloc::{AllocError, Global};
 
 /// Why a scene can't go on.
@@ -52,22 +54,39 @@ struct Sent {
     replies: Vec<Reply>,
 }
 
-/// What the sites store, and what was sent to them.
+/// The record of a fragment that a site stores.
+#[derive(Drop)]
+struct Blob {
+    name: BlobName,
+    bytes: Items<u8>,
+}
+
+/// What a site stores.
+#[derive(Drop)]
+struct Place {
+    row: Option<Stored>,
+    blobs: Vec<Blob>,
+}
+
+/// What the sites store, and what was sent to them. The fragments of another session's put lie at the sites from the start.
 #[derive(Drop)]
 pub struct Network {
-    rows: Vec<Option<Stored>>,
+    another: PutValue,
+    sites: Vec<Place>,
     sent: Vec<Sent>,
 }
 
 impl Network {
     /// Three sites without a row.
-    pub fn new(alloc: Global) -> Result<Network, AllocError> {
-        let mut rows = Vec::new(alloc);
-        for _ in 0..3 {
-            rows.push(None)?;
-        }
+    pub fn new(alloc: Global) -> Result<Network, Stuck> {
+        let Some(key) = Key::new(Vec::from_slice(alloc, b"a")?) else {
+            return Err(Stuck("no key"));
+        };
+        let name = name_of_another();
+        let Made { put, records } = make(alloc, &Config::DEFAULT, name, &key, &[7])?;
         Ok(Network {
-            rows,
+            another: put,
+            sites: places_with(alloc, &key, records)?,
             sent: Vec::new(alloc),
         })
     }
@@ -129,10 +148,10 @@ impl Network {
     fn deliver(&mut self, number: u32) -> Result<(), Stuck> {
         let at = self.place(number)?;
         let site = self.sent[at].out.site.index();
-        if site >= self.rows.len() {
+        if site >= self.sites.len() {
             return Err(Stuck("no site"));
         }
-        let reply = perform(&mut self.rows[site], &self.sent[at].out.op)?;
+        let reply = perform(&mut self.sites[site], &self.sent[at].out.op)?;
         if self.sent[at].replies.push(reply).is_err() {
             return Err(Stuck("out of memory"));
         }
@@ -154,21 +173,21 @@ impl Network {
 
     /// Has another session's put vote at a site that has no row.
     fn vote(&mut self, alloc: Global, site: usize) -> Result<(), Stuck> {
-        if site >= self.rows.len() {
+        if site >= self.sites.len() {
             return Err(Stuck("no site"));
         }
-        let row = voted_row(alloc)?;
+        let row = voted_row(alloc, &self.another)?;
         let etag = Etag(1);
-        self.rows[site] = Some(Stored { etag, row });
+        self.sites[site].row = Some(Stored { etag, row });
         Ok(())
     }
 
     /// Has another session's put promise its ballot at a site that has a row.
     fn promise(&mut self, site: usize) -> Result<(), Stuck> {
-        if site >= self.rows.len() {
+        if site >= self.sites.len() {
             return Err(Stuck("no site"));
         }
-        match &mut self.rows[site] {
+        match &mut self.sites[site].row {
             None => Err(Stuck("no row")),
             Some(stored) => Ok(promise_in(stored)?),
         }
@@ -183,11 +202,36 @@ fn name_of_another() -> PutName {
     }
 }
 
-/// A row in which another session's put has voted at version 1.
-fn voted_row(alloc: Global) -> Result<Row, AllocError> {
+/// Sites without a row, which store the fragments of another session's put.
+fn places_with(
+    alloc: Global,
+    key: &Key,
+    records: Vec<Items<u8>>,
+) -> Result<Vec<Place>, AllocError> {
+    let mut sites = Vec::new(alloc);
+    let mut index = 0u8;
+    for bytes in records {
+        sites.push(place_with(alloc, key, index, bytes)?)?;
+        index = index.wrapping_add(1);
+    }
+    Ok(sites)
+}
+
+/// A site without a row, which stores a fragment of another session's put.
+fn place_with(alloc: Global, key: &Key, index: u8, bytes: Items<u8>) -> Result<Place, AllocError> {
+    let key = key.clone()?;
     let name = name_of_another();
-    let bytes = Items::from_slice(alloc, &[7])?;
-    let value = Value::Put(PutValue { name, bytes });
+    let mut blobs = Vec::new(alloc);
+    blobs.push(Blob {
+        name: BlobName { key, name, index },
+        bytes,
+    })?;
+    Ok(Place { row: None, blobs })
+}
+
+/// A row in which another session's put has voted at version 1.
+fn voted_row(alloc: Global, put: &PutValue) -> Result<Row, AllocError> {
+    let value = Value::Put(put.clone()?);
     let mut row = Row::empty(alloc);
     fast_vote(&mut row, Version(1), &value)?;
     Ok(row)
@@ -204,13 +248,36 @@ fn promise_in(stored: &mut Stored) -> Result<(), AllocError> {
     Ok(())
 }
 
-/// What a site does: it stores rows, and fails at blobs.
-fn perform(stored: &mut Option<Stored>, op: &Op) -> Result<Reply, AllocError> {
+/// What a site does.
+fn perform(site: &mut Place, op: &Op) -> Result<Reply, AllocError> {
     match op {
-        Op::ReadRow { .. } => read(stored),
-        Op::WriteRow { expect, row, .. } => write(stored, *expect, row),
-        _ => Ok(Reply::Failed),
+        Op::ReadRow { .. } => read(&site.row),
+        Op::WriteRow { expect, row, .. } => write(&mut site.row, *expect, row),
+        Op::PutBlob { name, bytes } => put_blob(&mut site.blobs, name, bytes),
+        Op::GetBlob { name } => get_blob(site.blobs.as_slice(), name),
+        Op::DropBlob { .. } => Ok(Reply::Failed),
     }
+}
+
+fn put_blob(
+    blobs: &mut Vec<Blob>,
+    name: &BlobName,
+    bytes: &Items<u8>,
+) -> Result<Reply, AllocError> {
+    let name = name.clone()?;
+    let bytes = bytes.clone()?;
+    blobs.push(Blob { name, bytes })?;
+    Ok(Reply::Stored)
+}
+
+fn get_blob(blobs: &[Blob], name: &BlobName) -> Result<Reply, AllocError> {
+    for blob in blobs {
+        if blob.name == *name {
+            let bytes = blob.bytes.clone()?;
+            return Ok(Reply::Blob { bytes });
+        }
+    }
+    Ok(Reply::NoBlob)
 }
 
 fn read(stored: &Option<Stored>) -> Result<Reply, AllocError> {

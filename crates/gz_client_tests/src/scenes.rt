@@ -31,122 +31,93 @@ const SCENES: &'static [Scene] = &[
         about: "once three sites have voted for it",
         kind: Kind::Put,
         tries: 8,
-        moves: &[Take(1), Take(2), Take(3), Take(4), Take(5), Take(6)],
+        moves: &[
+            Take(4),
+            Take(5),
+            Take(1),
+            Take(2),
+            Take(3),
+            Take(7),
+            Take(8),
+            Take(9),
+        ],
         answered: Answered::Ok(1),
-        sent: 9,
+        sent: 12,
     },
     Scene {
         about: "after another's, of which every site holds a vote",
         kind: Kind::Put,
         tries: 8,
         moves: &[
+            Take(4),
+            Take(5),
             Vote(0),
             Vote(1),
             Vote(2),
             Take(1),
             Take(2),
             Take(3),
-            Take(4),
-            Take(5),
-            Take(6),
+            Take(7),
+            Take(8),
+            Take(9),
         ],
         answered: Answered::Ok(2),
-        sent: 9,
+        sent: 12,
     },
     Scene {
         about: "a vote that is delivered twice counts once: its site is read again, and shows it",
         kind: Kind::Put,
         tries: 8,
         moves: &[
+            Take(4),
+            Take(5),
             Take(1),
             Take(2),
-            Deliver(4),
-            Deliver(4),
-            Reply(4, 2),
-            Take(6),
-            Take(5),
+            Deliver(7),
+            Deliver(7),
+            Reply(7, 2),
+            Take(9),
+            Take(8),
             Take(3),
-            Take(7),
+            Take(10),
         ],
         answered: Answered::Ok(1),
-        sent: 10,
+        sent: 13,
     },
     Scene {
         about: "another's vote at a site stands in the way",
         kind: Kind::Put,
         tries: 8,
         moves: &[
+            Take(4),
+            Take(5),
             Take(1),
             Take(2),
             Vote(0),
-            Take(4),
-            Take(6),
-            Take(5),
-            GiveUp(3),
             Take(7),
-            Take(8),
             Take(9),
+            Take(8),
+            GiveUp(3),
             Take(10),
+            Take(11),
+            Take(12),
+            Take(13),
         ],
         answered: Answered::Ok(1),
-        sent: 12,
+        sent: 15,
     },
     Scene {
         about: "over two sites, by a classic ballot",
         kind: Kind::Put,
         tries: 8,
         moves: &[
+            Take(4),
+            Take(5),
             Take(1),
             Take(2),
             GiveUp(3),
-            Take(4),
-            Take(5),
-            Take(6),
             Take(7),
             Take(8),
-            Take(9),
-        ],
-        answered: Answered::Ok(1),
-        sent: 11,
-    },
-    Scene {
-        about: "another's votes may be a fast quorum's, and force its value",
-        kind: Kind::Put,
-        tries: 8,
-        moves: &[
-            Vote(0),
-            Vote(1),
-            Take(1),
-            Take(2),
-            GiveUp(3),
-            Take(4),
-            Take(5),
-            Take(6),
-            Take(7),
-            Take(8),
-            Take(9),
-            Take(10),
-            Take(11),
-            Take(12),
-            Take(13),
-        ],
-        answered: Answered::Ok(2),
-        sent: 15,
-    },
-    Scene {
-        about: "a ballot above its own is heard, and it prepares again",
-        kind: Kind::Put,
-        tries: 8,
-        moves: &[
-            Take(1),
-            Take(2),
-            GiveUp(3),
-            Take(4),
-            Take(5),
-            Promise(0),
-            Take(6),
-            Take(8),
-            Take(7),
             Take(9),
             Take(10),
             Take(11),
@@ -156,35 +127,87 @@ const SCENES: &'static [Scene] = &[
         sent: 14,
     },
     Scene {
+        about: "another's votes may be a fast quorum's, and force its value",
+        kind: Kind::Put,
+        tries: 8,
+        moves: &[
+            Take(4),
+            Take(5),
+            Vote(0),
+            Vote(1),
+            Take(1),
+            Take(2),
+            GiveUp(3),
+            Take(7),
+            Take(8),
+            Take(9),
+            Take(10),
+            Take(11),
+            Take(12),
+            Take(13),
+            Take(14),
+            Take(15),
+            Take(16),
+        ],
+        answered: Answered::Ok(2),
+        sent: 18,
+    },
+    Scene {
+        about: "a ballot above its own is heard, and it prepares again",
+        kind: Kind::Put,
+        tries: 8,
+        moves: &[
+            Take(4),
+            Take(5),
+            Take(1),
+            Take(2),
+            GiveUp(3),
+            Take(7),
+            Take(8),
+            Promise(0),
+            Take(9),
+            Take(11),
+            Take(10),
+            Take(12),
+            Take(13),
+            Take(14),
+            Take(15),
+        ],
+        answered: Answered::Ok(1),
+        sent: 17,
+    },
+    Scene {
         about: "a site fails and another doesn't answer",
         kind: Kind::Put,
         tries: 8,
-        moves: &[Take(1), Move::Fail(2), GiveUp(3)],
+        moves: &[Take(4), Take(5), Take(1), Move::Fail(2), GiveUp(3)],
         answered: Answered::NoQuorum(1),
-        sent: 3,
+        sent: 6,
     },
     Scene {
         about: "two sites that voted don't answer",
         kind: Kind::Put,
         tries: 8,
         moves: &[
+            Take(4),
+            Take(5),
             Take(1),
             Take(2),
-            Deliver(4),
-            Deliver(5),
-            GiveUp(4),
-            GiveUp(5),
+            Deliver(7),
+            Deliver(8),
+            GiveUp(7),
+            GiveUp(8),
         ],
         answered: Answered::UnsureNoQuorum(0),
-        sent: 5,
+        sent: 8,
     },
     Scene {
         about: "another's vote came between",
         kind: Kind::Put,
         tries: 1,
-        moves: &[Take(1), Take(2), Vote(0), Take(4)],
+        moves: &[Take(4), Take(5), Take(1), Take(2), Vote(0), Take(7)],
         answered: Answered::UnsureContended(1),
-        sent: 6,
+        sent: 9,
     },
     Scene {
         about: "two sites without a row are enough",
@@ -208,9 +231,11 @@ const SCENES: &'static [Scene] = &[
             Take(5),
             Take(6),
             Take(7),
+            Take(8),
+            Take(9),
         ],
         answered: Answered::Bytes(1, OTHER, 7),
-        sent: 7,
+        sent: 10,
     },
     Scene {
         about: "the choice is free, and the lowest site with a vote has the value",
@@ -225,9 +250,11 @@ const SCENES: &'static [Scene] = &[
             Take(5),
             Take(6),
             Take(7),
+            Take(8),
+            Take(9),
         ],
         answered: Answered::Bytes(1, OTHER, 7),
-        sent: 7,
+        sent: 10,
     },
     Scene {
         about: "a second ballot looks back at the vote of a site that is out by then",
@@ -251,9 +278,11 @@ const SCENES: &'static [Scene] = &[
             Take(12),
             Take(13),
             Take(14),
+            Take(15),
+            Take(16),
         ],
         answered: Answered::Bytes(1, OTHER, 7),
-        sent: 14,
+        sent: 17,
     },
 ];
 
@@ -270,13 +299,17 @@ impl Driver {
     }
 
     /// The answers of a call that is chosen once three sites have voted for it, and of a get after it.
-    fn write_and_read(&mut self, alloc: Global, kind: Kind) -> Result<[Answered; 2], Stuck>
+    fn write_and_read(
+        &mut self,
+        alloc: Global,
+        kind: Kind,
+        moves: &[Move],
+        later: &[Move],
+    ) -> Result<[Answered; 2], Stuck>
         requires { IsHeld self.old.client self.old.calls self.old.first }
     {
-        let moves = [Take(1), Take(2), Take(3), Take(4), Take(5), Take(6)];
-        let written = self.run(alloc, kind, &moves)?;
-        let later = [Take(10), Take(11), Take(12)];
-        let read = self.run(alloc, Kind::Get, &later)?;
+        let written = self.run(alloc, kind, moves)?;
+        let read = self.run(alloc, Kind::Get, later)?;
         Ok([written, read])
     }
 
@@ -319,10 +352,30 @@ fn calls_end_as_told(rt: HostRuntime) -> Result<(), std::test::Fail> {
     Ok(())
 }
 
-/// The answers of a call of a kind and of a get after it.
-fn then_get(alloc: Global, kind: Kind) -> Result<[Answered; 2], Stuck> {
+/// The answers of a put and of a get after it.
+fn put_then_get(alloc: Global) -> Result<[Answered; 2], Stuck> {
+    let moves = [
+        Take(1),
+        Take(2),
+        Take(3),
+        Take(4),
+        Take(5),
+        Take(6),
+        Take(7),
+        Take(8),
+        Take(9),
+    ];
+    let later = [Take(13), Take(14), Take(15), Take(18), Take(16)];
     let mut driver = Driver::new(alloc, 8)?;
-    driver.write_and_read(alloc, kind)
+    driver.write_and_read(alloc, Kind::Put, &moves, &later)
+}
+
+/// The answers of a delete and of a get after it.
+fn delete_then_get(alloc: Global) -> Result<[Answered; 2], Stuck> {
+    let moves = [Take(1), Take(2), Take(3), Take(4), Take(5), Take(6)];
+    let later = [Take(10), Take(11), Take(12)];
+    let mut driver = Driver::new(alloc, 8)?;
+    driver.write_and_read(alloc, Kind::Delete, &moves, &later)
 }
 
 /// What a client shows of the requests that it awaits: whether a call runs, how many they are, the first two, and
@@ -347,8 +400,8 @@ fn awaited(alloc: Global) -> Result<Awaited, Stuck> {
 fn gets_after_writes_and_what_a_get_awaits(rt: HostRuntime) {
     let read = Answered::Bytes(1, OWN, 0x0102);
     let gone = Answered::Gone(1, OWN);
-    assert!(rt; then_get(rt.alloc(), Kind::Put).ok() == Some([Answered::Ok(1), read]));
-    assert!(rt; then_get(rt.alloc(), Kind::Delete).ok() == Some([Answered::Ok(1), gone]));
+    assert!(rt; put_then_get(rt.alloc()).ok() == Some([Answered::Ok(1), read]));
+    assert!(rt; delete_then_get(rt.alloc()).ok() == Some([Answered::Ok(1), gone]));
     let awaits = [true, false, true];
     assert!(rt; awaited(rt.alloc()).ok() == Some((true, 2, [Some(1), Some(3)], awaits)));
 }

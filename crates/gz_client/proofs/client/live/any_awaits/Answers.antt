@@ -1,14 +1,14 @@
-use Rattle.std.proofs.Common.{length, refl, sym, ◌∙◌, arith}
-use Rattle.std.proofs.lemmas.Option.{slice_get_read}
-use Rattle.gz_round.specs.Awaiting.{has_number}
-use Rattle.gz_round.proofs.Lists.{any_skip, any_told, any_whole}
+use Rattle.std.proofs.Common.{◌==◌, ◌∙◌, sym, ap}
+use Rattle.std.specs.Prelude.{nat_lt}
+use Rattle.gz_client.specs.Lowest.{marks_live}
+use Rattle.gz_client.proofs.Kept.{kept_by_blob, kept_by_row}
 use Rattle.gz_client.proofs.client.live.any_awaits.Goals as goal
 
-pub loop-mark-preserved : goal.loop-mark-preserved
-loop-mark-preserved c = any_skip (has_number c.args.n) c.args.marks.now c.loop-mark.mark-index c.mark-item.result (slice_get_read c.args.marks.now (length c.args.marks.now) c.loop-mark.mark-index c.mark-item.result refl (omega arith) c.mark-item.is) (sym c.has_number.ensures ∙ c.if-has_number.false) c.loop-mark.invariant
+pub returns-then-awaits_blob : goal.returns-then-awaits_blob
+returns-then-awaits_blob c = c.if-awaits_blob.true ∙ sym (kept_by_blob c.args.running.now c.args.n (sym c.awaits_blob.ensures ∙ c.if-awaits_blob.true))
 
-pub returns-then-has_number : goal.returns-then-has_number
-returns-then-has_number c = sym (any_told (has_number c.args.n) c.args.marks.now c.loop-mark.mark-index c.mark-item.result (slice_get_read c.args.marks.now (length c.args.marks.now) c.loop-mark.mark-index c.mark-item.result refl (omega arith) c.mark-item.is) (sym c.has_number.ensures ∙ c.if-has_number.true))
-
-pub returns : goal.returns
-returns c = sym c.loop-mark.invariant ∙ any_whole (has_number c.args.n) c.args.marks.now c.loop-mark.mark-index (omega arith)
+pub returns-else-awaits_blob : goal.returns-else-awaits_blob
+returns-else-awaits_blob c =
+    c.any_row_awaits.ensures
+    ∙ (ap (λ o. nat_lt 0 (marks_live (λ m. m == c.args.n) o)) c.rows.ensures
+    ∙ kept_by_row c.args.running.now c.args.n (sym c.awaits_blob.ensures ∙ c.if-awaits_blob.false))
