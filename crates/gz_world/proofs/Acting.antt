@@ -10,7 +10,8 @@ use Rattle.gz_config.specs.declared.Config.{Config}
 use Rattle.gz_core.specs.declared.requests.Out.{Out}
 use Rattle.gz_core.specs.declared.requests.Turn.{Turn}
 use Rattle.gz_core.specs.declared.values.Value.{Value}
-use Rattle.gz_core.specs.History.{Asked, Action, Trace, begun, turned, sent_from}
+use Rattle.gz_core.specs.History.{Asked, Action, Caller, Trace, begun, turned}
+use Rattle.gz_client.specs.Openings.{IsOpening}
 use Rattle.gz_client.specs.declared.client.Client.{Client}
 use Rattle.gz_client.specs.Traces.{Holds, AllKeepRules, IsAwaited}
 use Rattle.gz_history.specs.declared.record.CallRec.{CallRec}
@@ -27,8 +28,9 @@ use Rattle.gz_world.specs.declared.world.Member.{Member}
 use Rattle.gz_world.specs.declared.world.World.{World}
 use Rattle.gz_world.proofs.Places.{get_set_same, get_set_other, get_below, get_last}
 use Rattle.gz_world.proofs.Members.{numbered_place, place_numbered, member_stands}
+use Rattle.gz_world.proofs.Addressing.{sent_to_sites}
 use Rattle.gz_world.proofs.Telling.{live_found}
-use Rattle.gz_world.proofs.Turning.{NamesStay, names_append, names_answered, stands_more, traces_same, traces_other, ArePlaced, placed_append, placed_set, placed_sent, allowed_sent, allowed_closed, outs_heavy, crashed_stays}
+use Rattle.gz_world.proofs.Turning.{NamesStay, names_append, names_answered, stands_more, traces_same, traces_other, ArePlaced, placed_append, placed_set, placed_sent, outs_heavy, crashed_stays}
 
 -- the facts of a client's turn that keep a world in fit
 pub record IsTurnOf {S : Type 0} (old new : World S) (session : ℕ) (m after : Member) (ts : List Trace) : Type 0 where
@@ -161,8 +163,7 @@ told_turn told old new traces n r marked action m last c client turn effect fits
     let named : t.caller.name ≡ record { session = session; seq = length earlier + 1 } = told_by.1 in
     let name : c.name ≡ t.caller.name = name_of_last old.calls.items m.last last c t earlier b.last_is b.record_is (subst (IsLast old.calls.items m.last) is s.last_is) in
     let own : c.name.session ≡ session = ap (λ (k : Name). k.session) (name ∙ named) in
-    let allowed = allowed_closed old.cfg t.caller earlier closing (sent_from first turn.send (action a ∷ t.actions)) x.1 told_by.0.allowed in
-    let sent = (allowed_sent old.cfg t.caller earlier first turn.send (action a ∷ t.actions) allowed).1 in
+    let sent = sent_to_sites old.cfg t.caller earlier first turn.send closing (action a ∷ t.actions) fits.config x.1 told_by.0.allowed told_by.0.blobs in
     let grown : length (map request_of new.net.items) ≡ length (map request_of old.net.items) + length turn.send = length_after (map request_of old.net.items) (map request_of new.net.items) (n - 1) marked c.name tick turn.send b.net in
     let heavy = outs_heavy turn.send in
     let weighed = fits.weighs in
@@ -181,7 +182,7 @@ told_turn told old new traces n r marked action m last c client turn effect fits
         holds = x.2;
         config_is = config;
         session_is = number;
-        last_is = (answered tick turn.answer c, (turned first turn (action a) closing t, (earlier, (subst (λ xs. slice_get xs last ≡ Some (answered tick turn.answer c)) (sym b.calls) (get_set_same old.calls.items last c (answered tick turn.answer c) b.record_is), (refl, answered_name tick turn.answer c ∙ name)))));
+        last_is = (answered tick turn.answer c, (turned first turn (action a) closing t, (earlier, (subst (λ xs. slice_get xs last ≡ Some (answered tick turn.answer c)) (sym b.calls) (get_set_same old.calls.items last c (answered tick turn.answer c) b.record_is), (refl {a = ts}, answered_name tick turn.answer c ∙ name)))));
       };
       requests = subst (ArePlaced old.cfg.n (length old.clients.items)) (sym b.net)
           (placed_append old.cfg.n (length old.clients.items) (slice_set (map request_of old.net.items) (n - 1) marked) (sent_requests c.name tick turn.send)
@@ -206,7 +207,7 @@ told_turn told old new traces n r marked action m last c client turn effect fits
             moves = record {
               sessions = ap length b.clients ∙ length-set old.clients.items (session - 1) after;
               crashed = λ k. ap (λ xs. crashed_in xs k) b.clients ∙ crashed_stays old.clients.items (session - 1) m after b.member refl k;
-              traces = λ k. refl;
+              traces = λ k. refl {a = with_traces traces session ts k};
               told = told_by;
             };
             calls = (last, (c, (b.record_is, (name, b.calls))));
@@ -236,14 +237,16 @@ begun_turn told old new traces session call effect fits small began =
     let after : Member = record { client = client; crashed = m.crashed; last = Some (length old.calls.items) } in
     let begins = b.holds s.next ts s.holds s.below in
     let own : Option Value = begins.0 in
+    let caller : Caller = record { name = record { session = session; seq = length ts + 1 }; call = call; own = own } in
     let more : List Trace = begun session call own first turn ts ∷ ts in
-    let holds : Holds client (first + length turn.send) more = subst (λ k. Holds client (first + length turn.send) (begun k call own first turn ts ∷ ts)) s.session_is begins.1 in
+    let holds : Holds client (first + length turn.send) more = subst (λ k. Holds client (first + length turn.send) (begun k call own first turn ts ∷ ts)) s.session_is begins.1.0 in
+    let opens : IsOpening old.cfg caller turn.send = subst (λ k. IsOpening old.cfg (begun k call own first turn ts).caller turn.send) s.session_is (subst (λ k. IsOpening k (begun m.client.session call own first turn ts).caller turn.send) s.config_is begins.1.1) in
     let config : client.config ≡ old.cfg = b.same.config_is ∙ s.config_is in
     let number : client.session ≡ session = b.same.session_is ∙ s.session_is in
     let told_by : AllKeepRules old.cfg session more = subst (λ k. AllKeepRules old.cfg k more) number (subst (λ k. AllKeepRules k client.session more) config holds.told) in
     let named : name ≡ record { session = session; seq = length ts + 1 } = b.name_is traces fits in
     let mine : name.session ≡ session = ap (λ (k : Name). k.session) named in
-    let sent = (allowed_sent old.cfg (record { name = record { session = session; seq = length ts + 1 }; call = call; own = own }) ts first turn.send [] told_by.0.allowed).1 in
+    let sent = sent_to_sites old.cfg caller ts first turn.send [] [] fits.config (inl (inl refl)) told_by.0.allowed told_by.0.blobs in
     let outs = sent_requests name tick turn.send in
     let grown : length (map request_of new.net.items) ≡ length (map request_of old.net.items) + length turn.send = ap length b.net ∙ length-append (map request_of old.net.items) outs ∙ ap (λ k. length (map request_of old.net.items) + k) (length-sent name tick turn.send) in
     let heavy = outs_heavy turn.send in
@@ -264,7 +267,7 @@ begun_turn told old new traces session call effect fits small began =
         holds = holds;
         config_is = config;
         session_is = number;
-        last_is = (rec, (begun session call own first turn ts, (ts, (subst (λ xs. slice_get xs (length old.calls.items) ≡ Some rec) (sym b.calls) (get_last old.calls.items rec), (refl, named)))));
+        last_is = (rec, (begun session call own first turn ts, (ts, (subst (λ xs. slice_get xs (length old.calls.items) ≡ Some rec) (sym b.calls) (get_last old.calls.items rec), (refl {a = more}, named)))));
       };
       requests = subst (ArePlaced old.cfg.n (length old.clients.items)) (sym b.net)
           (placed_append old.cfg.n (length old.clients.items) (map request_of old.net.items) outs fits.requests
@@ -283,10 +286,11 @@ begun_turn told old new traces session call effect fits small began =
             turn,
             record {
               within = b.within;
+              opens = opens;
               moves = record {
                 sessions = ap length b.clients ∙ length-set old.clients.items (session - 1) after;
                 crashed = λ k. ap (λ xs. crashed_in xs k) b.clients ∙ crashed_stays old.clients.items (session - 1) m after b.member refl k;
-                traces = λ k. refl;
+                traces = λ k. refl {a = with_traces traces session more k};
                 told = told_by;
               };
               calls = subst (λ (k : Name). new.calls.items ≡ old.calls.items ++ record { name = k; call = call; begin = tick; end = end_at tick turn.answer; answer = turn.answer } ∷ []) named b.calls;

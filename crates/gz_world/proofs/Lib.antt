@@ -1,4 +1,5 @@
 pub mod Acting
+pub mod Addressing
 pub mod CastOrder
 pub mod Elements
 pub mod Faults

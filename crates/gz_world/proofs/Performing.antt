@@ -5,7 +5,7 @@ use Rattle.std.specs.Prelude.{Option, IsSome, is_none, nat_le, nat_lt, option_ma
 use Rattle.std.proofs.lemmas.Bool.{cases_lt}
 use Rattle.std.proofs.lemmas.List.{length-map}
 use Rattle.std.proofs.lemmas.Option.{slice_get-map}
-use Rattle.gz_round.specs.declared.run.Run.{Run}
+use Rattle.gz_client.specs.declared.running.Running.{Running}
 use Rattle.gz_client.specs.Traces.{Holds, HoldsRun, CanBegin}
 use Rattle.gz_world.specs.declared.requests.Request.{Request}
 use Rattle.gz_world.specs.declared.world.Member.{Member}
@@ -22,7 +22,7 @@ use Rattle.gz_world.specs.Refusals.{refusal_of, session_refusal, is_running, req
 use Rattle.gz_world.specs.Fits.{IsLast, StandsFor, FitsBy, Fits, IsFitting}
 use Rattle.gz_world.specs.Reached.{IsReached, stepped}
 use Rattle.gz_world.specs.Steps.{SameState, Does, Skips, HasEffect, WorldStep, hears, quiet, session_of}
-use Rattle.gz_world.specs.Turns.{IsSmall, IsNumber, CanBeNotified, HasCall, IsSameWorld, Began, WasHanded, WasGivenUp}
+use Rattle.gz_world.specs.Turns.{IsSmall, IsNumber, CanBeNotified, HasCall, IsSameWorld, ToldBy, Began, WasHanded, WasGivenUp}
 use Rattle.gz_world.specs.Deliveries.{IsSameTold, WasDelivered, WasOpened, WasCrashed}
 use Rattle.gz_world.specs.Told.{ActsBy, StaysBy, RecordedBy, IsReported, ReportsStep, StepsBy, IsReachedBy}
 use Rattle.gz_world.specs.declared.events.Applied.{Applied}
@@ -91,10 +91,10 @@ opened_by sessions crashed session h =
     let o = open_test (nat_le 1 session) (nat_le session sessions) (not_false (is_open sessions session) t.0) in
     (le_by 1 session o.0, le_by session sessions o.1)
 
-no_run : (c : Config) (next : ℕ) (run : Option Run) (ts : List Trace) → HoldsRun c next run ts → is_running ts ≡ false → run ≡ None
+no_run : (c : Config) (next : ℕ) (running : Option Running) (ts : List Trace) → HoldsRun c next running ts → is_running ts ≡ false → running ≡ None
 no_run c next None ts h idle = refl
-no_run c next (Some run) [] h idle = absurd h
-no_run c next (Some run) (t ∷ ts) h idle = let e : is_none t.answer ≡ true = ap is_none h.0 in let bad : true ≡ false = sym e ∙ idle in cc
+no_run c next (Some running) [] h idle = absurd h
+no_run c next (Some running) (t ∷ ts) h idle = let e : is_none t.answer ≡ true = ap is_none h.0 in let bad : true ≡ false = sym e ∙ idle in cc
 
 busy_none : (b : Bool) → (if b then Some skips.Busy else None) ≡ None → b ≡ false
 busy_none true h = cc
@@ -114,7 +114,7 @@ begin_ready told w traces session call fits small none =
           let few = fits.few session in
           let events = small.events in
           let calls = s.holds.calls_are in
-          record { idle = no_run m.client.config s.next m.client.run (traces session) s.holds.run_is idle; few = omega (arith, few, events, calls); sizes = s.holds.sizes },
+          record { idle = no_run m.client.config s.next m.client.running (traces session) s.holds.run_is idle; few = omega (arith, few, events, calls); sizes = s.holds.sizes },
     )
 
 some_by : (s : State) (n : ℕ) (o : Option RequestAt) → request_refusal s n o ≡ None → (r : RequestAt) × (o ≡ Some r)
@@ -185,12 +185,17 @@ pub hand_acts : {S : Type 0} (told : S → Option Told) (old new : World S) (n w
 hand_acts told old new n which effect small allowed h = λ traces fits.
     let r = h.0 in
     let reply = h.1.0 in
+    let m = h.1.1.0 in
     let by = h.1.1.1.1.1.1.1.1 in
+    let marked = with_handed (length old.journal.items + 1) which r in
     let s = state_of told traces old in
     let none = allowed traces fits in
     let first = first_none (request_refusal s n (numbered (map request_of old.net.items) n)) (reply_refusal which (numbered (map request_of old.net.items) n)) none in
     let tells = subst (λ o. request_refusal s n o ≡ None) by.request first in
-    let k = told_turn told old new traces n r (with_handed (length old.journal.items + 1) which r) (hears reply.1) h.1.1.0 h.1.1.1.0 h.1.1.1.1.0 h.1.1.1.1.1.0 h.1.1.1.1.1.1.0 effect fits small refl refl (may_be_told s n r tells) by in
+    let placed = fits.requests (n - 1) r (numbered_place (map request_of old.net.items) n r by.request).1 in
+    let stands = member_stands old traces r.name.session m fits (place_numbered old.clients.items r.name.session m placed.opened by.member) in
+    let heard = subst (λ (c : Config). ToldBy old new n r marked (hears c.n reply.1) m h.1.1.1.0 h.1.1.1.1.0 h.1.1.1.1.1.0 h.1.1.1.1.1.1.0 effect) stands.config_is by in
+    let k = told_turn told old new traces n r marked (hears old.cfg.n reply.1) m h.1.1.1.0 h.1.1.1.1.0 h.1.1.1.1.1.0 h.1.1.1.1.1.1.0 effect fits small refl refl (may_be_told s n r tells) heard in
     (k.1.0, (k.1.1.0, acts_done s (events.Reply n which) effect (state_of told k.1.0 new) none (r, (reply, (k.0, (h.1.1.1.1.1.1.1.0, k.1.1.1))))))
 
 pub give_up_acts : {S : Type 0} (told : S → Option Told) (old new : World S) (n : ℕ) (effect : Effect) → IsSmall old → IsAllowedIn told old (events.GiveUp n) → WasGivenUp old new n effect → ActsBy told old (events.GiveUp n) new effect

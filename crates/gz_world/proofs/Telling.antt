@@ -4,7 +4,7 @@ use Rattle.std.specs.Prelude.{Option, not, is_some, if◌then◌else◌}
 use Rattle.gz_core.specs.History.{Asked, Trace}
 use Rattle.gz_client.specs.declared.client.Client.{Client}
 use Rattle.gz_client.specs.Traces.{Holds, IsAwaited}
-use Rattle.gz_client.proofs.Live.{live_when}
+use Rattle.gz_client.proofs.LiveRequests.{live_when}
 use Rattle.gz_world.specs.States.{RequestAt, State}
 use Rattle.gz_world.specs.Refusals.{is_live, request_refusal}
 use Rattle.gz_world.specs.declared.events.Skip.{Skip}

@@ -7,8 +7,7 @@ use Rattle.gz_config.specs.declared.Config.{Config}
 use Rattle.gz_core.specs.declared.requests.Op.{Op}
 use Rattle.gz_core.specs.declared.requests.Op.TheVariants as ops
 use Rattle.gz_core.specs.declared.requests.Out.{Out}
-use Rattle.gz_core.specs.History.{Action, Sent, GaveIn, Caller, Trace, IsClosing, asked_of, sent_from}
-use Rattle.gz_round.specs.Sending.{AreAllowed}
+use Rattle.gz_core.specs.History.{Trace}
 use Rattle.gz_history.specs.declared.record.CallRec.{CallRec}
 use Rattle.gz_world.specs.States.{RequestAt, with_traces, sent_requests, sent_request}
 use Rattle.gz_world.specs.Bridge.{crashed_in}
@@ -93,21 +92,6 @@ pub placed_sent : (n sessions : ℕ) (name : Name) (tick : ℕ) (outs : List Out
 placed_sent n sessions name tick outs opened session sites i r h =
     let k = get_mapped (sent_request name tick) outs i r h in
     subst (IsAddressed n sessions) k.1.1 (record { opened = opened; session = session; site = sites i k.0 k.1.0 })
-
-site_of : (c : Config) (out : Out) (outs : List Out) → out.site < c.n → ((j : ℕ) (o : Out) → slice_get outs j ≡ Some o → o.site < c.n) → (j : ℕ) (o : Out) → slice_get (out ∷ outs) j ≡ Some o → o.site < c.n
-site_of c out outs here more zero o e = let p : out ≡ o = cc in subst (λ (k : Out). k.site < c.n) p here
-site_of c out outs here more (suc j) o e = more j o e
-
--- what is sent by the rules goes to sites of the configuration
-pub allowed_sent : (c : Config) (w : Caller) (past : List Trace) (first : ℕ) (outs : List Out) (ms : List Action) → AreAllowed c w past (sent_from first outs ms) → AreAllowed c w past ms × ((j : ℕ) (o : Out) → slice_get outs j ≡ Some o → o.site < c.n)
-allowed_sent c w past first [] ms h = (h, λ j o e. cc)
-allowed_sent c w past first (out ∷ outs) ms h =
-    let r = allowed_sent c w past (first + 1) outs (Sent (asked_of first out) ∷ ms) h in
-    (r.0.1, λ j o e. site_of c out outs r.0.0.site r.1 j o e)
-
-pub allowed_closed : (c : Config) (w : Caller) (past : List Trace) (closing ms : List Action) → IsClosing closing → AreAllowed c w past (closing ++ ms) → AreAllowed c w past ms
-allowed_closed c w past closing ms (inl e) h = subst (λ k. AreAllowed c w past (k ++ ms)) e h
-allowed_closed c w past closing ms (inr e) h = (let k : AreAllowed c w past (GaveIn ∷ ms) = subst (λ k. AreAllowed c w past (k ++ ms)) e h in k.1)
 
 -- each request weighs 64 at least
 op_heavy : (op : Op) → 64 ≤ op_weight op

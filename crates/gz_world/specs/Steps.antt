@@ -10,11 +10,12 @@ use Rattle.gz_core.specs.declared.requests.Reply.{Reply}
 use Rattle.gz_core.specs.declared.requests.Reply.TheVariants as replies
 use Rattle.gz_core.specs.declared.requests.Turn.{Turn}
 use Rattle.gz_core.specs.declared.values.Value.{Value}
-use Rattle.gz_core.specs.History.{Asked, Action, Handed, GaveUp, Trace, IsClosing, begun, turned}
+use Rattle.gz_core.specs.History.{Asked, Action, Handed, GaveUp, Trace, begun, turned}
 use Rattle.gz_round.specs.Sites.{as_heard, written_by}
 use Rattle.gz_round.specs.Starting.{IsWithin}
 use Rattle.gz_client.specs.Lowest.{IsLowestLive}
-use Rattle.gz_client.specs.Traces.{AllKeepRules, IsAwaited}
+use Rattle.gz_client.specs.Openings.{IsOpening}
+use Rattle.gz_client.specs.Traces.{AllKeepRules, IsAwaited, IsClosed}
 use Rattle.gz_site.specs.Told.{Told, Tells}
 use Rattle.gz_site.specs.Steps.{ReadRowStep, WriteRowStep, PutBlobStep, DropBlobStep}
 use Rattle.gz_site.specs.declared.sites.RowRead.TheVariants as reads
@@ -121,6 +122,7 @@ pub record SessionMoves (old : State) (session : ℕ) (ts : List Trace) (new : S
 -- a session begins a call, which is within the bounds of an object
 pub record BeginsBy (old : State) (session : ℕ) (call : Call) (own : Option Value) (turn : Turn) (effect : Effect) (new : State) : Type 0 where
   pub within : IsWithin call
+  pub opens : IsOpening old.cfg (begun session call own (next_of old) turn (old.traces session)).caller turn.send
   pub moves : SessionMoves old session (begun session call own (next_of old) turn (old.traces session) ∷ old.traces session) new
   pub calls : new.calls ≡ old.calls ++ record {
     name = record { session = session; seq = length (old.traces session) + 1 };
@@ -160,7 +162,7 @@ pub record TakesTurn (old : State) (n : ℕ) (r : RequestAt) (action : Asked →
   pub request : numbered old.net n ≡ Some r
   pub traces : old.traces r.name.session ≡ by.trace ∷ by.earlier
   pub awaited : IsAwaited old.cfg by.trace by.asked n
-  pub closing : IsClosing by.closing
+  pub closing : IsClosed by.closing
   pub moves : SessionMoves old r.name.session (turned (next_of old) by.turn (action by.asked) by.closing by.trace ∷ by.earlier) new
   pub calls : CallEnds old.calls by.trace.caller.name (tick_of old) by.turn.answer new.calls
   pub net : new.net ≡ slice_set old.net (n - 1) marked ++ sent_requests by.trace.caller.name (tick_of old) by.turn.send
@@ -169,15 +171,15 @@ pub record TakesTurn (old : State) (n : ℕ) (r : RequestAt) (action : Asked →
   pub frame : FrameStays old new
   pub effect_is : effect ≡ turn_effect old r.name.session by.turn
 
--- a call hears a reply of its request
-abbrev pub hears : Reply → Asked → Action
-hears reply a = Handed a (as_heard (written_by a.op) reply)
+-- a call over n sites hears a reply of its request
+abbrev pub hears : ℕ → Reply → Asked → Action
+hears n reply a = Handed a (as_heard n (written_by a.op) reply)
 
 -- a reply of a request is handed to its client
 abbrev pub Hands : State → ℕ → ℕ → Effect → State → Type 0
 Hands old n which effect new =
     (r : RequestAt) × ((reply : ℕ × Reply) × ((by : TurnBy) × ((numbered r.replies which ≡ Some reply)
-    × TakesTurn old n r (hears reply.1) by (with_handed (tick_of old) which r) effect new)))
+    × TakesTurn old n r (hears old.cfg.n reply.1) by (with_handed (tick_of old) which r) effect new)))
 
 -- a client learns that a request won't be answered
 abbrev pub GivesUp : State → ℕ → Effect → State → Type 0

@@ -6,6 +6,8 @@ use Rattle.gz_core.specs.declared.requests.Reply.{Reply}
 use Rattle.gz_core.specs.declared.requests.Turn.{Turn}
 use Rattle.gz_core.specs.History.{Asked, Action, GaveUp, Trace}
 use Rattle.gz_client.specs.declared.client.Client.{Client}
+use Rattle.gz_client.specs.Changes.{changed, CanChange}
+use Rattle.gz_client.specs.declared.running.Change.{Change}
 use Rattle.gz_client.specs.Traces.{IsSameClient, Begins, Extends, CanLearn}
 use Rattle.gz_history.specs.declared.record.CallRec.{CallRec}
 use Rattle.gz_world.specs.States.{RequestAt, request_of, numbered, with_handed, with_given_up, sent_requests, end_at}
@@ -52,10 +54,28 @@ pub record HasCall (calls : List CallRec) (m : Member) : Type 0 where
   pub is : m.last ≡ Some last
   pub within : last < length calls
 
+-- the client of a session may learn of a request
+abbrev pub CanLearnIn : List Member → ℕ → ℕ → ℕ → Type 0
+CanLearnIn members session n first = (m : Member) → slice_get members (session - 1) ≡ Some m → CanLearn m.client n first
+
+-- the client of a session may change so
+abbrev pub CanChangeIn : List Member → ℕ → Change → Type 0
+CanChangeIn members session change = (m : Member) → slice_get members (session - 1) ≡ Some m → CanChange m.client change
+
+-- how a client changes at a request, and its turn
+pub record MovesBy (client : Client) (n first : ℕ) (action : Asked → Action) (change : Change) (turn : Turn) : Type 0 where
+  pub extends : Extends client (changed client change) n first action turn
+  pub same : IsSameClient client (changed client change)
+  pub can : CanChange client change
+
+-- the same of the client of a session, of which the action depends on the number of sites
+abbrev pub MovesIn : List Member → ℕ → ℕ → ℕ → (ℕ → Asked → Action) → Change → Turn → Type 0
+MovesIn members session n first action change turn = (m : Member) × ((slice_get members (session - 1) ≡ Some m) × MovesBy m.client n first (action m.client.config.n) change turn)
+
 -- the client of a request may learn of it
 pub record CanBeNotified {S : Type 0} (w : World S) (n : ℕ) (r : Request) : Type 0 where
   pub opened : r.name.session ≤ length w.clients.items
-  pub tells : (m : Member) → slice_get w.clients.items (r.name.session - 1) ≡ Some m → CanLearn m.client n (length (map request_of w.net.items) + 1)
+  pub tells : CanLearnIn w.clients.items r.name.session n (length (map request_of w.net.items) + 1)
   pub running : (m : Member) → slice_get w.clients.items (r.name.session - 1) ≡ Some m → HasCall w.calls.items m
 
 -- the effect of a turn
@@ -99,7 +119,7 @@ pub record ToldBy {S : Type 0} (old new : World S) (n : ℕ) (r marked : Request
 abbrev pub WasHanded : {S : Type 0} → World S → World S → ℕ → ℕ → Effect → Type 0
 WasHanded old new n which effect =
     (r : RequestAt) × ((reply : ℕ × Reply) × ((m : Member) × ((last : ℕ) × ((c : CallRec) × ((client : Client) × ((turn : Turn) × ((numbered r.replies which ≡ Some reply)
-    × ToldBy old new n r (with_handed (length old.journal.items + 1) which r) (hears reply.1) m last c client turn effect)))))))
+    × ToldBy old new n r (with_handed (length old.journal.items + 1) which r) (hears m.client.config.n reply.1) m last c client turn effect)))))))
 
 -- a client learnt that a request won't be answered
 abbrev pub WasGivenUp : {S : Type 0} → World S → World S → ℕ → Effect → Type 0

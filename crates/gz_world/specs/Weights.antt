@@ -1,5 +1,5 @@
 -- How many bytes the world counts for what it holds.
-use Rattle.std.specs.Prelude.{ℕ, ◌+◌, ◌-◌, ◌^◌, min, length, sum_by, List, Option, Some, None}
+use Rattle.std.specs.Prelude.{ℕ, ◌+◌, ◌-◌, ◌*◌, ◌^◌, min, length, sum_by, List}
 use Rattle.gz_core.specs.Rows.{RowAt}
 use Rattle.gz_core.specs.declared.calls.Call.{Call}
 use Rattle.gz_core.specs.declared.calls.Call.TheVariants as calls
@@ -8,34 +8,14 @@ use Rattle.gz_core.specs.declared.requests.Op.TheVariants as ops
 use Rattle.gz_core.specs.declared.requests.Out.{Out}
 use Rattle.gz_core.specs.declared.requests.Reply.{Reply}
 use Rattle.gz_core.specs.declared.requests.Reply.TheVariants as replies
-use Rattle.gz_core.specs.declared.rows.Column.{Column}
-use Rattle.gz_core.specs.declared.rows.Column.TheVariants.{Open, Decided}
-use Rattle.gz_core.specs.declared.rows.Vote.{Vote}
-use Rattle.gz_core.specs.declared.values.Value.{Value}
-use Rattle.gz_core.specs.declared.values.Value.TheVariants.{Tomb, Put}
 
 -- a count of bytes, which stands still at the last value of its type
 abbrev pub capped : ℕ → ℕ
 capped n = min n (2 ^ 64 - 1)
 
--- the bytes of a value, none of a tombstone
-abbrev pub value_bytes : Value → ℕ
-value_bytes (Tomb name) = 0
-value_bytes (Put put) = length put.bytes
-
--- the bytes of the value of a vote
-abbrev pub vote_bytes : Option Vote → ℕ
-vote_bytes None = 0
-vote_bytes (Some vote) = value_bytes vote.value
-
--- a column: 64, and the bytes of its value
-abbrev pub column_weight : Column → ℕ
-column_weight (Open promise vote) = 64 + vote_bytes vote
-column_weight (Decided value) = 64 + value_bytes value
-
--- a row: 16, and its columns
+-- a row: 16, and 64 for each column
 abbrev pub row_weight : RowAt → ℕ
-row_weight row = 16 + sum_by (λ (c : ℕ × Column). column_weight c.1) row.columns
+row_weight row = 16 + 64 * length row.columns
 
 -- a request: 64, and the row or the blob that it writes
 abbrev pub op_weight : Op → ℕ

@@ -6,7 +6,8 @@ ghost use Rattle.gz_core.specs.declared.requests.Reply.{Reply};
 ghost use Rattle.gz_core.specs.History.{Trace, Asked, Action, GaveUp};
 ghost use Rattle.gz_client.specs.declared.client.Client.{Client};
 ghost use Rattle.gz_round.specs.Starting.{IsWithin};
-ghost use Rattle.gz_client.specs.Traces.{CanBegin, CanLearn, IsSameClient, Begins, Extends};
+ghost use Rattle.gz_client.specs.Traces.{CanBegin, CanLearn, IsSameClient, Begins};
+ghost use Rattle.gz_client.specs.Changes.{CanChange, changed};
 ghost use Rattle.gz_history.specs.declared.record.CallRec.{CallRec};
 ghost use Rattle.gz_world.specs.States.{RequestAt, numbered, request_of, with_handed, with_given_up, sent_requests, end_at};
 ghost use Rattle.gz_world.specs.Steps.{sent_pair, answered, hears};
@@ -14,7 +15,7 @@ ghost use Rattle.gz_world.specs.Weights.{capped, call_bytes, outs_weight};
 ghost use Rattle.gz_world.specs.Fits.{Fits, IsFitting};
 ghost use Rattle.gz_world.specs.declared.world.Member.{Member};
 ghost use Rattle.gz_world.specs.declared.requests.Request.{Request};
-ghost use Rattle.gz_world.specs.Turns.{IsSmall, IsUntouched, IsSameWorld, effect_of, IsNumber, HasCall, CanBeNotified, Started, Began, WasHanded, WasGivenUp, WentOn};
+ghost use Rattle.gz_world.specs.Turns.{IsSmall, IsUntouched, IsSameWorld, effect_of, IsNumber, HasCall, CanLearnIn, CanChangeIn, MovesBy, MovesIn, CanBeNotified, Started, Began, WasHanded, WasGivenUp, WentOn};
 
 use crate::calls::{copy_of_answer, copy_of_call, end_at, end_call};
 use crate::events::{Effect, Outcome};
@@ -22,15 +23,15 @@ use crate::lookups::item_at;
 use crate::requests::{Request, send_all};
 use crate::weights::{call_bytes, outs_weight};
 use crate::world::{Member, World};
-use gz_client::Client;
+use gz_client::{Change, Client};
 use gz_core::{Call, Out, PutName, Reply, Session, Turn};
 use gz_history::CallRec;
 use gz_site::Site;
 use std::alloc::{AllocError, Global};
 
-/// A turn of a session's client: the client after it, the turn, and what is reported of it.
+/// A turn of a session's client: how the client changes with it, the turn, and what is reported of it.
 struct Moved {
-    client: Client,
+    change: Change,
     turn: Turn,
     effect: Effect,
 }
@@ -38,7 +39,7 @@ struct Moved {
 impl Drop for Moved {
     fn drop(self) {
         let Moved {
-            client: _,
+            change: _,
             turn: _,
             effect: _,
         } = self;
@@ -47,8 +48,8 @@ impl Drop for Moved {
 
 impl Moved {
     /// A client's turn, of which the requests are reported that it sends from `first` on, and its answer.
-    fn new(session: Session, first: u32, client: Client, turn: Turn) -> Result<Moved, AllocError>
-        ensures { IfOk result (λ moved. moved ≡ record { client = client; turn = turn; effect = effect_of first session turn }) }
+    fn new(session: Session, first: u32, change: Change, turn: Turn) -> Result<Moved, AllocError>
+        ensures { IfOk result (λ moved. moved ≡ record { change = change; turn = turn; effect = effect_of first session turn }) }
     {
         let answer = copy_of_answer(&turn.answer)?;
         let effect = Effect {
@@ -58,24 +59,24 @@ impl Moved {
             answer,
         };
         Ok(Moved {
-            client,
+            change,
             turn,
             effect,
         })
     }
 
-    /// The client, the turn, and what is reported of it.
-    fn into_parts(self) -> (Client, Turn, Effect)
-        ensures client { result.0 ≡ self.client }
+    /// The client's change, the turn, and what is reported of it.
+    fn into_parts(self) -> (Change, Turn, Effect)
+        ensures change { result.0 ≡ self.change }
         ensures turn { result.1 ≡ self.turn }
         ensures told { result.2 ≡ self.effect }
     {
         let Moved {
-            client,
+            change,
             turn,
             effect,
         } = self;
-        (client, turn, effect)
+        (change, turn, effect)
     }
 }
 
@@ -111,59 +112,99 @@ fn begun(
     requires begin { CanBegin client.now }
     requires within { IsWithin call.now }
     requires first { first < 2 ^ 31 }
-    ensures holds { IfOk result (λ moved. Begins client.now moved.client first call.now moved.turn) }
-    ensures same { IfOk result (λ moved. IsSameClient client.now moved.client) }
+    ensures holds { IfOk result (λ moved. Begins client.now (changed client.now moved.change) first call.now moved.turn) }
+    ensures same { IfOk result (λ moved. IsSameClient client.now (changed client.now moved.change)) }
+    ensures can { IfOk result (λ moved. CanChange client.now moved.change) }
     ensures told { IfOk result (λ moved. moved.effect ≡ effect_of first session moved.turn) }
 {
-    let call = copy_of_call(call)?;
-    let (client, turn) = client.begun(alloc, call, first)?;
-    Moved::new(session, first, client, turn)
+    let (change, turn) = client.begun(alloc, call, first)?;
+    Moved::new(session, first, change, turn)
 }
 
-/// The turn of a client to which a reply of a request is handed, as its call hears it.
+/// The turn of a client to which a reply of a request is handed, as its call hears it. The client changes later.
 fn handed(
     alloc: Global,
     session: Session,
-    client: &Client,
+    client: &mut Client,
     n: u32,
     reply: &Reply,
     first: u32,
 ) -> Result<Moved, AllocError>
-    requires told { CanLearn client.now n first }
+    requires told { CanLearn client.old n first }
     requires first { first < 2 ^ 31 }
-    ensures holds { IfOk result (λ moved. Extends client.now moved.client n first (hears reply.now) moved.turn) }
-    ensures same { IfOk result (λ moved. IsSameClient client.now moved.client) }
+    ensures moves { IfOk result (λ moved. MovesBy client.old n first (hears client.old.config.n reply.now) moved.change moved.turn) }
+    ensures kept { client.new ≡ client.old }
     ensures told { IfOk result (λ moved. moved.effect ≡ effect_of first session moved.turn) }
 {
-    let (client, turn) = client.handed(alloc, n, reply, first)?;
-    Moved::new(session, first, client, turn)
+    let (change, turn) = client.handed(alloc, n, reply, first)?;
+    Moved::new(session, first, change, turn)
 }
 
-/// The turn of a client that learns that a request won't be answered.
+/// The same of the client of a session.
+fn handed_in(
+    alloc: Global,
+    clients: &mut Vec<Member>,
+    session: Session,
+    n: u32,
+    reply: &Reply,
+    first: u32,
+) -> Result<Moved, AllocError>
+    requires opened { session ≤ length clients.old.items }
+    requires told { CanLearnIn clients.old.items session n first }
+    requires first { first < 2 ^ 31 }
+    ensures moves { IfOk result (λ moved. MovesIn clients.old.items session n first (λ sites. hears sites reply.now) moved.change moved.turn) }
+    ensures kept { clients.new.items ≡ clients.old.items }
+    ensures told { IfOk result (λ moved. moved.effect ≡ effect_of first session moved.turn) }
+{
+    let at = session.number() as usize - 1;
+    handed(alloc, session, &mut clients[at].client, n, reply, first)
+}
+
+/// The turn of a client that learns that a request won't be answered. The client changes later.
 fn given_up(
     alloc: Global,
     session: Session,
-    client: &Client,
+    client: &mut Client,
     n: u32,
     first: u32,
 ) -> Result<Moved, AllocError>
-    requires told { CanLearn client.now n first }
+    requires told { CanLearn client.old n first }
     requires first { first < 2 ^ 31 }
-    ensures holds { IfOk result (λ moved. Extends client.now moved.client n first (λ a. GaveUp a) moved.turn) }
-    ensures same { IfOk result (λ moved. IsSameClient client.now moved.client) }
+    ensures moves { IfOk result (λ moved. MovesBy client.old n first (λ a. GaveUp a) moved.change moved.turn) }
+    ensures kept { client.new ≡ client.old }
     ensures told { IfOk result (λ moved. moved.effect ≡ effect_of first session moved.turn) }
 {
-    let (client, turn) = client.gave_up(alloc, n, first)?;
-    Moved::new(session, first, client, turn)
+    let (change, turn) = client.gave_up(alloc, n, first)?;
+    Moved::new(session, first, change, turn)
 }
 
-/// Puts another client and the place of its last call into a session.
-fn set_client(clients: &mut Vec<Member>, session: Session, client: Client, last: Option<usize>)
-    requires { session ≤ length clients.old.items }
-    ensures { (m : Member) → slice_get clients.old.items (session - 1) ≡ Some m
-        → clients.new.items ≡ slice_set clients.old.items (session - 1) (record { client = client; crashed = m.crashed; last = last }) }
+/// The same of the client of a session.
+fn given_up_in(
+    alloc: Global,
+    clients: &mut Vec<Member>,
+    session: Session,
+    n: u32,
+    first: u32,
+) -> Result<Moved, AllocError>
+    requires opened { session ≤ length clients.old.items }
+    requires told { CanLearnIn clients.old.items session n first }
+    requires first { first < 2 ^ 31 }
+    ensures moves { IfOk result (λ moved. MovesIn clients.old.items session n first (λ sites a. GaveUp a) moved.change moved.turn) }
+    ensures kept { clients.new.items ≡ clients.old.items }
+    ensures told { IfOk result (λ moved. moved.effect ≡ effect_of first session moved.turn) }
 {
-    put_client(&mut clients[session.number() as usize - 1], client, last);
+    let at = session.number() as usize - 1;
+    given_up(alloc, session, &mut clients[at].client, n, first)
+}
+
+/// Changes the client of a session, and the place of its last call.
+fn change_client(clients: &mut Vec<Member>, session: Session, change: Change, last: Option<usize>)
+    requires opened { session ≤ length clients.old.items }
+    requires can { CanChangeIn clients.old.items session change }
+    ensures { (m : Member) → slice_get clients.old.items (session - 1) ≡ Some m
+        → clients.new.items ≡ slice_set clients.old.items (session - 1) (record { client = changed m.client change; crashed = m.crashed; last = last }) }
+{
+    change_member(&mut clients[session.number() as usize - 1], change, last);
 }
 
 /// The reply of a request with a number that has one.
@@ -174,10 +215,11 @@ fn reply_of(request: &Request, which: u32) -> &(u32, Reply)
     item_at(request.replies.as_slice(), which as usize - 1)
 }
 
-fn put_client(member: &mut Member, client: Client, last: Option<usize>)
-    ensures { member.new ≡ record { client = client; crashed = member.old.crashed; last = last } }
+fn change_member(member: &mut Member, change: Change, last: Option<usize>)
+    requires { CanChange member.old.client change }
+    ensures { member.new ≡ record { client = changed member.old.client change; crashed = member.old.crashed; last = last } }
 {
-    member.client = client;
+    member.client.take(change);
     member.last = last;
 }
 
@@ -244,46 +286,48 @@ impl<S: Site> World<S> {
         copy_of_call(call)
     }
 
-    /// Sends the requests of a turn, and puts the client after it in its place. Takes no memory.
+    /// Sends the requests of a turn, and changes its client. Takes no memory.
     fn settle(
         &mut self,
         session: Session,
-        client: Client,
+        change: Change,
         last: Option<usize>,
         name: PutName,
         send: Vec<Out>,
     )
         requires opened { session ≤ length self.old.clients.items }
+        requires can { CanChangeIn self.old.clients.items session change }
         requires room { vec_len self.old.net + length send.items ≤ vec_capacity self.old.net }
         requires events { length self.old.journal.items < 4000000 }
         ensures net { map request_of self.new.net.items ≡ map request_of self.old.net.items ++ sent_requests name (length self.old.journal.items + 1) send.items }
         ensures clients { (m : Member) → slice_get self.old.clients.items (session - 1) ≡ Some m
-            → self.new.clients.items ≡ slice_set self.old.clients.items (session - 1) (record { client = client; crashed = m.crashed; last = last }) }
+            → self.new.clients.items ≡ slice_set self.old.clients.items (session - 1) (record { client = changed m.client change; crashed = m.crashed; last = last }) }
         ensures held { self.new.held ≡ capped (self.old.held + outs_weight send.items) }
         ensures rest { IsUntouched self.old self.new }
         ensures calls { self.new.calls ≡ self.old.calls }
     {
         let tick = self.next_tick();
         self.held = self.held.saturating_add(outs_weight(send.as_slice()));
-        set_client(&mut self.clients, session, client, last);
+        change_client(&mut self.clients, session, change, last);
         send_all(self.alloc, &mut self.net, name, tick, send);
     }
 
     /// Goes on with the running call of a session, after its client's turn, and gives what is reported of it. Takes no memory.
     fn after_turn(&mut self, session: Session, tick: u32, moved: Moved) -> Effect
         requires opened { session ≤ length self.old.clients.items }
+        requires can { CanChangeIn self.old.clients.items session moved.change }
         requires running { (m : Member) → slice_get self.old.clients.items (session - 1) ≡ Some m → HasCall self.old.calls.items m }
         requires room { vec_len self.old.net + length moved.turn.send ≤ vec_capacity self.old.net }
         requires small { IsSmall self.old }
         ensures went { (m : Member) (last : ℕ) (c : CallRec) → slice_get self.old.clients.items (session - 1) ≡ Some m → m.last ≡ Some last → slice_get self.old.calls.items last ≡ Some c
-            → WentOn self.old self.new session tick m last c moved.client moved.turn }
+            → WentOn self.old self.new session tick m last c (changed m.client moved.change) moved.turn }
         ensures told { result ≡ moved.effect }
     {
-        let (client, turn, effect) = moved.into_parts();
+        let (change, turn, effect) = moved.into_parts();
         let last = self.last_place(session);
         let name = item_at(self.calls.as_slice(), last).name;
         end_call(&mut self.calls, last, tick, turn.answer);
-        self.settle(session, client, Some(last), name, turn.send.into_vec());
+        self.settle(session, change, Some(last), name, turn.send.into_vec());
         effect
     }
 
@@ -371,13 +415,14 @@ impl<S: Site> World<S> {
         moved: Moved,
     ) -> Effect
         requires opened { session ≤ length self.old.clients.items }
+        requires can { CanChangeIn self.old.clients.items session moved.change }
         requires calls { vec_len self.old.calls < vec_capacity self.old.calls }
         requires room { vec_len self.old.net + length moved.turn.send ≤ vec_capacity self.old.net }
         requires small { IsSmall self.old }
-        ensures started { (m : Member) → slice_get self.old.clients.items (session - 1) ≡ Some m → Started self.old self.new session name tick call m moved.client moved.turn }
+        ensures started { (m : Member) → slice_get self.old.clients.items (session - 1) ≡ Some m → Started self.old self.new session name tick call m (changed m.client moved.change) moved.turn }
         ensures told { result ≡ moved.effect }
     {
-        let (client, turn, effect) = moved.into_parts();
+        let (change, turn, effect) = moved.into_parts();
         let last = self.calls.len();
         self.held = self.held.saturating_add(call_bytes(&call));
         let end = end_at(tick, &turn.answer);
@@ -388,7 +433,7 @@ impl<S: Site> World<S> {
             end,
             answer: turn.answer,
         });
-        self.settle(session, client, Some(last), name, turn.send.into_vec());
+        self.settle(session, change, Some(last), name, turn.send.into_vec());
         effect
     }
 
@@ -403,11 +448,10 @@ impl<S: Site> World<S> {
     {
         let tick = self.next_tick();
         let first = self.next_number();
-        let request = self.request_at(n);
+        let request = item_at(self.net.as_slice(), n as usize - 1);
         let session = request.asker();
         let reply = reply_of(request, which);
-        let client = &self.member_of(session).client;
-        let moved = handed(self.alloc, session, client, n, &reply.1, first)?;
+        let moved = handed_in(self.alloc, &mut self.clients, session, n, &reply.1, first)?;
         self.make_room(moved.turn.send.len())?;
         hand_at(&mut self.net, n as usize - 1, tick, which);
         Ok(self.after_turn(session, tick, moved))
@@ -423,10 +467,8 @@ impl<S: Site> World<S> {
     {
         let tick = self.next_tick();
         let first = self.next_number();
-        let request = self.request_at(n);
-        let session = request.asker();
-        let client = &self.member_of(session).client;
-        let moved = given_up(self.alloc, session, client, n, first)?;
+        let session = self.request_at(n).asker();
+        let moved = given_up_in(self.alloc, &mut self.clients, session, n, first)?;
         self.make_room(moved.turn.send.len())?;
         give_up_at(&mut self.net, n as usize - 1, tick);
         Ok(self.after_turn(session, tick, moved))

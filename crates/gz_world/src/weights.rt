@@ -1,48 +1,16 @@
 //! How many bytes the world counts for what it holds. Counts stand still at 2^64-1. Takes no memory.
 ghost use Rattle.std.specs.Prelude.{◌≡◌};
-ghost use Rattle.gz_world.specs.Weights.{capped, value_bytes, vote_bytes, column_weight, row_weight, op_weight, reply_weight, outs_weight, call_bytes};
+ghost use Rattle.gz_world.specs.Weights.{capped, row_weight, op_weight, reply_weight, outs_weight, call_bytes};
 
-use gz_core::{Call, Column, Op, Out, Reply, Row, Value, Vote};
+use gz_core::{Call, Op, Out, Reply, Row};
 
-/// The bytes of a value.
-pub fn value_bytes(value: &Value) -> u64
-    ensures { result ≡ value_bytes value.now }
-{
-    match value {
-        Value::Tomb { .. } => 0,
-        Value::Put(put) => put.bytes.len() as u64,
-    }
-}
-
-/// The bytes of the value of a vote.
-pub fn vote_bytes(vote: &Option<Vote>) -> u64
-    ensures { result ≡ vote_bytes vote.now }
-{
-    match vote {
-        Some(vote) => value_bytes(&vote.value),
-        None => 0,
-    }
-}
-
-/// A column: 64, and the bytes of its value.
-pub fn column_weight(column: &Column) -> u64
-    ensures { result ≡ capped (column_weight column.now) }
-{
-    match column {
-        Column::Open { vote, .. } => vote_bytes(vote).saturating_add(64),
-        Column::Decided { value } => value_bytes(value).saturating_add(64),
-    }
-}
-
-/// A row: 16, and its columns.
+/// A row: 16, and 64 for each column.
 pub fn row_weight(row: &Row) -> u64
     ensures { result ≡ capped (row_weight row.now) }
 {
-    let mut weight: u64 = 16;
-    for (_, column) in row.columns() {
-        weight = weight.saturating_add(column_weight(column));
-    }
-    weight
+    (row.columns().len() as u64)
+        .saturating_mul(64)
+        .saturating_add(16)
 }
 
 /// A request: 64, and the row or the blob that it writes.
