@@ -4,11 +4,13 @@ use Rattle.gz_laws.proofs.Hearing.{le_means}
 use Rattle.std.proofs.lemmas.Bool.Decides.{nat_tests}
 use Rattle.std.specs.Prelude.{Option, ◌==◌, ◌&&◌, nat_le, slice_get}
 use Rattle.gz_core.specs.Names.{Name}
-use Rattle.gz_core.specs.Calls.{key_of, IsOwn}
+use Rattle.gz_core.specs.Calls.{key_of}
+use Rattle.gz_data.specs.Own.{IsOwn}
 use Rattle.gz_core.specs.Rows.{RowAt}
 use Rattle.gz_core.specs.Slots.{Act, act_of}
 use Rattle.gz_core.specs.declared.calls.Answer.{Answer}
-use Rattle.gz_core.specs.declared.calls.Answer.TheVariants.{Ok, Bytes, Gone, Absent, NoQuorum, Contended, Unsure, Unborn}
+use Rattle.gz_core.specs.declared.calls.Answer.TheVariants.{Ok, Thin, Short, Bytes, Incomplete, Gone, Absent, Unborn, NoQuorum, Contended, Unsure}
+use Rattle.gz_client.specs.Causes.{IsPlaced}
 use Rattle.gz_core.specs.declared.calls.Call.{Call}
 use Rattle.gz_config.specs.declared.Config.{Config}
 use Rattle.gz_core.specs.declared.values.Value.{Value}
@@ -23,7 +25,8 @@ use Rattle.gz_core.specs.declared.calls.Call.TheVariants.{GetAt, Collect}
 use Rattle.gz_round.specs.Sites.{SiteNow, site_now}
 use Rattle.gz_round.specs.Causes.{is_blank, IsLearnt}
 use Rattle.gz_round.specs.Shown.{heard_at, IsShown}
-use Rattle.gz_round.specs.Sending.{AreAllowed, MayAsk, MayMake}
+use Rattle.gz_round.specs.Sending.{AreAllowed, MayMake}
+use Rattle.gz_laws.proofs.Asking.{MayAskRow, row_asked}
 use Rattle.gz_client.specs.Traces.{IsAnswered, AllKeepRules}
 use Rattle.gz_history.specs.Answers.{shows, stands, names, IsWrite, latest_told}
 use Rattle.gz_history.specs.Legal.{IsBefore}
@@ -67,13 +70,13 @@ step_positive c w past ms (ClassicVote u b y) v x may votes = subst (λ k. 1 ≤
 step_positive c w past ms (Decide u y) v x may votes = absurd votes
 step_positive c w past ms (Trim to y) v x may votes = absurd votes
 
-op_positive : (c : Config) (w : Caller) (past : List Trace) (ms : List Action) (now : SiteNow) (op : Op) (act : Act) (v : ℕ) (x : Name) → MayAsk c w past ms now op → IsStepSent op act → VotesFor act v x → 1 ≤ v
-op_positive c w past ms now (WriteRow key expect step row) act v x may is votes = step_positive c w past ms step v x may.1.guard (subst (λ a. VotesFor a v x) (sym is) votes)
+op_positive : (c : Config) (w : Caller) (past : List Trace) (ms : List Action) (now : SiteNow) (op : Op) (act : Act) (v : ℕ) (x : Name) → MayAskRow c w past ms now op → IsStepSent op act → VotesFor act v x → 1 ≤ v
+op_positive c w past ms now (WriteRow key expect step row) act v x may is votes = step_positive c w past ms step v x (may refl).1.guard (subst (λ a. VotesFor a v x) (sym is) votes)
 op_positive c w past ms now op act v x may is votes = absurd is
 
 actions_positive : (c : Config) (w : Caller) (past : List Trace) (ms : List Action) (act : Act) (v : ℕ) (x : Name) → AreAllowed c w past ms → SentStep ms act → VotesFor act v x → 1 ≤ v
 actions_positive c w past [] act v x allowed h votes = absurd h
-actions_positive c w past (Sent a ∷ ms) act v x allowed (inl h) votes = op_positive c w past ms (site_now ms a.site) a.op act v x allowed.0.asks h votes
+actions_positive c w past (Sent a ∷ ms) act v x allowed (inl h) votes = op_positive c w past ms (site_now ms a.site) a.op act v x (row_asked c w past ms a allowed.0) h votes
 actions_positive c w past (Sent a ∷ ms) act v x allowed (inr h) votes = actions_positive c w past ms act v x allowed.1 h votes
 actions_positive c w past (Handed a reply ∷ ms) act v x allowed (inl h) votes = absurd h
 actions_positive c w past (Handed a reply ∷ ms) act v x allowed (inr h) votes = actions_positive c w past ms act v x allowed.1 h votes
@@ -96,7 +99,7 @@ shown_positive key s ds v x listed placed run h =
     sent_positive s.cfg p.write.call.session key p.write.call p.write.act v x (s.traces p.write.call.session) (listed.told p.write.call.session) (run.sent p.write p.found) p.votes
 
 -- what a call shows or writes at a version, after what was shown at another one
-own_above : (c : Config) (name : Name) (early late : List Transition) (v w : ℕ) → HasQuorums c → AreTransitions c unused (late ++ early) → ((q : Write) → IsIn q (sent_after unused early) → q.call ≡ name → ⊥) → AreCurrentTransitions c unused name late early → 1 ≤ w
+pub own_above : (c : Config) (name : Name) (early late : List Transition) (v w : ℕ) → HasQuorums c → AreTransitions c unused (late ++ early) → ((q : Write) → IsIn q (sent_after unused early) → q.call ≡ name → ⊥) → AreCurrentTransitions c unused name late early → 1 ≤ w
     → IsShownAt c early v → IsShownByRows c (seen_after unused (late ++ early)) w name → v < w
 own_above c name early late v w q are unsent current positive (inl z) h = omega (arith, z, positive)
 own_above c name early late v w q are unsent current positive (inr k) h = store_above c unused name late early v w k.0 q are unsent current k.1 h
@@ -129,31 +132,39 @@ abbrev IsPlacedAbove : Call → ℕ → ℕ → Type 0
 IsPlacedAbove call v w = (v ≤ w) × (IsWrite call → v < w)
 
 -- what a call learnt is at the version that it shows, or above
-learnt_above : (c : Config) (t : Trace) (early late : List Transition) (v w u : ℕ) (x : Value) → HasQuorums c → IsOwn t.caller.name t.caller.call t.caller.own → AreTransitions c unused (late ++ early) → ActionsStand (after_transitions unused (late ++ early)) t.actions → ((e : RowSeen) → IsIn e (heard_of t.actions) → IsIn e (late_rows unused late early))
+learnt_above : (c : Config) (t : Trace) (early late : List Transition) (v w u : ℕ) (x : Value) → HasQuorums c → IsOwn c t.caller.name t.caller.call t.caller.own → AreTransitions c unused (late ++ early) → ActionsStand (after_transitions unused (late ++ early)) t.actions → ((e : RowSeen) → IsIn e (heard_of t.actions) → IsIn e (late_rows unused late early))
     → IsShownAt c early v → IsLearnt c t.caller t.actions u x → u ≡ w → IsPlacedAbove t.caller.call v w
 learnt_above c t early late v w u x q value are stands heard shown learnt at =
     let fresh = current_heard c (after_transitions unused (late ++ early)) t.actions w (λ r. nat_le (row_top r) w) stands (λ r k. le_means (row_top r) w k) (subst (λ k. c.qc ≤ heard_at c (λ r. nat_le (row_top r) k) t.actions) at learnt.current) in
-    (read_above c early late v w q are shown (current_more c (heard_of t.actions) (late_rows unused late early) w heard fresh), λ k. absurd (no_write t.caller.name t.caller.call (own_of t.caller None value learnt.reads) k))
+    (read_above c early late v w q are shown (current_more c (heard_of t.actions) (late_rows unused late early) w heard fresh), λ k. absurd (no_write c t.caller.name t.caller.call (own_of c t.caller None value learnt.reads) k))
 
-answer_above : (c : Config) (t : Trace) (early late : List Transition) (v w : ℕ) (answer : Option Answer) → HasQuorums c → IsOwn t.caller.name t.caller.call t.caller.own → AreTransitions c unused (late ++ early) → ((q : Write) → IsIn q (sent_after unused early) → q.call ≡ t.caller.name → ⊥) → AreCurrentTransitions c unused t.caller.name late early
-    → ActionsStand (after_transitions unused (late ++ early)) t.actions → ((e : RowSeen) → IsIn e (heard_of t.actions) → IsIn e (late_rows unused late early)) → ((x : Name) → IsShownByRows c (seen_after unused (late ++ early)) w x → 1 ≤ w)
-    → IsShownAt c early v → IsAnswered c t answer → shows answer ≡ Some w → IsPlacedAbove t.caller.call v w
-answer_above c t early late v w None q value are unsent current stands heard positive shown h e = cc
-answer_above c t early late v w (Some (Ok u)) q value are unsent current stands heard positive shown h e =
-    let now = trace_shown c (late ++ early) t.actions w t.caller.name stands (subst (λ k. IsShown c t.actions k t.caller.name) (same_version u w e) h.1.2) in
+-- a call whose own value is chosen stands above it
+placed_above : (c : Config) (t : Trace) (early late : List Transition) (v w u : ℕ) → HasQuorums c → AreTransitions c unused (late ++ early) → ((q : Write) → IsIn q (sent_after unused early) → q.call ≡ t.caller.name → ⊥) → AreCurrentTransitions c unused t.caller.name late early
+    → ActionsStand (after_transitions unused (late ++ early)) t.actions → ((x : Name) → IsShownByRows c (seen_after unused (late ++ early)) w x → 1 ≤ w) → IsShownAt c early v → IsPlaced c t.caller t.actions u → u ≡ w → IsPlacedAbove t.caller.call v w
+placed_above c t early late v w u q are unsent current stands positive shown placed at =
+    let now = trace_shown c (late ++ early) t.actions w t.caller.name stands (subst (λ k. IsShown c t.actions k t.caller.name) at placed.chosen.2) in
     let above = own_above c t.caller.name early late v w q are unsent current (positive t.caller.name now) shown now in
     (omega (arith, above), λ _. above)
-answer_above c t early late v w (Some (Bytes u y bytes)) q value are unsent current stands heard positive shown h e = learnt_above c t early late v w u (PutOf (record { name = y; bytes = bytes })) q value are stands heard shown h.1 (same_version u w e)
-answer_above c t early late v w (Some (Gone u y)) q value are unsent current stands heard positive shown h e = learnt_above c t early late v w u (Tomb y) q value are stands heard shown h.1 (same_version u w e)
-answer_above c t early late v w (Some Absent) q value are unsent current stands heard positive shown h e =
+
+answer_above : (c : Config) (past : List Trace) (t : Trace) (early late : List Transition) (v w : ℕ) (answer : Option Answer) → HasQuorums c → IsOwn c t.caller.name t.caller.call t.caller.own → AreTransitions c unused (late ++ early) → ((q : Write) → IsIn q (sent_after unused early) → q.call ≡ t.caller.name → ⊥) → AreCurrentTransitions c unused t.caller.name late early
+    → ActionsStand (after_transitions unused (late ++ early)) t.actions → ((e : RowSeen) → IsIn e (heard_of t.actions) → IsIn e (late_rows unused late early)) → ((x : Name) → IsShownByRows c (seen_after unused (late ++ early)) w x → 1 ≤ w)
+    → IsShownAt c early v → IsAnswered c past t answer → shows answer ≡ Some w → IsPlacedAbove t.caller.call v w
+answer_above c past t early late v w None q value are unsent current stands heard positive shown h e = cc
+answer_above c past t early late v w (Some (Ok u)) q value are unsent current stands heard positive shown h e = placed_above c t early late v w u q are unsent current stands positive shown h.1 (same_version u w e)
+answer_above c past t early late v w (Some (Thin u told)) q value are unsent current stands heard positive shown h e = placed_above c t early late v w u q are unsent current stands positive shown h.1 (same_version u w e)
+answer_above c past t early late v w (Some (Short told)) q value are unsent current stands heard positive shown h e = cc
+answer_above c past t early late v w (Some (Bytes u y bytes)) q value are unsent current stands heard positive shown h e = learnt_above c t early late v w u (PutOf h.1.0) q value are stands heard shown h.1.2 (same_version u w e)
+answer_above c past t early late v w (Some (Incomplete u y fates)) q value are unsent current stands heard positive shown h e = learnt_above c t early late v w u (PutOf h.1.0) q value are stands heard shown h.1.2 (same_version u w e)
+answer_above c past t early late v w (Some (Gone u y)) q value are unsent current stands heard positive shown h e = learnt_above c t early late v w u (Tomb y) q value are stands heard shown h.1 (same_version u w e)
+answer_above c past t early late v w (Some Absent) q value are unsent current stands heard positive shown h e =
     let at = same_version 0 w e in
     let fresh = current_heard c (after_transitions unused (late ++ early)) t.actions 0 is_blank stands blank_low h.1.1 in
     let low = read_above c early late v 0 q are shown (current_more c (heard_of t.actions) (late_rows unused late early) 0 heard fresh) in
-    (omega (arith, low, at), λ k. absurd (no_write t.caller.name t.caller.call (own_of t.caller None value h.1.0) k))
-answer_above c t early late v w (Some (NoQuorum phase n)) q value are unsent current stands heard positive shown h e = cc
-answer_above c t early late v w (Some (Contended met)) q value are unsent current stands heard positive shown h e = cc
-answer_above c t early late v w (Some (Unsure why)) q value are unsent current stands heard positive shown h e = cc
-answer_above c t early late v w (Some answer) q value are unsent current stands heard positive shown h e = absurd h
+    (omega (arith, low, at), λ k. absurd (no_write c t.caller.name t.caller.call (own_of c t.caller None value h.1.0) k))
+answer_above c past t early late v w (Some (NoQuorum phase n)) q value are unsent current stands heard positive shown h e = cc
+answer_above c past t early late v w (Some (Contended met)) q value are unsent current stands heard positive shown h e = cc
+answer_above c past t early late v w (Some (Unsure why)) q value are unsent current stands heard positive shown h e = cc
+answer_above c past t early late v w (Some answer) q value are unsent current stands heard positive shown h e = absurd h
 
 -- a call that began after another one had ended stands above it
 pub keeps_order : (key : List ℕ) (s : State) (ds : List Transition) (i j : ℕ) (a b : CallRec) → IsRun key s ds → AreCallsListed s → AreCarried s → ArePlaced s → slice_get s.calls i ≡ Some a → slice_get s.calls j ≡ Some b → key_of a.call ≡ key → key_of b.call ≡ key
@@ -167,10 +178,10 @@ keeps_order key s ds i j a b run listed carries placed ga gb ka kb v w before sa
     let is = h.is in
     let name : t.caller.name ≡ b.name = is.name_is in
     let call : t.caller.call ≡ b.call = is.call_is in
-    let told : IsAnswered s.cfg t b.answer = subst (IsAnswered s.cfg t) is.answer is.told.answered in
+    let told : IsAnswered s.cfg h.past t b.answer = subst (IsAnswered s.cfg h.past t) is.answer is.told.answered in
     let heard : (e : RowSeen) → IsIn e (heard_of t.actions) → IsIn e (late_rows unused late early)
     = heard_in_rows s.cfg key s.net t.caller h.past t.actions (late_rows unused late early) (ap key_of call ∙ kb) is.told.allowed h.carried (λ n k tick r reply at own named e. since.heard n k tick r reply at own (named ∙ name) e) in
-    let k = answer_above s.cfg t early late v w b.answer placed.config.quorums is.told.own (subst (λ xs. AreTransitions s.cfg unused xs) since.split run.transitions)
+    let k = answer_above s.cfg h.past t early late v w b.answer placed.config.quorums is.told.own (subst (λ xs. AreTransitions s.cfg unused xs) since.split run.transitions)
     (λ q found same. since.unsent q found (same ∙ name)) (subst (λ x. AreCurrentTransitions s.cfg unused x late early) (sym name) since.current)
     (subst (λ (xs : List Transition). ActionsStand (after_transitions unused xs) t.actions) since.split h.stands) heard
     (λ x shown. shown_positive key s ds w x listed placed run (subst (λ (xs : List Transition). IsShownByRows s.cfg (seen_after unused xs) w x) (sym since.split) shown))

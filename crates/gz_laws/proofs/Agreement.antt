@@ -125,26 +125,26 @@ safe_same key s ds v b x k safe = λ c y below enough.
     safe c y below (omega (arith, enough, fewer))
 
 -- what is chosen by the votes that were cast is chosen by those that were shown
-chosen_seen : (key : List ℕ) (s : State) (ds : List Transition) (v : ℕ) (x : Name) → IsRun key s ds → IsChosen s.cfg s.casts key v x → IsChosenAt s.cfg (seen_after unused ds) v x
+pub chosen_seen : (key : List ℕ) (s : State) (ds : List Transition) (v : ℕ) (x : Name) → IsRun key s ds → IsChosen s.cfg s.casts key v x → IsChosenAt s.cfg (seen_after unused ds) v x
 chosen_seen key s ds v x run h =
     let more = count_weaker s.cfg.n (has_cast s.casts key v h.0 x) (cast (seen_after unused ds) v h.0 x) (λ i e. sym (run.casts v h.0 x i) ∙ e) in
     let enough = h.1 in
     (h.0, omega (arith, more, enough))
 
-seen_chosen : (key : List ℕ) (s : State) (ds : List Transition) (v : ℕ) (x : Name) → IsRun key s ds → IsChosenAt s.cfg (seen_after unused ds) v x → IsChosen s.cfg s.casts key v x
+pub seen_chosen : (key : List ℕ) (s : State) (ds : List Transition) (v : ℕ) (x : Name) → IsRun key s ds → IsChosenAt s.cfg (seen_after unused ds) v x → IsChosen s.cfg s.casts key v x
 seen_chosen key s ds v x run h =
     let more = count_weaker s.cfg.n (cast (seen_after unused ds) v h.0 x) (has_cast s.casts key v h.0 x) (λ i e. run.casts v h.0 x i ∙ e) in
     let enough = h.1 in
     (h.0, omega (arith, more, enough))
 
 -- what is shown to a call of the object is shown
-shown_in : (key : List ℕ) (s : State) (ds : List Transition) (session v : ℕ) (x : Name) (ts : List Trace) → IsRun key s ds → AllKeepRules s.cfg session ts → TracesCarried s.net ts → IsShownTo s.cfg key v x ts → IsShownByRows s.cfg (seen_after unused ds) v x
+shown_in : (key : List ℕ) (s : State) (ds : List Transition) (session v : ℕ) (x : Name) (ts : List Trace) → IsRun key s ds → AllKeepRules s.cfg session ts → TracesCarried s.cfg.n s.net ts → IsShownTo s.cfg key v x ts → IsShownByRows s.cfg (seen_after unused ds) v x
 shown_in key s ds session v x [] run told carried h = absurd h
 shown_in key s ds session v x (t ∷ ts) run told carried (inl h) = trace_shown s.cfg ds t.actions v x (actions_stand key s.net (after_transitions unused ds) s.cfg t.caller ts t.actions run.requests h.0 told.0.allowed carried.0) h.1
 shown_in key s ds session v x (t ∷ ts) run told carried (inr h) = shown_in key s ds session v x ts run told.2 carried.1 h
 
 -- a step that a call of the object sent is a write of the store
-sent_in : (key : List ℕ) (s : State) (ds : List Transition) (session : ℕ) (act : Act) (ts : List Trace) → IsRun key s ds → AllKeepRules s.cfg session ts → TracesCarried s.net ts → IsSentIn key act ts → (q : Write) × (IsIn q (sent_after unused ds) × (q.act ≡ act))
+sent_in : (key : List ℕ) (s : State) (ds : List Transition) (session : ℕ) (act : Act) (ts : List Trace) → IsRun key s ds → AllKeepRules s.cfg session ts → TracesCarried s.cfg.n s.net ts → IsSentIn key act ts → (q : Write) × (IsIn q (sent_after unused ds) × (q.act ≡ act))
 sent_in key s ds session act [] run told carried h = absurd h
 sent_in key s ds session act (t ∷ ts) run told carried (inl h) =
     let k = sent_asked key s.net (after_transitions unused ds) s.cfg t.caller ts t.actions act run.requests h.0 told.0.allowed carried.0 h.1 in
@@ -157,7 +157,7 @@ shown_to_call c call v x [] h show named = absurd h
 shown_to_call c call v x (t ∷ ts) (inl h) show named =
     let name : t.caller.name ≡ call.name = h.name_is in
     let own : names t.caller.name call.answer ≡ Some x = ap (λ (y : Name). names y call.answer) name ∙ named in
-    elim (answer_tells c t call.answer v (subst (IsAnswered c t) h.answer h.told.answered) show) [
+    elim (answer_tells c ts t call.answer v (subst (IsAnswered c ts t) h.answer h.told.answered) show) [
       | inl k ↦ absurd (no_name_of (names t.caller.name call.answer) x k.1 own)
       | inr k ↦ inl (name, subst (λ (y : Name). IsShown c t.actions v y) (same_name_of (names t.caller.name call.answer) k.0 x k.1.1 own) k.1.0)
     ]

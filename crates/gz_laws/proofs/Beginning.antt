@@ -7,7 +7,7 @@ use Rattle.gz_core.specs.Configurations.{IsConfig, need}
 use Rattle.gz_core.specs.Counts.{count_sites}
 use Rattle.gz_core.specs.Rows.{RowAt}
 use Rattle.gz_core.specs.declared.calls.Answer.{Answer}
-use Rattle.gz_core.specs.declared.calls.Answer.TheVariants.{Ok, Bytes, Gone, Absent, NoQuorum, Contended, Unsure}
+use Rattle.gz_core.specs.declared.calls.Answer.TheVariants.{Ok, Thin, Short, Bytes, Incomplete, Gone, Absent, NoQuorum, Contended, Unsure}
 use Rattle.gz_core.specs.declared.calls.Call.{Call}
 use Rattle.gz_core.specs.declared.calls.Phase.{Phase}
 use Rattle.gz_core.specs.declared.calls.UnsureWhy.{UnsureWhy}
@@ -15,7 +15,9 @@ use Rattle.gz_core.specs.declared.calls.UnsureWhy.TheVariants.{NoQuorum as Unsur
 use Rattle.gz_core.specs.declared.requests.Out.{Out}
 use Rattle.gz_core.specs.declared.requests.Turn.{Turn}
 use Rattle.gz_pick.specs.Evidences.{votes_for, decides}
-use Rattle.gz_round.specs.Causes.{HasCause, UnsureCause, IsCutOff, is_blank}
+use Rattle.gz_round.specs.Causes.{UnsureCause, IsCutOff, is_blank}
+use Rattle.gz_data.specs.Blobs.{lost}
+use Rattle.gz_client.specs.Causes.{HasCause, IsPlaced}
 use Rattle.gz_round.specs.Counting.{outs}
 use Rattle.gz_core.specs.History.{Asked, Action, Sent, Caller, Trace, asked_of, sent_from, begun}
 use Rattle.gz_core.specs.declared.values.Value.{Value}
@@ -34,10 +36,14 @@ sent_unheard : (p : RowAt → Bool) (first : ℕ) (outs : List Out) (ms : List A
 sent_unheard p first [] ms s = refl
 sent_unheard p first (o ∷ os) ms s = sent_unheard p (first + 1) os (Sent (asked_of first o) ∷ ms) s
 
--- nor does it overtake, or put a site out
+-- nor does it overtake, lose a fragment, or put a site out
 sent_met : (first : ℕ) (outs : List Out) (ms : List Action) → met (sent_from first outs ms) ≡ met ms
 sent_met first [] ms = refl
 sent_met first (o ∷ os) ms = sent_met (first + 1) os (Sent (asked_of first o) ∷ ms)
+
+sent_lost : (first : ℕ) (outs : List Out) (ms : List Action) → lost (sent_from first outs ms) ≡ lost ms
+sent_lost first [] ms = refl
+sent_lost first (o ∷ os) ms = sent_lost (first + 1) os (Sent (asked_of first o) ∷ ms)
 
 still_in : (a : Asked) (now : SiteNow) (b : Bool) → (if b then after_sent a now else now).out ≡ now.out
 still_in a now true = elim a.awaited as (λ w. (if w then (let k : SiteNow = record { row = now.row; changed = now.changed; out = now.out; awaits = Some a; unanswered = true } in k) else now).out ≡ now.out) [ true ↦ refl | false ↦ refl ]
@@ -60,12 +66,14 @@ record HeardNothing (c : Config) (ms : List Action) : Type 0 where
   rows : (p : RowAt → Bool) → heard_at c p ms ≡ 0
   met_is : met ms ≡ 0
   outs_is : outs c ms ≡ 0
+  lost_is : lost ms ≡ 0
 
 begun_nothing : (c : Config) (first : ℕ) (outs : List Out) → HeardNothing c (sent_from first outs [])
 begun_nothing c first outs = record {
   rows = λ p. none_counted c.n (some_heard p (sent_from first outs [])) (λ s. sent_unheard p first outs [] s);
   met_is = sent_met first outs [];
   outs_is = none_counted c.n (λ s. (site_now (sent_from first outs []) s).out) (λ s. sent_out first outs [] s);
+  lost_is = sent_lost first outs [];
 }
 
 none_shown : (c : Config) (ms : List Action) (v : ℕ) (x : Name) → IsConfig c → HeardNothing c ms → IsShown c ms v x → ⊥
@@ -93,9 +101,19 @@ not_unsure c ms (UnsureNoQuorum phase heard) sizes nothing h = not_cut_off c ms 
 not_unsure c ms (UnsureContended m) sizes nothing h = not_overtaken c ms sizes nothing h.0
 not_unsure c ms why sizes nothing h = absurd h
 
+placed_never : (c : Config) (w : Caller) (ms : List Action) (v : ℕ) → IsConfig c → HeardNothing c ms → IsPlaced c w ms v → ⊥
+placed_never c w ms v sizes nothing h = none_shown c ms v w.name sizes nothing h.chosen.2
+
 no_cause : (c : Config) (w : Caller) (ms : List Action) (answer : Answer) → IsConfig c → HeardNothing c ms → HasCause c w ms answer → ⊥
-no_cause c w ms (Ok v) sizes nothing h = none_shown c ms v w.name sizes nothing h.1.2
-no_cause c w ms (Bytes v x bytes) sizes nothing h = none_shown c ms v _ sizes nothing h.1.shown
+no_cause c w ms (Ok v) sizes nothing h = placed_never c w ms v sizes nothing h.1
+no_cause c w ms (Thin v told) sizes nothing h = placed_never c w ms v sizes nothing h.1
+no_cause c w ms (Short told) sizes nothing h =
+    let lost = h.1.lost in
+    let z = nothing.lost_is in
+    let spare = sizes.spare in
+    omega (arith, lost, z, spare)
+no_cause c w ms (Bytes v x bytes) sizes nothing h = none_shown c ms v _ sizes nothing h.1.2.shown
+no_cause c w ms (Incomplete v x fates) sizes nothing h = none_shown c ms v _ sizes nothing h.1.2.shown
 no_cause c w ms (Gone v x) sizes nothing h = none_shown c ms v _ sizes nothing h.1.shown
 no_cause c w ms Absent sizes nothing h =
     let z = nothing.rows is_blank in
@@ -103,15 +121,15 @@ no_cause c w ms Absent sizes nothing h =
     let q = sizes.quorums in
     let m = q.majority in
     omega (arith, z, enough, m)
-no_cause c w ms (NoQuorum phase heard) sizes nothing h = not_cut_off c ms phase heard sizes nothing h.1
-no_cause c w ms (Contended m) sizes nothing h = not_overtaken c ms sizes nothing h.1.0
-no_cause c w ms (Unsure why) sizes nothing h = not_unsure c ms why sizes nothing h.1
+no_cause c w ms (NoQuorum phase heard) sizes nothing h = not_cut_off c ms phase heard sizes nothing h.1.1
+no_cause c w ms (Contended m) sizes nothing h = not_overtaken c ms sizes nothing h.1.1.0
+no_cause c w ms (Unsure why) sizes nothing h = not_unsure c ms why sizes nothing h.1.1
 no_cause c w ms answer sizes nothing h = absurd h
 
 pub begun_open : (c : Config) (past : List Trace) (session : ℕ) (call : Call) (own : Option Value) (first : ℕ) (turn : Turn) (earlier : List Trace) → IsConfig c → KeepsRules c past (begun session call own first turn earlier) → turn.answer ≡ None
 begun_open c past session call own first turn earlier sizes told =
     let t = begun session call own first turn earlier in
-    elim turn.answer as (λ o. IsAnswered c t o → o ≡ None) [
+    elim turn.answer as (λ o. IsAnswered c past t o → o ≡ None) [
       | None ↦ λ h. refl
       | Some answer ↦ λ h. absurd (no_cause c t.caller t.actions answer sizes (begun_nothing c first turn.send) h)
     ] told.answered

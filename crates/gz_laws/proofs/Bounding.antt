@@ -20,7 +20,7 @@ use Rattle.gz_round.specs.Rounds.{round_known}
 use Rattle.gz_round.specs.Sending.{rows_known}
 use Rattle.gz_round.specs.Sent.{of_sent, passes_sent, promise_by, has_promised_at, round_after, top_round}
 use Rattle.gz_round.specs.Shown.{heard_at, IsShown, IsNext, IsGrounded}
-use Rattle.gz_round.specs.Sites.{SiteNow, site_now, known, row_seen, seen_in, written_by, passes, concerns, some_heard, WasHeard}
+use Rattle.gz_round.specs.Sites.{SiteNow, site_now, known, row_seen, seen_in, heard_in, written_by, passes, concerns, some_heard, WasHeard}
 use Rattle.gz_round.proofs.Known.{last_heard}
 use Rattle.gz_world.specs.States.{State}
 use Rattle.gz_laws.specs.Bounded.{IsRowWithin, IfWritten, IfShown, EachRow}
@@ -28,7 +28,7 @@ use Rattle.gz_laws.specs.Carried.{ActionsCarried}
 use Rattle.gz_laws.proofs.Beginning.{some_needed}
 use Rattle.gz_laws.proofs.Hearing.{le_means}
 use Rattle.gz_laws.proofs.RowBounds.{top_within, vote_within, vote_above, decision_within, decision_above, round_within}
-use Rattle.gz_laws.proofs.AsHeard.{of_reply}
+use Rattle.gz_laws.proofs.AsHeard.{of_reply, heard_case}
 
 -- the rows that a call heard
 abbrev IsSeenWithin : ℕ → ℕ → Option Seen → Type 0
@@ -38,7 +38,7 @@ IsSeenWithin versions rounds (Some seen) = IsRowWithin versions rounds seen.row
 abbrev pub AreHeardWithin : ℕ → ℕ → List Action → Type 0
 AreHeardWithin versions rounds [] = Unit {0}
 AreHeardWithin versions rounds (Sent a ∷ ms) = AreHeardWithin versions rounds ms
-AreHeardWithin versions rounds (Handed a reply ∷ ms) = IsSeenWithin versions rounds (seen_in (written_by a.op) reply) × AreHeardWithin versions rounds ms
+AreHeardWithin versions rounds (Handed a reply ∷ ms) = IsSeenWithin versions rounds (heard_in (Handed a reply)) × AreHeardWithin versions rounds ms
 AreHeardWithin versions rounds (GaveUp a ∷ ms) = AreHeardWithin versions rounds ms
 AreHeardWithin versions rounds (Rested ∷ ms) = AreHeardWithin versions rounds ms
 AreHeardWithin versions rounds (GaveIn ∷ ms) = AreHeardWithin versions rounds ms
@@ -53,7 +53,7 @@ seen_within versions rounds op NoRow w h = blank_within versions rounds
 seen_within versions rounds (WriteRow key expect step row) (Written etag) w h = w
 seen_within versions rounds op reply w h = tt
 
-pub heard_within : (versions rounds : ℕ) (s : State) (name : Name) (ms : List Action) → EachRow (IsRowWithin versions rounds) s → ActionsCarried s.net name ms → AreHeardWithin versions rounds ms
+pub heard_within : (versions rounds : ℕ) (s : State) (name : Name) (ms : List Action) → EachRow (IsRowWithin versions rounds) s → ActionsCarried s.cfg.n s.net name ms → AreHeardWithin versions rounds ms
 heard_within versions rounds s name [] all h = tt
 heard_within versions rounds s name (Sent a ∷ ms) all h = heard_within versions rounds s name ms all h.1
 heard_within versions rounds s name (Handed a reply ∷ ms) all h =
@@ -61,7 +61,7 @@ heard_within versions rounds s name (Handed a reply ∷ ms) all h =
     let req = h.0.1.0 in
     let has = h.0.1.1 in
     let shown = seen_within versions rounds r.op has.made (all.requests a.number r req.there) (all.replies a.number has.place has.tick r has.made req.there has.there) in (
-      subst (λ (op : Op). IsSeenWithin versions rounds (seen_in (written_by op) reply)) req.op_is (of_reply (IsSeenWithin versions rounds) r reply has tt shown),
+      heard_case (IsSeenWithin versions rounds) a reply (λ row. subst (λ (op : Op). IsSeenWithin versions rounds (seen_in (written_by op) reply)) req.op_is (of_reply (IsSeenWithin versions rounds) s.cfg.n r reply has tt shown)) tt,
       heard_within versions rounds s name ms all h.1,
     )
 heard_within versions rounds s name (GaveUp a ∷ ms) all h = heard_within versions rounds s name ms all h.1
@@ -75,7 +75,7 @@ was_within : (versions rounds : ℕ) (ms : List Action) (s : ℕ) (row : RowAt) 
 was_within versions rounds [] s row h w = absurd w
 was_within versions rounds (Sent a ∷ ms) s row h (inl w) = let bad = w.2 in cc
 was_within versions rounds (Sent a ∷ ms) s row h (inr w) = was_within versions rounds ms s row h w
-was_within versions rounds (Handed a reply ∷ ms) s row h (inl w) = subst (IsRowWithin versions rounds) w.3 (is_within versions rounds (seen_in (written_by a.op) reply) w.0 w.2 h.0)
+was_within versions rounds (Handed a reply ∷ ms) s row h (inl w) = subst (IsRowWithin versions rounds) w.3 (is_within versions rounds (heard_in (Handed a reply)) w.0 w.2 h.0)
 was_within versions rounds (Handed a reply ∷ ms) s row h (inr w) = was_within versions rounds ms s row h.1 w
 was_within versions rounds (GaveUp a ∷ ms) s row h (inl w) = let bad = w.2 in cc
 was_within versions rounds (GaveUp a ∷ ms) s row h (inr w) = was_within versions rounds ms s row h w
@@ -96,7 +96,7 @@ some_within : (versions rounds : ℕ) (p : RowAt → Bool) (ms : List Action) (s
 some_within versions rounds p [] s h e = cc
 some_within versions rounds p (Sent a ∷ ms) s h e = some_within versions rounds p ms s h e
 some_within versions rounds p (Handed a reply ∷ ms) s h e =
-    elim (found_in versions rounds p (seen_in (written_by a.op) reply) (concerns (Handed a reply) s) (some_heard p ms s) h.0 e) [ inl k ↦ k | inr k ↦ some_within versions rounds p ms s h.1 k ]
+    elim (found_in versions rounds p (heard_in (Handed a reply)) (concerns (Handed a reply) s) (some_heard p ms s) h.0 e) [ inl k ↦ k | inr k ↦ some_within versions rounds p ms s h.1 k ]
 some_within versions rounds p (GaveUp a ∷ ms) s h e = some_within versions rounds p ms s h e
 some_within versions rounds p (Rested ∷ ms) s h e = some_within versions rounds p ms s h e
 some_within versions rounds p (GaveIn ∷ ms) s h e = some_within versions rounds p ms s h e

@@ -19,7 +19,7 @@ use Rattle.gz_core.specs.declared.requests.RowStep.TheVariants.{FastVote, Promis
 use Rattle.gz_pick.specs.Looks.{row_top, top_in, shows_value}
 use Rattle.gz_model.specs.Sites.{has_site, AreSites}
 use Rattle.gz_core.specs.History.{Action, Caller, Trace}
-use Rattle.gz_core.specs.Calls.{IsOwn}
+use Rattle.gz_data.specs.Own.{IsOwn}
 use Rattle.gz_round.specs.Sites.{some_heard}
 use Rattle.gz_round.specs.Shown.{heard_at}
 use Rattle.gz_round.specs.Sending.{MayMake}
@@ -129,8 +129,8 @@ voted_sent c ds v x q are h =
     (store_agreed c unused ds q are).proposed v h.ballot x h.entry.site (or_right _ _ (cast_from (seen_after unused ds) v h.ballot x h.entry h.found (h.promise, h.votes)))
 
 -- a call that has a value of its own is a write
-write_of : (w : Caller) (x : Value) → IsOwn w.name w.call w.own → w.own ≡ Some x → IsWrite w.call
-write_of w x value e = own_writes w.name w.call x (own_of w (Some x) value e)
+write_of : (c : Config) (w : Caller) (x : Value) → IsOwn c w.name w.call w.own → w.own ≡ Some x → IsWrite w.call
+write_of c w x value e = own_writes c w.name w.call x (own_of c w (Some x) value e)
 
 -- a vote that was heard is of a call that sent it
 heard_sent : (c : Config) (ms : List Action) (ds : List Transition) (u v : ℕ) (x y : Name) → HasQuorums c → AreTransitions c unused ds → ActionsStand (after_transitions unused ds) ms → u ≡ v → x ≡ y → IsVotedAt (heard_of ms) u x → IsProposed (sent_after unused ds) v y
@@ -142,9 +142,9 @@ own_heard : (c : Config) (st : Store) (ms : List Action) (u v : ℕ) → Actions
 own_heard c st ms u v stands at h = subst (λ k. IsCurrentByRows c (heard_of ms) k) at (current_heard c st ms u (λ r. nat_le (row_top r) u) stands (λ r e. le_means (row_top r) u e) h)
 
 -- of a vote for its own value that a call may send: it sent one before at the version, or it is a write whose heard rows are current there
-pub own_current : (c : Config) (w : Caller) (past : List Trace) (ms : List Action) (ds : List Transition) (step : RowStep) (v : ℕ) → HasQuorums c → AreTransitions c unused ds → IsOwn w.name w.call w.own → ActionsStand (after_transitions unused ds) ms → MayMake c w past ms step → VotesFor (act_of step) v w.name
+pub own_current : (c : Config) (w : Caller) (past : List Trace) (ms : List Action) (ds : List Transition) (step : RowStep) (v : ℕ) → HasQuorums c → AreTransitions c unused ds → IsOwn c w.name w.call w.own → ActionsStand (after_transitions unused ds) ms → MayMake c w past ms step → VotesFor (act_of step) v w.name
     → IsProposed (sent_after unused ds) v w.name ⊎ (IsWrite w.call × IsCurrentByRows c (heard_of ms) v)
-own_current c w past ms ds (FastVote u x) v q are value stands may votes = inr (write_of w x value may.0, own_heard c (after_transitions unused ds) ms u v stands votes.0 may.1.current)
+own_current c w past ms ds (FastVote u x) v q are value stands may votes = inr (write_of c w x value may.0, own_heard c (after_transitions unused ds) ms u v stands votes.0 may.1.current)
 own_current c w past ms ds (Promise u b) v q are value stands may votes = absurd votes
 own_current c w past ms ds (ClassicVote u b x) v q are value stands may votes = elim may.choice [
   | inl k ↦ (let n = k.2 in
@@ -152,7 +152,7 @@ own_current c w past ms ds (ClassicVote u b x) v q are value stands may votes = 
       inl (heard_sent c ms ds u v (name_of x) w.name q are stands votes.0 votes.1
       (record { entry = p.entry; found = p.found; promise = b; ballot = n.1.0; votes = p.row ∙ ap (OpenAt b) (n.3 ∙ ap (λ y. Some (n.1.0, y)) n.4) })))
   | inr k ↦ elim k.1 [
-    | inl o ↦ inr (write_of w x value o.0, own_heard c (after_transitions unused ds) ms u v stands votes.0 o.1)
+    | inl o ↦ inr (write_of c w x value o.0, own_heard c (after_transitions unused ds) ms u v stands votes.0 o.1)
     | inr h ↦ inl (heard_sent c ms ds u v (name_of x) w.name q are stands votes.0 votes.1 (vote_heard (after_transitions unused ds) ms u h.0 h.1 h.2 (name_of x) stands h.4 h.5))
   ]
 ]

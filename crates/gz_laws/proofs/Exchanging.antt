@@ -43,8 +43,8 @@ call_of_name c session (t ∷ ts) name told (inl e) =
 call_of_name c session (t ∷ ts) name told (inr e) = let r = call_of_name c session ts name told.2 e in let l = r.1 in (r.0, omega (arith, l))
 
 -- of no call but one have the exchanges changed
-abbrev OthersKeep : List RequestAt → List RequestAt → Name → Type 0
-OthersKeep old new name = (other : Name) → (name ≡ other → ⊥) → exchanges_in new other ≡ exchanges_in old other
+abbrev OthersKeep : ℕ → List RequestAt → List RequestAt → Name → Type 0
+OthersKeep n old new name = (other : Name) → (name ≡ other → ⊥) → exchanges_in n new other ≡ exchanges_in n old other
 
 -- a session's call keeps its name
 call_kept : (old new : State) (session : ℕ) (ts : List Trace) (name : Name) → SessionMoves old session ts new → (IsCallOf (old.traces session) name → IsCallOf ts name) → IsCallOf (old.traces name.session) name → IsCallOf (new.traces name.session) name
@@ -57,9 +57,13 @@ grown_call : (t after : Trace) (ts : List Trace) (name : Name) → after.caller 
 grown_call t after ts name same (inl e) = inl (ap (λ w. w.name) same ∙ e)
 grown_call t after ts name same (inr e) = inr e
 
-exchanged_same : (old new : State) → ((n : ℕ) → new.traces n ≡ old.traces n) → new.net ≡ old.net → AreExchanged old → AreExchanged new
-exchanged_same old new traces net x = record {
-  traces = λ n. subst (EachTrace (IsExchanged new.net)) (sym (traces n)) (subst (λ ks. EachTrace (IsExchanged ks) (old.traces n)) (sym net) (x.traces n));
+-- the configuration never changes
+under_same : (old new : State) → new.cfg ≡ old.cfg → (n : ℕ) → EachTrace (IsExchanged old.cfg.n new.net) (new.traces n) → EachTrace (IsExchanged new.cfg.n new.net) (new.traces n)
+under_same old new cfg n x = subst (λ (c : Config). EachTrace (IsExchanged c.n new.net) (new.traces n)) (sym cfg) x
+
+exchanged_same : (old new : State) → new.cfg ≡ old.cfg → ((n : ℕ) → new.traces n ≡ old.traces n) → new.net ≡ old.net → AreExchanged old → AreExchanged new
+exchanged_same old new cfg traces net x = record {
+  traces = λ n. under_same old new cfg n (subst (EachTrace (IsExchanged old.cfg.n new.net)) (sym (traces n)) (subst (λ ks. EachTrace (IsExchanged old.cfg.n ks) (old.traces n)) (sym net) (x.traces n)));
   calls = λ n r h. subst (λ k. IsCallOf k r.name) (sym (traces r.name.session)) (x.calls n r (subst (λ ks. numbered ks n ≡ Some r) net h));
   handed = λ n r h. x.handed n r (subst (λ ks. numbered ks n ≡ Some r) net h);
 }
@@ -84,17 +88,17 @@ begin_exchanged old new session call own turn effect b l x =
     let same : length (old.traces r.name.session) ≡ length past = ap (λ (y : Name). length (old.traces y.session)) e in
     omega (arith, most, seq, same) in
     let first : 1 + length old.net ≡ next_of old = omega arith in
-    let keep : OthersKeep old.net new.net name = λ other apart.
-    ap (λ ks. exchanges_in ks other) b.net ∙ exchanges_append 1 old.net sent other
-    ∙ ap (λ ks. exchanges_in old.net other ++ ks) (sent_others (1 + length old.net) name other tick outs apart) ∙ append_nil (exchanges_in old.net other) in
-    let here : exchanges_in new.net name ≡ exchanges_told t.actions
-    = ap (λ ks. exchanges_in ks name) b.net ∙ exchanges_append 1 old.net sent name
-    ∙ ap (λ ks. ks ++ exchanges_from (1 + length old.net) sent name) (none_named 1 old.net name new_name)
-    ∙ ap (λ k. exchanges_from k sent name) first ∙ sent_exchanges (next_of old) name tick outs ∙ sym (told_sent (next_of old) outs []) in
+    let keep : OthersKeep old.cfg.n old.net new.net name = λ other apart.
+    ap (λ ks. exchanges_in old.cfg.n ks other) b.net ∙ exchanges_append old.cfg.n 1 old.net sent other
+    ∙ ap (λ ks. exchanges_in old.cfg.n old.net other ++ ks) (sent_others old.cfg.n (1 + length old.net) name other tick outs apart) ∙ append_nil (exchanges_in old.cfg.n old.net other) in
+    let here : exchanges_in old.cfg.n new.net name ≡ exchanges_told t.actions
+    = ap (λ ks. exchanges_in old.cfg.n ks name) b.net ∙ exchanges_append old.cfg.n 1 old.net sent name
+    ∙ ap (λ ks. ks ++ exchanges_from old.cfg.n (1 + length old.net) sent name) (none_named old.cfg.n 1 old.net name new_name)
+    ∙ ap (λ k. exchanges_from old.cfg.n k sent name) first ∙ sent_exchanges old.cfg.n (next_of old) name tick outs ∙ sym (told_sent (next_of old) outs []) in
     let cases : (n : ℕ) (r : RequestAt) → numbered new.net n ≡ Some r → (numbered old.net n ≡ Some r) ⊎ ((o : Out) × (sent_request name tick o ≡ r))
     = λ n r h. elim (two_cases old.net sent n r (subst (λ ks. numbered ks n ≡ Some r) b.net h)) [ inl e ↦ inl e | inr e ↦ (let k = fresh_request name tick outs e.0 r e.1 in inr (k.0, k.1.1)) ] in
     record {
-      traces = each_moved (IsExchanged old.net) (IsExchanged new.net) old new session t past b.moves l.told (λ u apart h. keep u.caller.name apart ∙ h) here (x.traces session) x.traces;
+      traces = λ n. under_same old new b.frame.cfg n (each_moved (IsExchanged old.cfg.n old.net) (IsExchanged old.cfg.n new.net) old new session t past b.moves l.told (λ u apart h. keep u.caller.name apart ∙ h) here (x.traces session) x.traces n);
       calls = λ n r h. elim (cases n r h) [
         | inl e ↦ call_kept old new session (t ∷ past) r.name b.moves (λ k. inr k) (x.calls n r e)
         | inr e ↦ (let own : IsCallOf (new.traces name.session) name = subst (λ k. IsCallOf k name) (sym (traces_here old new session (t ∷ past) b.moves)) (inl refl) in
@@ -108,7 +112,7 @@ begin_exchanged old new session call own turn effect b l x =
     append_nil (y ∷ ys) = ap (λ ks. y ∷ ks) (append_nil ys)
 
 -- a session's turn: one of its requests is handed a reply, or given up, and more are sent
-turn_exchanged : (old new : State) (n : ℕ) (r marked : RequestAt) (action : Asked → Action) (by : TurnBy) (effect : Effect) (f : Exchange → Exchange) → TakesTurn old n r action by marked effect new → marked.name ≡ r.name → exchange_of n marked ≡ f (exchange_of n r)
+turn_exchanged : (old new : State) (n : ℕ) (r marked : RequestAt) (action : Asked → Action) (by : TurnBy) (effect : Effect) (f : Exchange → Exchange) → TakesTurn old n r action by marked effect new → marked.name ≡ r.name → exchange_of old.cfg.n n marked ≡ f (exchange_of old.cfg.n n r)
     → exchanges_told (action by.asked ∷ by.trace.actions) ≡ map (changed_at by.asked.number f) (exchanges_told by.trace.actions) → IsHandedOne marked → AreCallsListed old → AreCarried old → AreExchanged old → AreExchanged new
 turn_exchanged old new n r marked action by effect f t own is tells handed l carries x =
     let name = by.trace.caller.name in
@@ -124,20 +128,20 @@ turn_exchanged old new n r marked action by effect f t own is tells handed l car
     let mine : r.name ≡ name = request.name_is in
     let ms = action by.asked ∷ by.trace.actions in
     let after = turned (next_of old) by.turn (action by.asked) by.closing by.trace in
-    let before : EachTrace (IsExchanged old.net) (by.trace ∷ by.earlier) = subst (EachTrace (IsExchanged old.net)) t.traces (x.traces session) in
+    let before : EachTrace (IsExchanged old.cfg.n old.net) (by.trace ∷ by.earlier) = subst (EachTrace (IsExchanged old.cfg.n old.net)) t.traces (x.traces session) in
     let len : 1 + length mid ≡ next_of old = ap (λ k. 1 + k) (length-set old.net (n - 1) marked) ∙ omega arith in
-    let changed : exchanges_in mid r.name ≡ map (changed_at n f) (exchanges_in old.net r.name)
-    = exchanges_changed 1 (n - 1) f old.net r marked place.1 own (ap (λ k. exchange_of k marked) number ∙ is ∙ ap (λ k. f (exchange_of k r)) (sym number)) ∙ ap (λ k. map (changed_at k f) (exchanges_in old.net r.name)) number in
-    let keep : OthersKeep old.net new.net name = λ other apart.
-    ap (λ ks. exchanges_in ks other) t.net ∙ exchanges_append 1 mid sent other
-    ∙ ap (λ ks. exchanges_in mid other ++ ks) (sent_others (1 + length mid) name other tick outs apart) ∙ append_nil (exchanges_in mid other)
-    ∙ exchanges_kept 1 (n - 1) old.net r marked other place.1 own (λ e. absurd (apart (sym mine ∙ e))) in
-    let now : exchanges_in mid name ≡ exchanges_told ms
-    = ap (exchanges_in mid) (sym mine) ∙ changed ∙ ap (λ k. map (changed_at n f) (exchanges_in old.net k)) mine ∙ ap (map (changed_at n f)) before.0
+    let changed : exchanges_in old.cfg.n mid r.name ≡ map (changed_at n f) (exchanges_in old.cfg.n old.net r.name)
+    = exchanges_changed old.cfg.n 1 (n - 1) f old.net r marked place.1 own (ap (λ k. exchange_of old.cfg.n k marked) number ∙ is ∙ ap (λ k. f (exchange_of old.cfg.n k r)) (sym number)) ∙ ap (λ k. map (changed_at k f) (exchanges_in old.cfg.n old.net r.name)) number in
+    let keep : OthersKeep old.cfg.n old.net new.net name = λ other apart.
+    ap (λ ks. exchanges_in old.cfg.n ks other) t.net ∙ exchanges_append old.cfg.n 1 mid sent other
+    ∙ ap (λ ks. exchanges_in old.cfg.n mid other ++ ks) (sent_others old.cfg.n (1 + length mid) name other tick outs apart) ∙ append_nil (exchanges_in old.cfg.n mid other)
+    ∙ exchanges_kept old.cfg.n 1 (n - 1) old.net r marked other place.1 own (λ e. absurd (apart (sym mine ∙ e))) in
+    let now : exchanges_in old.cfg.n mid name ≡ exchanges_told ms
+    = ap (exchanges_in old.cfg.n mid) (sym mine) ∙ changed ∙ ap (λ k. map (changed_at n f) (exchanges_in old.cfg.n old.net k)) mine ∙ ap (map (changed_at n f)) before.0
     ∙ ap (λ k. map (changed_at k f) (exchanges_told by.trace.actions)) (sym t.awaited.number_is) ∙ sym tells in
-    let here : exchanges_in new.net name ≡ exchanges_told after.actions
-    = ap (λ ks. exchanges_in ks name) t.net ∙ exchanges_append 1 mid sent name
-    ∙ ap (λ ks. exchanges_in mid name ++ ks) (ap (λ k. exchanges_from k sent name) len ∙ sent_exchanges (next_of old) name tick outs) ∙ ap (λ ks. ks ++ exchanges_sent (next_of old) outs) now
+    let here : exchanges_in old.cfg.n new.net name ≡ exchanges_told after.actions
+    = ap (λ ks. exchanges_in old.cfg.n ks name) t.net ∙ exchanges_append old.cfg.n 1 mid sent name
+    ∙ ap (λ ks. exchanges_in old.cfg.n mid name ++ ks) (ap (λ k. exchanges_from old.cfg.n k sent name) len ∙ sent_exchanges old.cfg.n (next_of old) name tick outs) ∙ ap (λ ks. ks ++ exchanges_sent (next_of old) outs) now
     ∙ sym (told_sent (next_of old) outs ms) ∙ sym (told_closing by.closing (sent_from (next_of old) outs ms) t.closing) in
     let cases : (m : ℕ) (q : RequestAt) → numbered new.net m ≡ Some q → ((q ≡ marked) ⊎ (numbered old.net m ≡ Some q)) ⊎ ((o : Out) × (sent_request name tick o ≡ q))
     = λ m q h. elim (two_cases mid sent m q (subst (λ ks. numbered ks m ≡ Some q) t.net h)) [
@@ -148,7 +152,7 @@ turn_exchanged old new n r marked action by effect f t own is tells handed l car
     = λ q. call_kept old new session (after ∷ by.earlier) q t.moves (λ k. grown_call by.trace after by.earlier q refl (subst (λ ts. IsCallOf ts q) t.traces k)) in
     let first : IsCallOf (new.traces r.name.session) r.name = stay r.name (x.calls n r t.request) in
     record {
-      traces = each_moved (IsExchanged old.net) (IsExchanged new.net) old new session after by.earlier t.moves l.told (λ u apart h. keep u.caller.name apart ∙ h) here before.1 x.traces;
+      traces = λ m. under_same old new t.frame.cfg m (each_moved (IsExchanged old.cfg.n old.net) (IsExchanged old.cfg.n new.net) old new session after by.earlier t.moves l.told (λ u apart h. keep u.caller.name apart ∙ h) here before.1 x.traces m);
       calls = λ m q h. elim (cases m q h) [
         | inl e ↦ elim e [ inl k ↦ subst (λ (y : Name). IsCallOf (new.traces y.session) y) (sym (ap (λ (y : RequestAt). y.name) k ∙ own)) first | inr k ↦ stay q.name (x.calls m q k) ]
         | inr e ↦ subst (λ (y : Name). IsCallOf (new.traces y.session) y) (mine ∙ ap (λ (y : RequestAt). y.name) e.1) first
@@ -167,12 +171,12 @@ turn_exchanged old new n r marked action by effect f t own is tells handed l car
 numbered_more : {A : Type 0} (xs ys : List A) (n : ℕ) (x : A) → numbered xs n ≡ Some x → numbered (xs ++ ys) n ≡ Some x
 numbered_more xs ys n x h = let p = numbered_place xs n x h in place_numbered (xs ++ ys) n x p.0 (get_append xs ys (n - 1) x p.1)
 
-reply_kept : (op : Op) (replies : List (ℕ × Reply)) (more : ℕ × Reply) (handed : Option (ℕ × ℕ)) → ((tick which : ℕ) → handed ≡ Some (tick, which) → (reply : ℕ × Reply) × (numbered replies which ≡ Some reply))
-    → reply_handed op (replies ++ more ∷ []) handed ≡ reply_handed op replies handed
-reply_kept op replies more None there = refl
-reply_kept op replies more (Some h) there =
+reply_kept : (n : ℕ) (op : Op) (replies : List (ℕ × Reply)) (more : ℕ × Reply) (handed : Option (ℕ × ℕ)) → ((tick which : ℕ) → handed ≡ Some (tick, which) → (reply : ℕ × Reply) × (numbered replies which ≡ Some reply))
+    → reply_handed n op (replies ++ more ∷ []) handed ≡ reply_handed n op replies handed
+reply_kept n op replies more None there = refl
+reply_kept n op replies more (Some h) there =
     let k = there h.0 h.1 refl in
-    ap (option_map (λ (q : ℕ × Reply). as_heard (written_by op) q.1)) (numbered_more replies (more ∷ []) h.1 k.0 k.1 ∙ sym k.1)
+    ap (option_map (λ (q : ℕ × Reply). as_heard n (written_by op) q.1)) (numbered_more replies (more ∷ []) h.1 k.0 k.1 ∙ sym k.1)
 
 deliver_exchanged : (old new : State) (n : ℕ) (r : RequestAt) (reply : Reply) (effect : Effect) → DeliversBy old n r reply effect new → AreExchanged old → AreExchanged new
 deliver_exchanged old new n r reply effect d x =
@@ -180,15 +184,15 @@ deliver_exchanged old new n r reply effect d x =
     let marked = with_reply tick reply r in
     let place = numbered_place old.net n r d.request in
     let one = x.handed n r d.request in
-    let same : (k : ℕ) → exchange_of k marked ≡ exchange_of k r = λ k.
-    ap (λ o. (let y : Exchange = record { asked = record { number = k; site = r.site; op = r.op; awaited = r.awaited }; reply = o; given_up = (exchange_of k r).given_up } in y)) (reply_kept r.op r.replies (tick, reply) r.handed one) in
-    let keep : (name : Name) → exchanges_in new.net name ≡ exchanges_in old.net name = λ name.
-    ap (λ ks. exchanges_in ks name) d.net ∙ exchanges_kept 1 (n - 1) old.net r marked name place.1 refl (λ e. same (1 + (n - 1))) in
+    let same : (k : ℕ) → exchange_of old.cfg.n k marked ≡ exchange_of old.cfg.n k r = λ k.
+    ap (λ o. (let y : Exchange = record { asked = record { number = k; site = r.site; op = r.op; awaited = r.awaited }; reply = o; given_up = (exchange_of old.cfg.n k r).given_up } in y)) (reply_kept old.cfg.n r.op r.replies (tick, reply) r.handed one) in
+    let keep : (name : Name) → exchanges_in old.cfg.n new.net name ≡ exchanges_in old.cfg.n old.net name = λ name.
+    ap (λ ks. exchanges_in old.cfg.n ks name) d.net ∙ exchanges_kept old.cfg.n 1 (n - 1) old.net r marked name place.1 refl (λ e. same (1 + (n - 1))) in
     let cases : (m : ℕ) (q : RequestAt) → numbered new.net m ≡ Some q → (q ≡ marked) ⊎ (numbered old.net m ≡ Some q)
     = λ m q h. set_cases old.net n m r marked q d.request (subst (λ ks. numbered ks m ≡ Some q) d.net h) in
     let stay : (q : Name) → IsCallOf (old.traces q.session) q → IsCallOf (new.traces q.session) q = λ q h. subst (λ ts. IsCallOf ts q) (sym (d.sessions.traces q.session)) h in
     record {
-      traces = λ m. subst (EachTrace (IsExchanged new.net)) (sym (d.sessions.traces m)) (each_on (IsExchanged old.net) (IsExchanged new.net) (old.traces m) (λ u h. keep u.caller.name ∙ h) (x.traces m));
+      traces = λ m. under_same old new d.frame.cfg m (subst (EachTrace (IsExchanged old.cfg.n new.net)) (sym (d.sessions.traces m)) (each_on (IsExchanged old.cfg.n old.net) (IsExchanged old.cfg.n new.net) (old.traces m) (λ u h. keep u.caller.name ∙ h) (x.traces m)));
       calls = λ m q h. elim (cases m q h) [
         | inl e ↦ subst (λ (y : RequestAt). IsCallOf (new.traces y.name.session) y.name) (sym e) (stay r.name (x.calls n r d.request))
         | inr e ↦ stay q.name (x.calls m q e)
@@ -199,15 +203,15 @@ deliver_exchanged old new n r reply effect d x =
       ];
     }
 
-hand_exchanged : (old new : State) (n which : ℕ) (r : RequestAt) (reply : ℕ × Reply) (by : TurnBy) (effect : Effect) → numbered r.replies which ≡ Some reply → TakesTurn old n r (hears reply.1) by (with_handed (tick_of old) which r) effect new
+hand_exchanged : (old new : State) (n which : ℕ) (r : RequestAt) (reply : ℕ × Reply) (by : TurnBy) (effect : Effect) → numbered r.replies which ≡ Some reply → TakesTurn old n r (hears old.cfg.n reply.1) by (with_handed (tick_of old) which r) effect new
     → AreCallsListed old → AreCarried old → AreExchanged old → AreExchanged new
 hand_exchanged old new n which r reply by effect there t l carries x =
-    let heard = as_heard (written_by r.op) reply.1 in
-    let op = (told_request old new n r (with_handed (tick_of old) which r) (hears reply.1) by effect t carries).op_is in
-    let is : exchange_of n (with_handed (tick_of old) which r) ≡ with_answer heard (exchange_of n r)
-    = ap (λ o. (let y : Exchange = record { asked = record { number = n; site = r.site; op = r.op; awaited = r.awaited }; reply = o; given_up = (exchange_of n r).given_up } in y)) (ap (option_map (λ (q : ℕ × Reply). as_heard (written_by r.op) q.1)) there) in
-    turn_exchanged old new n r (with_handed (tick_of old) which r) (hears reply.1) by effect (with_answer heard) t refl is
-    (ap (λ q. map (changed_at by.asked.number (with_answer (as_heard (written_by q) reply.1))) (exchanges_told by.trace.actions)) (sym op))
+    let heard = as_heard old.cfg.n (written_by r.op) reply.1 in
+    let op = (told_request old new n r (with_handed (tick_of old) which r) (hears old.cfg.n reply.1) by effect t carries).op_is in
+    let is : exchange_of old.cfg.n n (with_handed (tick_of old) which r) ≡ with_answer heard (exchange_of old.cfg.n n r)
+    = ap (λ o. (let y : Exchange = record { asked = record { number = n; site = r.site; op = r.op; awaited = r.awaited }; reply = o; given_up = (exchange_of old.cfg.n n r).given_up } in y)) (ap (option_map (λ (q : ℕ × Reply). as_heard old.cfg.n (written_by r.op) q.1)) there) in
+    turn_exchanged old new n r (with_handed (tick_of old) which r) (hears old.cfg.n reply.1) by effect (with_answer heard) t refl is
+    (ap (λ q. map (changed_at by.asked.number (with_answer (as_heard old.cfg.n (written_by q) reply.1))) (exchanges_told by.trace.actions)) (sym op))
     (λ tick k e. let same : which ≡ k = second_of (tick_of old, which) (tick, k) e in (reply, ap (numbered r.replies) (sym same) ∙ there)) l carries x
   where
     second_of : (a b : ℕ × ℕ) → Some a ≡ Some b → a.1 ≡ b.1
@@ -218,28 +222,28 @@ give_up_exchanged old new n r by effect t l carries x =
     turn_exchanged old new n r (with_given_up (tick_of old) r) (λ a. GaveUp a) by effect without_answer t refl refl refl (x.handed n r t.request) l carries x
 
 does_exchanged : (old new : State) (event : Event) (effect : Effect) → Does old event effect new → AreCallsListed old → AreCarried old → AreExchanged old → AreExchanged new
-does_exchanged old new events.OpenSession effect d l c x = exchanged_same old new d.traces d.net x
+does_exchanged old new events.OpenSession effect d l c x = exchanged_same old new d.frame.cfg d.traces d.net x
 does_exchanged old new (events.Begin session call) effect d l c x = begin_exchanged old new session call d.0 d.1.0 effect d.1.1 l x
 does_exchanged old new (events.Deliver n) effect d l c x = deliver_exchanged old new n d.0 d.1.0 effect d.1.1 x
 does_exchanged old new (events.Reply n which) effect d l c x = hand_exchanged old new n which d.0 d.1.0 d.1.1.0 effect d.1.1.1.0 d.1.1.1.1 l c x
 does_exchanged old new (events.GiveUp n) effect d l c x = give_up_exchanged old new n d.0 d.1.0 effect d.1.1 l c x
-does_exchanged old new (events.Crash session) effect d l c x = exchanged_same old new d.traces d.net x
+does_exchanged old new (events.Crash session) effect d l c x = exchanged_same old new d.frame.cfg d.traces d.net x
 
 acts_exchanged : (old new : State) (event : Event) (effect : Effect) → HasEffect old event effect new → AreCallsListed old → AreCarried old → AreExchanged old → AreExchanged new
 acts_exchanged old new event effect acts l c x =
     elim (refusal_of old event) as (λ o. MatchOption o (Does old event effect new) (λ why. Skips old event why effect new) → AreExchanged new) [
       | None ↦ λ d. does_exchanged old new event effect d l c x
-      | Some why ↦ λ k. exchanged_same old new k.same.sessions.traces k.same.net x
+      | Some why ↦ λ k. exchanged_same old new k.same.frame.cfg k.same.sessions.traces k.same.net x
     ] acts
 
 step_exchanged : (old new : State) (event : Event) → WorldStep old event new → AreCallsListed old → AreCarried old → AreExchanged old → AreExchanged new
 step_exchanged old new event step l c x =
     let records = step.1.1.1.1 in
-    exchanged_same step.1.0 new records.sessions.traces records.net (acts_exchanged old step.1.0 event step.0 step.1.1.1.0 l c x)
+    exchanged_same step.1.0 new records.cfg records.sessions.traces records.net (acts_exchanged old step.1.0 event step.0 step.1.1.1.0 l c x)
 
 opening_exchanged : (s : State) → IsOpening s → AreExchanged s
 opening_exchanged s o = record {
-  traces = λ n. subst (EachTrace (IsExchanged s.net)) (sym (o.traces n)) tt;
+  traces = λ n. subst (EachTrace (IsExchanged s.cfg.n s.net)) (sym (o.traces n)) tt;
   calls = λ n r h. absurd (none_there n r (subst (λ ks. numbered ks n ≡ Some r) o.net h));
   handed = λ n r h. absurd (none_there n r (subst (λ ks. numbered ks n ≡ Some r) o.net h));
 }

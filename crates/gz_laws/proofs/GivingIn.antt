@@ -62,7 +62,7 @@ pub record IsKnownCall (s : State) (w : Caller) (past : List Trace) (ms : List A
   pub run : IsRun (key_of w.call) s transitions
   pub quorums : HasQuorums s.cfg
   pub allowed : AreAllowed s.cfg w past ms
-  pub carried : ActionsCarried s.net w.name ms
+  pub carried : ActionsCarried s.cfg.n s.net w.name ms
   pub order : HeardInOrder ms
   pub begun : begins_of w.name transitions ≡ sends_of ms
   pub mine : (q : Write) → IsIn q (sent_after unused transitions) → q.call ≡ w.name → SentStep ms q.act

@@ -39,7 +39,7 @@ known_call s session t past ms reached tells is gave =
     let st = after_transitions unused k.0 in
     let l = listed s reached in
     let told : AllKeepRules s.cfg session (t ∷ past) = subst (AllKeepRules s.cfg session) is (l.told session) in
-    let mine : TracesCarried s.net (t ∷ past) = subst (TracesCarried s.net) is (carried s reached session) in
+    let mine : TracesCarried s.cfg.n s.net (t ∷ past) = subst (TracesCarried s.cfg.n s.net) is (carried s reached session) in
     let order : EachTrace (IsInOrder s.net) (t ∷ past) = subst (EachTrace (IsInOrder s.net)) is (in_order s reached tells session) in
     let begun : EachTrace (IsBegunIn key k.0) (t ∷ past) = subst (EachTrace (IsBegunIn key k.0)) is (k.1.begun session) in
     let keeps = keeps_newest s.cfg key s.net s.traces st session t past l.told k.1.requests k.1.sent is refl mine.0 in
@@ -48,7 +48,7 @@ known_call s session t past ms reached tells is gave =
       run = k.1;
       quorums = (placed s reached).config.quorums;
       allowed = (subst (AreAllowed s.cfg t.caller past) gave told.0.allowed).1;
-      carried = (subst (ActionsCarried s.net t.caller.name) gave mine.0).1;
+      carried = (subst (ActionsCarried s.cfg.n s.net t.caller.name) gave mine.0).1;
       order = subst HeardInOrder gave order.0.heard;
       begun = begun.0 refl ∙ ap sends_of gave;
       mine = λ q i own. elim (subst (λ ks. SentStep ks q.act) gave (keeps.own q i own)) [ inl bad ↦ absurd bad | inr h ↦ h ];
@@ -82,8 +82,11 @@ turn_never old new n r marked action by effect t keeps none l h =
     let before : EachTrace IsKeptOn (by.trace ∷ by.earlier) = subst (EachTrace IsKeptOn) t.traces (h session) in
     let now : NeverGaveIn ms = sent_never (next_of old) by.turn.send (action by.asked ∷ by.trace.actions) (keeps by.trace.actions before.0) in
     let here : NeverGaveIn (by.closing ++ ms) = elim t.closing [
-      | inl e ↦ subst (λ ks. NeverGaveIn (ks ++ ms)) (sym e) now
-      | inr e ↦ absurd (none session after by.earlier ms (traces_here old new session (after ∷ by.earlier) t.moves) (ap (λ ks. ks ++ ms) e))
+      | inl k ↦ elim k [
+        | inl e ↦ subst (λ ks. NeverGaveIn (ks ++ ms)) (sym e) now
+        | inr e ↦ absurd (none session after by.earlier ms (traces_here old new session (after ∷ by.earlier) t.moves) (ap (λ ks. ks ++ ms) e))
+      ]
+      | inr e ↦ subst (λ ks. NeverGaveIn (ks ++ ms)) (sym e) now
     ] in
     each_moved IsKeptOn IsKeptOn old new session after by.earlier t.moves l.told (λ u apart k. k) here before.1 h
 
@@ -93,7 +96,7 @@ does_never old new (events.Begin session call) effect d none l h =
     let t = begun session call d.0 (next_of old) d.1.0 (old.traces session) in
     each_moved IsKeptOn IsKeptOn old new session t (old.traces session) d.1.1.moves l.told (λ u apart k. k) (sent_never (next_of old) d.1.0.send [] tt) (h session) h
 does_never old new (events.Deliver n) effect d none l h = never_same old new d.1.1.sessions.traces h
-does_never old new (events.Reply n which) effect d none l h = turn_never old new n d.0 _ (hears d.1.0.1) d.1.1.0 effect d.1.1.1.1 (λ ms k. k) none l h
+does_never old new (events.Reply n which) effect d none l h = turn_never old new n d.0 _ (hears old.cfg.n d.1.0.1) d.1.1.0 effect d.1.1.1.1 (λ ms k. k) none l h
 does_never old new (events.GiveUp n) effect d none l h = turn_never old new n d.0 _ (λ a. GaveUp a) d.1.0 effect d.1.1 (λ ms k. k) none l h
 does_never old new (events.Crash session) effect d none l h = never_same old new d.traces h
 

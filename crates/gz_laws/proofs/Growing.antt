@@ -20,10 +20,11 @@ use Rattle.gz_core.specs.declared.requests.Op.TheVariants.{ReadRow, WriteRow}
 use Rattle.gz_core.specs.declared.requests.Out.{Out}
 use Rattle.gz_accept.proofs.Rising.{rises_with}
 use Rattle.gz_core.specs.History.{Action, Sent, Caller, Trace, asked_of, sent_from}
-use Rattle.gz_core.specs.Calls.{IsOwn}
+use Rattle.gz_data.specs.Own.{IsOwn}
 use Rattle.gz_round.specs.Shown.{IsShown}
 use Rattle.gz_round.specs.Sites.{SiteNow, site_now, some_heard}
-use Rattle.gz_round.specs.Sending.{AreAllowed, MayAsk, MayMake, IsMade}
+use Rattle.gz_round.specs.Sending.{AreAllowed, MayMake, IsMade}
+use Rattle.gz_laws.proofs.Asking.{MayAskRow, row_asked}
 use Rattle.gz_history.specs.Answers.{IsWrite}
 use Rattle.gz_ledger.specs.Histories.{RowSeen, Write, IsIn, IsProposed, VotesFor}
 use Rattle.gz_ledger.specs.Agreements.{HasQuorums}
@@ -104,7 +105,7 @@ same_on : (c : Config) (name : Name) (ms : List Action) (ds : List Transition) �
 same_on c name ms ds = λ call early late split current own. record { later = late; split = split; current = current; rows = λ e h. h }
 
 -- a request that is sent is a transition of its own call
-ask_on : (c : Config) (w : Caller) (past : List Trace) (ms : List Action) (ds : List Transition) (step : RowStep) (qa : WriteSent) → HasQuorums c → AreTransitions c unused ds → IsOwn w.name w.call w.own → ActionsStand (after_transitions unused ds) ms → MayMake c w past ms step → qa.write.call ≡ w.name → qa.write.act ≡ act_of step
+ask_on : (c : Config) (w : Caller) (past : List Trace) (ms : List Action) (ds : List Transition) (step : RowStep) (qa : WriteSent) → HasQuorums c → AreTransitions c unused ds → IsOwn c w.name w.call w.own → ActionsStand (after_transitions unused ds) ms → MayMake c w past ms step → qa.write.call ≡ w.name → qa.write.act ≡ act_of step
     → GoOn c w.name ms ds (Begins (heard_of ms) qa ∷ ds)
 ask_on c w past ms ds step qa q are value stands may own is = λ call early late split current heard. record {
   later = Begins (heard_of ms) qa ∷ late;
@@ -144,10 +145,17 @@ pub record Asks (c : Config) (w : Caller) (past : List Trace) (ms : List Action)
   pub begun : (x : Name) → begins_of x more ≡ (if same_name w.name x then step_sent op (heard_of ms) (begins_of x ds) else begins_of x ds)
   pub on : GoOn c w.name ms ds more
 
--- a read begins no write
-read_begun : (b : Bool) (xs : List (List RowSeen × Act)) → xs ≡ (if b then xs else xs)
-read_begun true xs = refl
-read_begun false xs = refl
+-- a request that writes no row
+pub record IsNoWrite (op : Op) : Type 0 where
+  pub steps : (act : Act) → IsStepSent op act → ⊥
+  pub here : (name : Name) (site : ℕ) (st : Store) → AskedHere name site op st
+  pub clean : CleanOp op
+  pub begun : (heard : List RowSeen) (rest : List (List RowSeen × Act)) → step_sent op heard rest ≡ rest
+
+-- begins none
+none_begun : (b : Bool) (op : Op) (heard : List RowSeen) (xs : List (List RowSeen × Act)) → step_sent op heard xs ≡ xs → xs ≡ (if b then step_sent op heard xs else xs)
+none_begun true op heard xs e = sym e
+none_begun false op heard xs e = refl
 
 pub step_drawn : (c : Config) (w : Caller) (past : List Trace) (ms : List Action) (step : RowStep) (v : ℕ) (b : BallotAt) → MayMake c w past ms step → act_of step ≡ Promises v b → b.session ≡ w.name.session
 step_drawn c w past ms (FastVote u x) v b may e = cc
@@ -156,29 +164,25 @@ step_drawn c w past ms (ClassicVote u d x) v b may e = cc
 step_drawn c w past ms (Decide u x) v b may e = cc
 step_drawn c w past ms (Trim to x) v b may e = cc
 
-read_asked : (c : Config) (w : Caller) (past : List Trace) (ms : List Action) (ds : List Transition) (key : List ℕ) (act : Act) → Keeps w past ms (after_transitions unused ds) → IsStepSent (ReadRow key) act ⊎ SentStep ms act → (q : Write) × (IsIn q (writes_of (after_transitions unused ds).asked) × ((q.call ≡ w.name) × (q.act ≡ act)))
-read_asked c w past ms ds key act keeps (inl h) = absurd h
-read_asked c w past ms ds key act keeps (inr h) = keeps.asked act h
-
-write_own : (c : Config) (w : Caller) (past : List Trace) (ms : List Action) (ds : List Transition) (step : RowStep) (wr q : Write) → Keeps w past ms (after_transitions unused ds) → wr.act ≡ act_of step → IsIn q (wr ∷ writes_of (after_transitions unused ds).asked) → q.call ≡ w.name → (act_of step ≡ q.act) ⊎ SentStep ms q.act
+write_own : (c : Config) (w : Caller) (past : List Trace) (ms : List Action) (ds : List Transition) (step : RowStep) (wr q : Write) → Keeps c w past ms (after_transitions unused ds) → wr.act ≡ act_of step → IsIn q (wr ∷ writes_of (after_transitions unused ds).asked) → q.call ≡ w.name → (act_of step ≡ q.act) ⊎ SentStep ms q.act
 write_own c w past ms ds step wr q keeps is (inl e) same = inl (sym is ∙ ap (λ (k : Write). k.act) (sym e))
 write_own c w past ms ds step wr q keeps is (inr h) same = inr (keeps.own q h same)
 
-write_asked : (c : Config) (w : Caller) (past : List Trace) (ms : List Action) (ds : List Transition) (step : RowStep) (wr : Write) (act : Act) → Keeps w past ms (after_transitions unused ds) → wr.call ≡ w.name → wr.act ≡ act_of step → (act_of step ≡ act) ⊎ SentStep ms act → (q : Write) × (IsIn q (wr ∷ writes_of (after_transitions unused ds).asked) × ((q.call ≡ w.name) × (q.act ≡ act)))
+write_asked : (c : Config) (w : Caller) (past : List Trace) (ms : List Action) (ds : List Transition) (step : RowStep) (wr : Write) (act : Act) → Keeps c w past ms (after_transitions unused ds) → wr.call ≡ w.name → wr.act ≡ act_of step → (act_of step ≡ act) ⊎ SentStep ms act → (q : Write) × (IsIn q (wr ∷ writes_of (after_transitions unused ds).asked) × ((q.call ≡ w.name) × (q.act ≡ act)))
 write_asked c w past ms ds step wr act keeps own is (inl e) = (wr, (inl refl, (own, is ∙ e)))
 write_asked c w past ms ds step wr act keeps own is (inr h) = let k = keeps.asked act h in (k.0, (inr k.1.0, k.1.1))
 
-write_drawn : (c : Config) (w : Caller) (past : List Trace) (ms : List Action) (ds : List Transition) (step : RowStep) (wr q : Write) (v : ℕ) (b : BallotAt) → Keeps w past ms (after_transitions unused ds) → MayMake c w past ms step → wr.call ≡ w.name → wr.act ≡ act_of step → IsIn q (wr ∷ writes_of (after_transitions unused ds).asked) → q.act ≡ Promises v b → b.session ≡ q.call.session
+write_drawn : (c : Config) (w : Caller) (past : List Trace) (ms : List Action) (ds : List Transition) (step : RowStep) (wr q : Write) (v : ℕ) (b : BallotAt) → Keeps c w past ms (after_transitions unused ds) → MayMake c w past ms step → wr.call ≡ w.name → wr.act ≡ act_of step → IsIn q (wr ∷ writes_of (after_transitions unused ds).asked) → q.act ≡ Promises v b → b.session ≡ q.call.session
 write_drawn c w past ms ds step wr q v b keeps guard own is (inl e) act =
     let promised : act_of step ≡ Promises v b = sym is ∙ ap (λ (k : Write). k.act) (sym e) ∙ act in
     step_drawn c w past ms step v b guard promised ∙ ap (λ (k : Name). k.session) (sym own ∙ ap (λ (k : Write). k.call) (sym e))
 write_drawn c w past ms ds step wr q v b keeps guard own is (inr h) act = keeps.drawn q v b h act
 
-write_others : (c : Config) (w : Caller) (past : List Trace) (ms : List Action) (ds : List Transition) (wr q : Write) → Keeps w past ms (after_transitions unused ds) → wr.call ≡ w.name → IsIn q (wr ∷ writes_of (after_transitions unused ds).asked) → q.call.session ≡ w.name.session → (q.call ≡ w.name) ⊎ PastStep past q.act
+write_others : (c : Config) (w : Caller) (past : List Trace) (ms : List Action) (ds : List Transition) (wr q : Write) → Keeps c w past ms (after_transitions unused ds) → wr.call ≡ w.name → IsIn q (wr ∷ writes_of (after_transitions unused ds).asked) → q.call.session ≡ w.name.session → (q.call ≡ w.name) ⊎ PastStep past q.act
 write_others c w past ms ds wr q keeps own (inl e) same = inl (ap (λ (k : Write). k.call) e ∙ own)
 write_others c w past ms ds wr q keeps own (inr h) same = keeps.others q h same
 
-write_from : (c : Config) (w : Caller) (past : List Trace) (ms : List Action) (ds : List Transition) (step : RowStep) (wr q : Write) → HasQuorums c → AreTransitions c unused ds → IsOwn w.name w.call w.own → ActionsStand (after_transitions unused ds) ms → MayMake c w past ms step → wr.call ≡ w.name → wr.act ≡ act_of step
+write_from : (c : Config) (w : Caller) (past : List Trace) (ms : List Action) (ds : List Transition) (step : RowStep) (wr q : Write) → HasQuorums c → AreTransitions c unused ds → IsOwn c w.name w.call w.own → ActionsStand (after_transitions unused ds) ms → MayMake c w past ms step → wr.call ≡ w.name → wr.act ≡ act_of step
     → IsIn q (wr ∷ writes_of (after_transitions unused ds).asked) → IsIn q (writes_of (after_transitions unused ds).asked) ⊎ ((q.call ≡ w.name) × ((act_of step ≡ q.act) × IsOwnVote w ds q.act))
 write_from c w past ms ds step wr q quorums are value stands may own is (inl e) =
     let call : q.call ≡ w.name = ap (λ (k : Write). k.call) e ∙ own in
@@ -186,26 +190,27 @@ write_from c w past ms ds step wr q quorums are value stands may own is (inl e) 
     inr (call, (act, λ v votes. elim (own_current c w past ms ds step v quorums are value stands may (subst (λ a. VotesFor a v w.name) (sym act) votes)) [ inl p ↦ inl p | inr k ↦ inr k.0 ]))
 write_from c w past ms ds step wr q quorums are value stands may own is (inr h) = inl h
 
-ask_op : (c : Config) (w : Caller) (past : List Trace) (ms : List Action) (ds : List Transition) (site : ℕ) (now : SiteNow) (op : Op) → HasQuorums c → AreTransitions c unused ds → Keeps w past ms (after_transitions unused ds) → AreAllowed c w past ms
-    → IsLastRow (after_transitions unused ds) site now.row → MayAsk c w past ms now op → (more : List Transition) × Asks c w past ms ds site op more
-ask_op c w past ms ds site now (ReadRow key) quorums are keeps allowed last may = (
-  ds,
-  record {
-    are = are;
-    only = only_itself (after_transitions unused ds);
-    own = λ q h e. inr (keeps.own q h e);
-    asked = λ act h. read_asked c w past ms ds key act keeps h;
-    drawn = keeps.drawn;
-    others = keeps.others;
-    here = tt;
-    clean = tt;
-    from = λ q h. inl h;
-    begun = λ x. read_begun (same_name w.name x) (begins_of x ds);
-    on = same_on c w.name ms ds;
-  },
-)
+-- a request that writes no row is no transition
+unasked : (c : Config) (w : Caller) (past : List Trace) (ms : List Action) (ds : List Transition) (site : ℕ) (op : Op) → AreTransitions c unused ds → Keeps c w past ms (after_transitions unused ds) → IsNoWrite op → Asks c w past ms ds site op ds
+unasked c w past ms ds site op are keeps none = record {
+  are = are;
+  only = only_itself (after_transitions unused ds);
+  own = λ q h e. inr (keeps.own q h e);
+  asked = λ act h. elim h [ inl is ↦ absurd (none.steps act is) | inr before ↦ keeps.asked act before ];
+  drawn = keeps.drawn;
+  others = keeps.others;
+  here = none.here w.name site (after_transitions unused ds);
+  clean = none.clean;
+  from = λ q h. inl h;
+  begun = λ x. none_begun (same_name w.name x) op (heard_of ms) (begins_of x ds) (none.begun (heard_of ms) (begins_of x ds));
+  on = same_on c w.name ms ds;
+}
+
+ask_op : (c : Config) (w : Caller) (past : List Trace) (ms : List Action) (ds : List Transition) (site : ℕ) (now : SiteNow) (op : Op) → HasQuorums c → AreTransitions c unused ds → Keeps c w past ms (after_transitions unused ds) → AreAllowed c w past ms
+    → IsLastRow (after_transitions unused ds) site now.row → MayAskRow c w past ms now op → (more : List Transition) × Asks c w past ms ds site op more
+ask_op c w past ms ds site now (ReadRow key) quorums are keeps allowed last may = (ds, unasked c w past ms ds site (ReadRow key) are keeps (record { steps = λ act h. h; here = λ name s st. tt; clean = tt; begun = λ heard rest. refl }))
 ask_op c w past ms ds site now (WriteRow key expect step row) quorums are keeps allowed last may =
-    let m = may.1 in
+    let m = (may refl).1 in
     let known = last (record { etag = expect; row = m.before }) m.last in
     let wr : Write = record { call = w.name; site = site; before = slots m.before; act = act_of step; after = slots row } in
     let qa : WriteSent = record { expect = expect; write = wr } in (
@@ -232,7 +237,7 @@ ask_op c w past ms ds site now (WriteRow key expect step row) quorums are keeps 
         on = ask_on c w past ms ds step qa quorums are keeps.value keeps.stands m.guard refl refl;
       },
     )
-ask_op c w past ms ds site now op quorums are keeps allowed last may = absurd may
+ask_op c w past ms ds site now op quorums are keeps allowed last may = (ds, unasked c w past ms ds site op are keeps (record { steps = λ act h. h; here = λ name s st. tt; clean = tt; begun = λ heard rest. refl }))
 
 -- the writes that a call began are those that it sends, and no other call's have changed
 pub record HasBegun (name : Name) (first : ℕ) (outs : List Out) (ms : List Action) (ds more : List Transition) : Type 0 where
@@ -249,7 +254,7 @@ begun_then c w past first out outs ms ds mid more one rest = record {
 pub record Sends (c : Config) (w : Caller) (past : List Trace) (first : ℕ) (outs : List Out) (ms : List Action) (ds more : List Transition) : Type 0 where
   pub are : AreTransitions c unused more
   pub only : OnlyAsks (after_transitions unused ds) (after_transitions unused more)
-  pub keeps : Keeps w past (sent_from first outs ms) (after_transitions unused more)
+  pub keeps : Keeps c w past (sent_from first outs ms) (after_transitions unused more)
   pub here : (j : ℕ) (o : Out) → slice_get outs j ≡ Some o → AskedHere w.name o.site o.op (after_transitions unused more) × CleanOp o.op
   pub from : (q : Write) → IsIn q (writes_of (after_transitions unused more).asked) → IsIn q (writes_of (after_transitions unused ds).asked) ⊎ ((q.call ≡ w.name) × IsOwnVote w ds q.act)
   pub begun : HasBegun w.name first outs ms ds more
@@ -281,15 +286,15 @@ sent_new : (c : Config) (w : Caller) (past : List Trace) (ms : List Action) (sit
 sent_new c w past ms site op ds mid one q (inl h) = elim (one.from q h) [ inl e ↦ inl e | inr e ↦ inr (e.0, e.1.1) ]
 sent_new c w past ms site op ds mid one q (inr h) = inr (h.0, λ v votes. elim (h.1 v votes) [ inl p ↦ write_before c w past ms site op ds mid v q.act one p | inr k ↦ inr k ])
 
-pub sends : (c : Config) (w : Caller) (past : List Trace) (first : ℕ) (outs : List Out) (ms : List Action) (ds : List Transition) → HasQuorums c → AreTransitions c unused ds → Keeps w past ms (after_transitions unused ds) → AreAllowed c w past (sent_from first outs ms) → (more : List Transition) × Sends c w past first outs ms ds more
+pub sends : (c : Config) (w : Caller) (past : List Trace) (first : ℕ) (outs : List Out) (ms : List Action) (ds : List Transition) → HasQuorums c → AreTransitions c unused ds → Keeps c w past ms (after_transitions unused ds) → AreAllowed c w past (sent_from first outs ms) → (more : List Transition) × Sends c w past first outs ms ds more
 sends c w past first [] ms ds quorums are keeps allowed = (ds, record { are = are; only = only_itself (after_transitions unused ds); keeps = keeps; here = λ j o e. cc; from = λ q h. inl h; begun = record { others = λ x apart. refl; own = λ e. e }; on = same_on c w.name ms ds })
 sends c w past first (out ∷ outs) ms ds quorums are keeps allowed =
     let a = asked_of first out in
     let base = allowed_base c w past (first + 1) outs (Sent a ∷ ms) allowed in
-    let k = ask_op c w past ms ds out.site (site_now ms out.site) out.op quorums are keeps base.1 (last_stands (after_transitions unused ds) ms out.site keeps.stands) base.0.asks in
+    let k = ask_op c w past ms ds out.site (site_now ms out.site) out.op quorums are keeps base.1 (last_stands (after_transitions unused ds) ms out.site keeps.stands) (row_asked c w past ms a base.0) in
     let one = k.1 in
     let stands : ActionsStand (after_transitions unused k.0) (Sent a ∷ ms) = (tt, stand_more (after_transitions unused ds) (after_transitions unused k.0) ms (λ r h. subst (IsIn r) (sym one.only.replies) h) keeps.stands) in
-    let now : Keeps w past (Sent a ∷ ms) (after_transitions unused k.0) = record { value = keeps.value; stands = stands; own = one.own; asked = one.asked; drawn = one.drawn; others = one.others } in
+    let now : Keeps c w past (Sent a ∷ ms) (after_transitions unused k.0) = record { value = keeps.value; stands = stands; own = one.own; asked = one.asked; drawn = one.drawn; others = one.others } in
     let r = sends c w past (first + 1) outs (Sent a ∷ ms) k.0 quorums one.are now allowed in
     let rest = r.1 in (
       r.0,

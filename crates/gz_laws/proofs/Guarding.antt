@@ -99,7 +99,7 @@ grounded_heard c st ms v above stands (inl n) = inl (next_heard c st ms v stands
 grounded_heard c st ms v above stands (inr k) = let t = top_heard c st ms v above stands k in inr (t.entry, t.version, t.found, t.above, t.value)
 
 -- a promise of a ballot that was promised before is this call's, at this version
-fresh_ballot : (c : Config) (w : Caller) (past : List Trace) (ms : List Action) (st : Store) (v : ℕ) (b : BallotAt) → Keeps w past ms st → AreAllowed c w past ms → MayPromise c w past ms v b
+fresh_ballot : (c : Config) (w : Caller) (past : List Trace) (ms : List Action) (st : Store) (v : ℕ) (b : BallotAt) → Keeps c w past ms st → AreAllowed c w past ms → MayPromise c w past ms v b
     → (q : Write) (u : ℕ) → IsIn q (writes_of st.asked) → q.act ≡ Promises u b → (q.call ≡ w.name) × (u ≡ v)
 fresh_ballot c w past ms st v b keeps allowed may q u found is =
     let drawn = keeps.drawn q u b found is in
@@ -117,20 +117,20 @@ left_allows c w ms v heard x (inl k) =
     inr (k.0, k.1, n.1.0, record { site = n.0; is = n.2; vote = n.3 ∙ ap (λ y. Some (n.1.0, y)) n.4 })
 left_allows c w ms v heard x (inr k) = inl k.0
 
-proposed : (c : Config) (w : Caller) (past : List Trace) (ms : List Action) (st : Store) (v : ℕ) (x : Value) → Keeps w past ms st → MayPropose c w ms v x
+proposed : (c : Config) (w : Caller) (past : List Trace) (ms : List Action) (st : Store) (v : ℕ) (x : Value) → Keeps c w past ms st → MayPropose c w ms v x
     → ((name_of x ≡ w.name) × IsClearByRows c (heard_of ms) (writes_of st.asked) w.name v) ⊎ IsVotedAt (heard_of ms) v (name_of x)
-proposed c w past ms st v x keeps (inl k) = inl (own_named w.name w.call x (own_of w (Some x) keeps.value k.0), clear_heard c w past ms st v keeps k.2)
+proposed c w past ms st v x keeps (inl k) = inl (own_named c w.name w.call x (own_of c w (Some x) keeps.value k.0), clear_heard c w past ms st v keeps k.2)
 proposed c w past ms st v x keeps (inr k) = inr (vote_heard st ms v k.0 k.1 k.2 (name_of x) keeps.stands k.4 k.5)
 
 -- the source of a value where the choice is free
-left_source : (c : Config) (w : Caller) (past : List Trace) (ms : List Action) (st : Store) (v : ℕ) (heard : List Heard) (x : Value) → Keeps w past ms st → IsLeft c w ms v heard x → pick_of c.n c.qf heard ≡ Free
+left_source : (c : Config) (w : Caller) (past : List Trace) (ms : List Action) (st : Store) (v : ℕ) (heard : List Heard) (x : Value) → Keeps c w past ms st → IsLeft c w ms v heard x → pick_of c.n c.qf heard ≡ Free
     → ((name_of x ≡ w.name) × IsClearByRows c (heard_of ms) (writes_of st.asked) w.name v) ⊎ IsVotedAt (heard_of ms) v (name_of x)
 left_source c w past ms st v heard x keeps (inl k) free = let bad : Forced k.0 ≡ Free = sym k.1 ∙ free in cc
 left_source c w past ms st v heard x keeps (inr k) free = proposed c w past ms st v x keeps k.1
 
 -- what a client may make, the machine may
-pub may_send : (c : Config) (w : Caller) (past : List Trace) (ms : List Action) (st : Store) (step : RowStep) → Keeps w past ms st → AreAllowed c w past ms → MayMake c w past ms step → May c (heard_of ms) (writes_of st.asked) w.name (act_of step)
-may_send c w past ms st (FastVote v x) keeps allowed k = record { own = own_named w.name w.call x (own_of w (Some x) keeps.value k.0); next = next_heard c st ms v keeps.stands k.1.next; clear = clear_heard c w past ms st v keeps k.1.clear }
+pub may_send : (c : Config) (w : Caller) (past : List Trace) (ms : List Action) (st : Store) (step : RowStep) → Keeps c w past ms st → AreAllowed c w past ms → MayMake c w past ms step → May c (heard_of ms) (writes_of st.asked) w.name (act_of step)
+may_send c w past ms st (FastVote v x) keeps allowed k = record { own = own_named c w.name w.call x (own_of c w (Some x) keeps.value k.0); next = next_heard c st ms v keeps.stands k.1.next; clear = clear_heard c w past ms st v keeps k.1.clear }
 may_send c w past ms st (Promise v b) keeps allowed k = record {
   positive = k.above;
   classic = classic_not_fast b k.classic;

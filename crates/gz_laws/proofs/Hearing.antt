@@ -16,7 +16,8 @@ use Rattle.gz_config.specs.declared.Config.{Config}
 use Rattle.gz_pick.specs.Evidences.{votes_for, decides, is_for, is_named}
 use Rattle.gz_core.specs.History.{Asked, Action, Sent, Handed, GaveUp, Rested, GaveIn, is_row_request}
 use Rattle.gz_round.specs.declared.hearing.Seen.{Seen}
-use Rattle.gz_round.specs.Sites.{SiteNow, site_now, after, after_reply, is_to, seen_in, written_by, is_changed, passes, some_heard}
+use Rattle.gz_round.specs.Sites.{SiteNow, site_now, after, after_reply, is_to, seen_in, written_by, is_changed, heard_in, passes, some_heard}
+use Rattle.gz_round.proofs.Actions.{heard_row}
 use Rattle.gz_round.specs.Shown.{IsShown, IsNext}
 use Rattle.gz_ledger.specs.Acceptors.{slot_votes}
 use Rattle.gz_ledger.specs.Histories.{RowSeen, IsIn, cast, IsShownByRows}
@@ -61,7 +62,7 @@ entry_cast st p v b x f a (Some seen) es s rest stands more h =
 pub heard_cast : (st : Store) (p : RowAt → Bool) (v : ℕ) (b : BallotAt) (x : Name) → ((r : RowAt) → r.floor ≡ 0 → p r ≡ true → slot_votes (slots r v) b x ≡ true) → (ms : List Action) (s : ℕ) → ActionsStand st ms → some_heard p ms s ≡ true → cast (heard_of ms) v b x s ≡ true
 heard_cast st p v b x f [] s stands h = cc
 heard_cast st p v b x f (Sent a ∷ ms) s stands h = heard_cast st p v b x f ms s stands.1 h
-heard_cast st p v b x f (Handed a reply ∷ ms) s stands h = entry_cast st p v b x f a (seen_in (written_by a.op) reply) (heard_of ms) s (some_heard p ms s) stands.0 (λ e. heard_cast st p v b x f ms s stands.1 e) h
+heard_cast st p v b x f (Handed a reply ∷ ms) s stands h = entry_cast st p v b x f a (heard_in (Handed a reply)) (heard_of ms) s (some_heard p ms s) stands.0 (λ e. heard_cast st p v b x f ms s stands.1 e) h
 heard_cast st p v b x f (GaveUp a ∷ ms) s stands h = heard_cast st p v b x f ms s stands.1 h
 heard_cast st p v b x f (Rested ∷ ms) s stands h = heard_cast st p v b x f ms s stands.1 h
 heard_cast st p v b x f (GaveIn ∷ ms) s stands h = heard_cast st p v b x f ms s stands.1 h
@@ -84,7 +85,7 @@ entry_found st p a (Some seen) es s rest stands more h =
 pub heard_found : (st : Store) (p : RowAt → Bool) (ms : List Action) (s : ℕ) → ActionsStand st ms → some_heard p ms s ≡ true → (r : RowAt) × (IsClean r × ((p r ≡ true) × (let e : RowSeen = record { site = s; row = slots r } in IsIn e (heard_of ms))))
 heard_found st p [] s stands h = cc
 heard_found st p (Sent a ∷ ms) s stands h = heard_found st p ms s stands.1 h
-heard_found st p (Handed a reply ∷ ms) s stands h = entry_found st p a (seen_in (written_by a.op) reply) (heard_of ms) s (some_heard p ms s) stands.0 (λ e. heard_found st p ms s stands.1 e) h
+heard_found st p (Handed a reply ∷ ms) s stands h = entry_found st p a (heard_in (Handed a reply)) (heard_of ms) s (some_heard p ms s) stands.0 (λ e. heard_found st p ms s stands.1 e) h
 heard_found st p (GaveUp a ∷ ms) s stands h = heard_found st p ms s stands.1 h
 heard_found st p (Rested ∷ ms) s stands h = heard_found st p ms s stands.1 h
 heard_found st p (GaveIn ∷ ms) s stands h = heard_found st p ms s stands.1 h
@@ -113,7 +114,7 @@ entry_known st s (Some seen) es e stands more (inr h) = more h
 pub heard_known : (st : Store) (ms : List Action) (e : RowSeen) → ActionsStand st ms → IsIn e (heard_of ms) → IsIn e (rows_of st.replies)
 heard_known st [] e stands h = absurd h
 heard_known st (Sent a ∷ ms) e stands h = heard_known st ms e stands.1 h
-heard_known st (Handed a reply ∷ ms) e stands h = entry_known st a.site (seen_in (written_by a.op) reply) (heard_of ms) e stands.0 (λ k. heard_known st ms e stands.1 k) h
+heard_known st (Handed a reply ∷ ms) e stands h = entry_known st a.site (heard_in (Handed a reply)) (heard_of ms) e stands.0 (λ k. heard_known st ms e stands.1 k) h
 heard_known st (GaveUp a ∷ ms) e stands h = heard_known st ms e stands.1 h
 heard_known st (Rested ∷ ms) e stands h = heard_known st ms e stands.1 h
 heard_known st (GaveIn ∷ ms) e stands h = heard_known st ms e stands.1 h
@@ -140,7 +141,7 @@ last_stands st (Sent a ∷ ms) s stands = chosen_last st s (is_to a s) (site_now
 last_stands st (Handed a reply ∷ ms) s stands =
     chosen_last st s (is_to a s) (site_now ms s) (after (Handed a reply) (site_now ms s))
     (λ e. let t = and_parts (is_row_request a.op) (a.site == s) e in
-    reply_last st s (seen_in (written_by a.op) reply) (is_changed reply) (site_now ms s) (subst (λ q. SeenStands st q (seen_in (written_by a.op) reply)) (eqb-true a.site s t.1) stands.0) (last_stands st ms s stands.1))
+    reply_last st s (seen_in (written_by a.op) reply) (is_changed reply) (site_now ms s) (subst (λ q. SeenStands st q (seen_in (written_by a.op) reply)) (eqb-true a.site s t.1) (subst (SeenStands st a.site) (heard_row a reply t.0) stands.0)) (last_stands st ms s stands.1))
     (last_stands st ms s stands.1)
 last_stands st (GaveUp a ∷ ms) s stands = chosen_last st s (is_to a s) (site_now ms s) (after (GaveUp a) (site_now ms s)) (λ _. last_stands st ms s stands.1) (last_stands st ms s stands.1)
 last_stands st (Rested ∷ ms) s stands = last_stands st ms s stands.1
@@ -154,7 +155,7 @@ seen_more st su s (Some seen) f h = (h.0, f (record { site = s; etag = seen.etag
 pub stand_more : (st su : Store) (ms : List Action) → ((r : Answered) → IsIn r st.replies → IsIn r su.replies) → ActionsStand st ms → ActionsStand su ms
 stand_more st su [] f stands = tt
 stand_more st su (Sent a ∷ ms) f stands = (tt, stand_more st su ms f stands.1)
-stand_more st su (Handed a reply ∷ ms) f stands = (seen_more st su a.site (seen_in (written_by a.op) reply) f stands.0, stand_more st su ms f stands.1)
+stand_more st su (Handed a reply ∷ ms) f stands = (seen_more st su a.site (heard_in (Handed a reply)) f stands.0, stand_more st su ms f stands.1)
 stand_more st su (GaveUp a ∷ ms) f stands = (tt, stand_more st su ms f stands.1)
 stand_more st su (Rested ∷ ms) f stands = (tt, stand_more st su ms f stands.1)
 stand_more st su (GaveIn ∷ ms) f stands = (tt, stand_more st su ms f stands.1)

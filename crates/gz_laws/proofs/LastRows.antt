@@ -1,15 +1,17 @@
 -- The last row that a call heard from a site goes forward from each that it heard there.
 use Rattle.std.proofs.Common.{◌≡◌, ℕ, inl, inr, List, [], ◌∷◌, Some, None, Bool, true, false, refl, ap, sym, ◌∙◌, subst}
-use Rattle.std.proofs.lemmas.Bool.{cases_eq}
+use Rattle.std.proofs.lemmas.Bool.{cases_eq, cases_Bool}
 use Rattle.std.specs.Prelude.{Option, if◌then◌else◌}
 use Rattle.gz_core.specs.Slots.{slots}
 use Rattle.gz_round.specs.declared.hearing.Seen.{Seen}
-use Rattle.gz_core.specs.History.{Asked, Action, Sent, Handed, GaveUp, Rested, GaveIn}
+use Rattle.gz_core.specs.History.{Asked, Action, Sent, Handed, GaveUp, Rested, GaveIn, is_row_request}
 use Rattle.gz_round.specs.Sites.{SiteNow, site_now, after, after_reply, is_to, seen_in, written_by, is_changed}
 use Rattle.gz_ledger.specs.Histories.{RowSeen, IsIn}
 use Rattle.gz_ledger.proofs.Follows.{Follows, follows_refl}
 use Rattle.gz_laws.specs.Heard.{seen_entry, heard_of}
-use Rattle.gz_laws.proofs.HeardOrder.{EntryFollows, IsOfRowRequest, HeardInOrder, to_here, to_other}
+use Rattle.gz_laws.proofs.HeardOrder.{EntryFollows, IsOfRowRequest, HeardInOrder}
+use Rattle.gz_round.proofs.Actions.{is_to_same, is_to_other, heard_row}
+use Rattle.gz_round.proofs.Blobs.{blob_heard, blob_site}
 use Rattle.gz_laws.proofs.Overtaking.{row_sent}
 
 -- a row of a site
@@ -38,10 +40,10 @@ handed_last a changed now es s e None row order i at before =
     (k.0, (none_row (is_to a s) changed now ∙ k.1.0, k.1.1))
 handed_last a changed now es s e (Some x) row order (inl same) at before =
     let here : a.site ≡ s = ap (λ (q : RowSeen). q.site) (sym same) ∙ at in
-    (x, (if_same (is_to a s) true (after_reply (Some x) changed now) now (to_here a s row here), (inl (same_entry a s x here), subst (λ (q : RowSeen). Follows q.row (slots x.row)) (sym same) (follows_refl (slots x.row)))))
+    (x, (if_same (is_to a s) true (after_reply (Some x) changed now) now (is_to_same a s row here), (inl (same_entry a s x here), subst (λ (q : RowSeen). Follows q.row (slots x.row)) (sym same) (follows_refl (slots x.row)))))
 handed_last a changed now es s e (Some x) row order (inr i) at before = elim (cases_eq a.site s) [
-  | inl here ↦ (x, (if_same (is_to a s) true (after_reply (Some x) changed now) now (to_here a s row here), (inl (same_entry a s x here), order e i (at ∙ sym here))))
-  | inr apart ↦ (let k = before i in (k.0, (if_same (is_to a s) false (after_reply (Some x) changed now) now (to_other a s row apart) ∙ k.1.0, (inr k.1.1.0, k.1.1.1))))
+  | inl here ↦ (x, (if_same (is_to a s) true (after_reply (Some x) changed now) now (is_to_same a s row here), (inl (same_entry a s x here), order e i (at ∙ sym here))))
+  | inr apart ↦ (let k = before i in (k.0, (if_same (is_to a s) false (after_reply (Some x) changed now) now (is_to_other a s (λ e. apart (sym e))) ∙ k.1.0, (inr k.1.1.0, k.1.1.1))))
 ]
 
 left_row : (b : Bool) (now next : SiteNow) → next.row ≡ now.row → (if b then next else now).row ≡ now.row
@@ -51,7 +53,15 @@ left_row false now next e = refl
 pub last_from : (ms : List Action) (s : ℕ) (e : RowSeen) → HeardInOrder ms → IsIn e (heard_of ms) → e.site ≡ s → IsLastOf (site_now ms s).row (heard_of ms) s e
 last_from [] s e order i at = absurd i
 last_from (Sent a ∷ ms) s e order i at = let k = last_from ms s e order i at in (k.0, (row_sent a ms s ∙ k.1.0, k.1.1))
-last_from (Handed a reply ∷ ms) s e order i at = handed_last a (is_changed reply) (site_now ms s) (heard_of ms) s e (seen_in (written_by a.op) reply) order.0.0 order.0.1 i at (λ j. last_from ms s e order.1 j at)
+last_from (Handed a reply ∷ ms) s e order i at = elim (cases_Bool (is_row_request a.op)) [
+  | inl row ↦ (let shows = heard_row a reply row in
+      let last = handed_last a (is_changed reply) (site_now ms s) (heard_of ms) s e (seen_in (written_by a.op) reply) (subst (IsOfRowRequest a.op) shows order.0.0) (subst (EntryFollows (heard_of ms) a.site) shows order.0.1)
+      (subst (λ o. IsIn e (seen_entry a.site o (heard_of ms))) shows i) at (λ j. last_from ms s e order.1 j at) in
+      subst (λ o. IsLastOf (site_now (Handed a reply ∷ ms) s).row (seen_entry a.site o (heard_of ms)) s e) (sym shows) last)
+  | inr blob ↦ (let shows = blob_heard (Handed a reply) blob in
+      let k = last_from ms s e order.1 (subst (λ o. IsIn e (seen_entry a.site o (heard_of ms))) shows i) at in
+      (k.0, (ap (λ (now : SiteNow). now.row) (blob_site (Handed a reply) ms s blob) ∙ k.1.0, (subst (λ o. IsIn (entry_at s k.0) (seen_entry a.site o (heard_of ms))) (sym shows) k.1.1.0, k.1.1.1))))
+]
 last_from (GaveUp a ∷ ms) s e order i at = let k = last_from ms s e order i at in (k.0, (left_row (is_to a s) (site_now ms s) (after (GaveUp a) (site_now ms s)) refl ∙ k.1.0, k.1.1))
 last_from (Rested ∷ ms) s e order i at = last_from ms s e order i at
 last_from (GaveIn ∷ ms) s e order i at = last_from ms s e order i at

@@ -1,23 +1,24 @@
 -- The history of a world that is reached is legal.
 use Rattle.std.proofs.Common.{◌≡◌, ℕ, ◌+◌, ◌<◌, ◌≤◌, inl, inr, List, [], ◌∷◌, ◌++◌, Some, None, true, false, length, refl, ap, sym, ◌∙◌, subst, arith}
-use Rattle.std.proofs.lemmas.Bool.{cases_eq, cases_lt, or_cases, or_left, or_right}
+use Rattle.std.proofs.lemmas.Bool.{cases_eq, cases_lt, or_cases, or_left, or_right, false≢true}
 use Rattle.std.proofs.lemmas.Option.{slice_get_read, get_or_from_slice_get}
 use Rattle.std.specs.Prelude.{Option, Contains, ◌==◌, slice_get}
 use Rattle.gz_core.specs.Names.{Name}
-use Rattle.gz_core.specs.Calls.{key_of, IsOwn}
-use Rattle.gz_core.specs.Puts.{PutData}
+use Rattle.gz_core.specs.Calls.{key_of}
+use Rattle.gz_data.specs.Own.{IsOwn}
 use Rattle.gz_core.specs.Values.{name_of}
 use Rattle.gz_core.specs.declared.values.Value.{Value}
 use Rattle.gz_core.specs.declared.values.Value.TheVariants.{Tomb, Put as PutOf}
 use Rattle.gz_round.specs.Shown.{IsValueHeard}
 use Rattle.gz_core.specs.Slots.{Act}
 use Rattle.gz_core.specs.declared.calls.Answer.{Answer}
-use Rattle.gz_core.specs.declared.calls.Answer.TheVariants.{Ok, Bytes, Gone, Absent, NoQuorum, Contended, Unsure}
+use Rattle.gz_core.specs.declared.calls.Answer.TheVariants.{Ok, Thin, Short, Bytes, Incomplete, Gone, Absent, NoQuorum, Contended, Unsure}
 use Rattle.gz_core.specs.declared.calls.Call.{Call}
 use Rattle.gz_config.specs.declared.Config.{Config}
-use Rattle.gz_core.specs.History.{Action, Trace}
+use Rattle.gz_core.specs.History.{Action, Sent, Trace, is_row_request}
 use Rattle.gz_core.specs.declared.calls.Call.TheVariants.{GetAt}
-use Rattle.gz_round.specs.Sent.{vote_by, of_sent, passes_sent, voted, voted_at}
+use Rattle.gz_round.specs.Sent.{vote_by, of_step, of_sent, passes_sent, voted, voted_at}
+use Rattle.gz_round.specs.Sending.{AreAllowed}
 use Rattle.gz_round.specs.Starting.{IsWithin}
 use Rattle.gz_client.specs.Traces.{IsAnswered, AllKeepRules}
 use Rattle.gz_history.specs.Answers.{shows, names, read_from, bytes_read, bytes_written, IsWrite, Writes, MayTakeEffect, AnswersAsked}
@@ -29,6 +30,11 @@ use Rattle.gz_ledger.proofs.Shown.{shown_more}
 use Rattle.gz_ledger.proofs.Stores.{store_agreed, early_transitions}
 use Rattle.gz_laws.specs.Heard.{unused}
 use Rattle.gz_laws.specs.Carried.{ActionsCarried, AreCarried}
+use Rattle.gz_laws.specs.Each.{EachTrace}
+use Rattle.gz_laws.specs.Given.{GivesBack, AreGivenBack}
+use Rattle.gz_client.specs.Blobs.{sends_op, has_asked}
+use Rattle.gz_core.specs.declared.requests.Op.{Op}
+use Rattle.gz_core.specs.declared.requests.Op.TheVariants.{ReadRow, WriteRow}
 use Rattle.gz_laws.specs.Listed.{IsTraceOf, IsAmong, AreCallsListed}
 use Rattle.gz_laws.specs.Placed.{ArePlaced}
 use Rattle.gz_world.specs.Reached.{IsReached, AllTell}
@@ -43,6 +49,7 @@ use Rattle.gz_world.proofs.Places.{get_below}
 use Rattle.gz_laws.proofs.RunAnswers.{call_trace, call_told}
 use Rattle.gz_laws.proofs.Sending.{sent_votes}
 use Rattle.gz_laws.proofs.Carrying.{carried}
+use Rattle.gz_laws.proofs.GivenBack.{one_named, given_back}
 use Rattle.gz_laws.proofs.Listing.{listed}
 use Rattle.gz_laws.proofs.Placing.{placed}
 use Rattle.gz_laws.proofs.Recording.{recorded}
@@ -51,10 +58,10 @@ use Rattle.gz_laws.proofs.Values.{heard_given}
 use Rattle.gz_laws.proofs.Valuing.{valued, net_given}
 use Rattle.gz_laws.proofs.Owning.{own_of, own_named, own_put, own_tomb, no_write}
 
-contains_get : {A : Type 0} (xs : List A) (x : A) → Contains xs x → (i : ℕ) × (slice_get xs i ≡ Some x)
+pub contains_get : {A : Type 0} (xs : List A) (x : A) → Contains xs x → (i : ℕ) × (slice_get xs i ≡ Some x)
 contains_get xs x h = (h.0, slice_get_read xs (length xs) h.0 x refl h.1 (sym h.2))
 
-get_contains : {A : Type 0} (xs : List A) (i : ℕ) (x : A) → slice_get xs i ≡ Some x → Contains xs x
+pub get_contains : {A : Type 0} (xs : List A) (i : ℕ) (x : A) → slice_get xs i ≡ Some x → Contains xs x
 get_contains xs i x h = (i, get_below xs i x h, get_or_from_slice_get xs i x x h)
 
 -- what is known of a world and of one of its objects
@@ -116,17 +123,37 @@ voted_some x (m ∷ ms) u h = elim (or_cases (passes_sent (λ q. q == u) (of_sen
   | inr e ↦ or_right (passes_sent (λ (q : ℕ). true) (of_sent (vote_by x) m)) (voted x ms) (voted_some x ms u e)
 ]
 
+-- it asked for a row,
+cast_op : (x : Name) (op : Op) → passes_sent (λ (q : ℕ). true) (of_step (vote_by x) op) ≡ true → is_row_request op ≡ true
+cast_op x (WriteRow key expect step row) h = refl
+cast_op x (ReadRow key) h = refl
+cast_op x op h = cc
+
+cast_row : (x : Name) (m : Action) → passes_sent (λ (q : ℕ). true) (of_sent (vote_by x) m) ≡ true → sends_op is_row_request m ≡ true
+cast_row x (Sent a) h = cast_op x a.op h
+cast_row x m h = cc
+
+voted_asked : (x : Name) (ms : List Action) → voted x ms ≡ true → has_asked ms ≡ true
+voted_asked x [] h = cc
+voted_asked x (m ∷ ms) h = elim (or_cases (passes_sent (λ (q : ℕ). true) (of_sent (vote_by x) m)) (voted x ms) h) [
+  | inl e ↦ or_left (sends_op is_row_request m) (has_asked ms) (cast_row x m e)
+  | inr e ↦ or_right (sends_op is_row_request m) (has_asked ms) (voted_asked x ms e)
+]
+
 -- and does not answer that it took no effect
-effect_of : (c : Config) (t : Trace) (answer : Option Answer) → IsAnswered c t answer → voted t.caller.name t.actions ≡ true → MayTakeEffect answer
-effect_of c t None h v = tt
-effect_of c t (Some (Ok version)) h v = tt
-effect_of c t (Some (Bytes version name bytes)) h v = tt
-effect_of c t (Some (Gone version name)) h v = tt
-effect_of c t (Some Absent) h v = tt
-effect_of c t (Some (NoQuorum phase heard)) h v = let bad : true ≡ false = sym v ∙ h.0 in cc
-effect_of c t (Some (Contended met)) h v = let bad : true ≡ false = sym v ∙ h.0 in cc
-effect_of c t (Some (Unsure why)) h v = tt
-effect_of c t (Some answer) h v = absurd h
+effect_of : (c : Config) (past : List Trace) (t : Trace) (answer : Option Answer) → IsAnswered c past t answer → voted t.caller.name t.actions ≡ true → MayTakeEffect answer
+effect_of c past t None h v = tt
+effect_of c past t (Some (Ok version)) h v = tt
+effect_of c past t (Some (Thin version told)) h v = tt
+effect_of c past t (Some (Short told)) h v = let bad = voted_asked t.caller.name t.actions v in absurd (false≢true (sym h.1.unasked ∙ bad))
+effect_of c past t (Some (Bytes version name bytes)) h v = tt
+effect_of c past t (Some (Incomplete version name fates)) h v = tt
+effect_of c past t (Some (Gone version name)) h v = tt
+effect_of c past t (Some Absent) h v = tt
+effect_of c past t (Some (NoQuorum phase heard)) h v = let bad : true ≡ false = sym v ∙ h.1.0 in cc
+effect_of c past t (Some (Contended met)) h v = let bad : true ≡ false = sym v ∙ h.1.0 in cc
+effect_of c past t (Some (Unsure why)) h v = tt
+effect_of c past t (Some answer) h v = absurd h
 
 -- the rows that transitions showed before are among those that they showed later
 early_seen : (late early : List Transition) (e : RowSeen) → IsIn e (seen_after unused early) → IsIn e (seen_after unused (late ++ early))
@@ -146,27 +173,38 @@ pub record IsReading (c : Config) (t : Trace) (answer : Option Answer) (x : Name
   pub reads : t.caller.own ≡ None
   pub named : name_of value ≡ x
   pub heard : IsValueHeard t.actions version value
-  pub writes : (name : Name) (call : Call) → IsOwn name call (Some value) → Writes answer call
-  pub written : (name : Name) (call : Call) (bytes : List ℕ) → IsOwn name call (Some value) → bytes_read answer ≡ Some bytes → bytes_written call ≡ Some bytes
+  pub writes : (name : Name) (call : Call) → IsOwn c name call (Some value) → Writes answer call
 
-pub reading : (c : Config) (t : Trace) (answer : Option Answer) (x : Name) → IsAnswered c t answer → read_from answer ≡ Some x → IsReading c t answer x
-reading c t None x h e = cc
-reading c t (Some (Ok version)) x h e = cc
-reading c t (Some (Bytes version name bytes)) x h e =
-    let p : PutData = record { name = name; bytes = bytes } in
+pub reading : (c : Config) (past : List Trace) (t : Trace) (answer : Option Answer) (x : Name) → IsAnswered c past t answer → read_from answer ≡ Some x → IsReading c t answer x
+reading c past t None x h e = cc
+reading c past t (Some (Ok version)) x h e = cc
+reading c past t (Some (Thin version told)) x h e = cc
+reading c past t (Some (Short told)) x h e = cc
+reading c past t (Some (Bytes version name bytes)) x h e =
     let named : name ≡ x = cc in
     record {
       version = version;
-      value = PutOf p;
+      value = PutOf h.1.0;
       shows_it = refl;
       names_it = λ own. e;
-      reads = h.1.reads;
-      named = named;
-      heard = h.1.heard;
-      writes = λ own call is. (own_put own call p is).0;
-      written = λ own call read is same. (own_put own call p is).1 ∙ same;
+      reads = h.1.2.reads;
+      named = h.1.1 ∙ named;
+      heard = h.1.2.heard;
+      writes = λ own call is. own_put c own call h.1.0 is;
     }
-reading c t (Some (Gone version name)) x h e =
+reading c past t (Some (Incomplete version name fates)) x h e =
+    let named : name ≡ x = cc in
+    record {
+      version = version;
+      value = PutOf h.1.0;
+      shows_it = refl;
+      names_it = λ own. e;
+      reads = h.1.2.reads;
+      named = h.1.1 ∙ named;
+      heard = h.1.2.heard;
+      writes = λ own call is. own_put c own call h.1.0 is;
+    }
+reading c past t (Some (Gone version name)) x h e =
     let named : name ≡ x = cc in
     record {
       version = version;
@@ -176,14 +214,13 @@ reading c t (Some (Gone version name)) x h e =
       reads = h.1.reads;
       named = named;
       heard = h.1.heard;
-      writes = λ own call is. own_tomb own name call is;
-      written = λ own call read is same. cc;
+      writes = λ own call is. own_tomb c own name call is;
     }
-reading c t (Some Absent) x h e = cc
-reading c t (Some (NoQuorum phase heard)) x h e = cc
-reading c t (Some (Contended met)) x h e = cc
-reading c t (Some (Unsure why)) x h e = cc
-reading c t (Some answer) x h e = absurd h
+reading c past t (Some Absent) x h e = cc
+reading c past t (Some (NoQuorum phase heard)) x h e = cc
+reading c past t (Some (Contended met)) x h e = cc
+reading c past t (Some (Unsure why)) x h e = cc
+reading c past t (Some answer) x h e = absurd h
 
 same_call : (xs : List CallRec) (i j : ℕ) (a b : CallRec) → i ≡ j → slice_get xs i ≡ Some a → slice_get xs j ≡ Some b → a ≡ b
 same_call xs i j a b at h k = let both : Some a ≡ Some b = sym h ∙ ap (slice_get xs) at ∙ k in cc
@@ -205,13 +242,13 @@ not_after key s ds i j v a b x k ga gb ka kb shows_it shown name before =
     ]
 
 began_before : (key : List ℕ) (s : State) (ds : List Transition) (i j v : ℕ) (a b : CallRec) (x own : Name) (o : Option ℕ) → IsKnownRun key s ds → slice_get s.calls i ≡ Some a → slice_get s.calls j ≡ Some b → key_of a.call ≡ key → key_of b.call ≡ key
-    → shows a.answer ≡ Some v → IsShownByRows s.cfg (seen_after unused ds) v x → b.name ≡ x → IsOwn own a.call None → IsWrite b.call → a.end ≡ o → IsBeforeEnd b.begin o
+    → shows a.answer ≡ Some v → IsShownByRows s.cfg (seen_after unused ds) v x → b.name ≡ x → IsOwn s.cfg own a.call None → IsWrite b.call → a.end ≡ o → IsBeforeEnd b.begin o
 began_before key s ds i j v a b x own None k ga gb ka kb shows_it shown name reads write e = tt
 began_before key s ds i j v a b x own (Some end) k ga gb ka kb shows_it shown name reads write e = elim (cases_lt b.begin end) [
   | inl l ↦ l
   | inr ge ↦ elim (cases_eq end b.begin) [
     | inl same ↦ (let at = k.placed.apart i j a b ga gb (e ∙ ap Some same) in
-        absurd (no_write own a.call reads (subst (λ (c : CallRec). IsWrite c.call) (sym (same_call s.calls i j a b at ga gb)) write)))
+        absurd (no_write s.cfg own a.call reads (subst (λ (c : CallRec). IsWrite c.call) (sym (same_call s.calls i j a b at ga gb)) write)))
     | inr ne ↦ (let lt : end < b.begin = below end b.begin ge ne in absurd (not_after key s ds i j v a b x k ga gb ka kb shows_it shown name (subst (λ q. IsBefore q b.begin) (sym e) lt)))
   ]
 ]
@@ -220,23 +257,27 @@ began_before key s ds i j v a b x own (Some end) k ga gb ka kb shows_it shown na
     below m n le ne = grind arith
 
 -- the value that a call read is the own one of the call that it names
-own_read : (s : State) (t : Trace) (answer : Option Answer) (x : Name) (j : ℕ) (b : CallRec) → AreCallsListed s → AreValued s → ActionsCarried s.net t.caller.name t.actions → (r : IsReading s.cfg t answer x) → slice_get s.calls j ≡ Some b → b.name ≡ x → IsOwn b.name b.call (Some r.value)
-own_read s t answer x j b listed valued carried r gb name =
+own_read : (s : State) (past : List Trace) (t : Trace) (answer : Option Answer) (x : Name) (j : ℕ) (b : CallRec) → AreCallsListed s → AreValued s → AreAllowed s.cfg t.caller past t.actions → ActionsCarried s.cfg.n s.net t.caller.name t.actions → (r : IsReading s.cfg t answer x) → slice_get s.calls j ≡ Some b → b.name ≡ x → IsOwn s.cfg b.name b.call (Some r.value)
+own_read s past t answer x j b listed valued allowed carried r gb name =
     let heard = r.heard in
-    let given : IsGiven s.calls r.value = heard_given s.calls s.net t.caller.name t.actions (net_given s valued) carried heard.0 heard.1 heard.2 r.version r.value heard.3 in
-    let own : given.1.name ≡ b.name = sym (own_named given.1.name given.1.call r.value given.3) ∙ r.named ∙ sym name in
-    let at = listed.apart given.0 j given.1 b given.2 gb own in
-    let same = same_call s.calls given.0 j given.1 b at given.2 gb in
-    subst (λ (q : CallRec). IsOwn q.name q.call (Some r.value)) same given.3
+    let given : IsGiven s.cfg s.calls r.value = (heard_given s.cfg s.calls s.net t.caller past t.actions (net_given s valued) allowed carried heard.0 heard.1 heard.2 r.version r.value heard.3).0 in
+    let own : given.1.name ≡ b.name = sym (own_named s.cfg given.1.name given.1.call r.value given.3) ∙ r.named ∙ sym name in
+    let same = one_named s given.0 j given.1 b listed given.2 gb own in
+    subst (λ (q : CallRec). IsOwn s.cfg q.name q.call (Some r.value)) same given.3
 
--- the call that an answer names is in the history, and writes what was read
-pub reads_a_write : (key : List ℕ) (s : State) (ds : List Transition) (i : ℕ) (a : CallRec) → IsKnownRun key s ds → slice_get s.calls i ≡ Some a → key_of a.call ≡ key → ReadsAWrite s.calls a
-reads_a_write key s ds i a k ga ka = λ x from.
+-- the call whose value is shown at a version: a write of the object, in the history, that may have taken effect
+pub record IsProposer (key : List ℕ) (s : State) (x : Name) : Type 0 where
+  pub place : ℕ
+  pub call : CallRec
+  pub there : slice_get s.calls place ≡ Some call
+  pub name_is : call.name ≡ x
+  pub key_is : key_of call.call ≡ key
+  pub write : IsWrite call.call
+  pub effect : MayTakeEffect call.answer
+
+pub proposer : (key : List ℕ) (s : State) (ds : List Transition) (v : ℕ) (x : Name) → IsKnownRun key s ds → IsShownByRows s.cfg (seen_after unused ds) v x → IsProposer key s x
+proposer key s ds v x k shown =
     let c = s.cfg in
-    let h = call_trace key s ds i a k.run k.listed k.carries ga ka in
-    let r = reading c h.trace a.answer x (subst (IsAnswered c h.trace) h.is.answer h.is.told.answered) from in
-    let v = r.version in
-    let shown = named_shown c ds a v x (call_told key s ds a v h r.shows_it) (r.names_it a.name) in
     let p = ((agreed key s ds k.placed k.run).chosen v x shown).1 in
     let q = p.write in
     let by = k.run.sent q p.found in
@@ -246,34 +287,67 @@ reads_a_write key s ds i a k ga ka = λ x from.
     let so = sender_trace c b.name.session key b q.act (s.traces b.name.session) (k.listed.told b.name.session) (k.listed.traces n.0 b n.2) (subst (λ (y : Name). IsSentBy key y q.act (s.traces y.session)) (sym n.3) by) in
     let t = so.trace in
     let call : t.caller.call ≡ b.call = so.is.call_is in
+    let cast : VotesFor q.act v t.caller.name = subst (VotesFor q.act v) (sym (so.sender.name_is ∙ name)) p.votes in
+    record {
+      place = n.0;
+      call = b;
+      there = n.2;
+      name_is = name;
+      key_is = sym (ap key_of call) ∙ so.sender.key_is;
+      write = subst IsWrite call (so.sender.write v (subst (VotesFor q.act v) (sym name) p.votes));
+      effect = effect_of c so.past t b.answer (subst (IsAnswered c so.past t) so.is.answer so.is.told.answered) (voted_some t.caller.name t.actions v (sent_votes t.actions q.act v t.caller.name so.sender.sent cast));
+    }
+
+-- the call that an answer names is in the history, and writes what was read
+pub reads_a_write : (key : List ℕ) (s : State) (ds : List Transition) (i : ℕ) (a : CallRec) → IsKnownRun key s ds → slice_get s.calls i ≡ Some a → key_of a.call ≡ key → ReadsAWrite s.calls a
+reads_a_write key s ds i a k ga ka = λ x from.
+    let c = s.cfg in
+    let h = call_trace key s ds i a k.run k.listed k.carries ga ka in
+    let r = reading c h.past h.trace a.answer x (subst (IsAnswered c h.past h.trace) h.is.answer h.is.told.answered) from in
+    let v = r.version in
+    let shown = named_shown c ds a v x (call_told key s ds a v h r.shows_it) (r.names_it a.name) in
+    let w = proposer key s ds v x k shown in
+    let b = w.call in
     let own : a.call ≡ h.trace.caller.call = sym h.is.call_is in
-    let write : IsWrite b.call = subst IsWrite call (so.sender.write v (subst (VotesFor q.act v) (sym name) p.votes)) in
-    let value = own_read s h.trace a.answer x n.0 b k.listed k.valued h.carried r n.2 name in
-    let kb : key_of b.call ≡ key = sym (ap key_of call) ∙ so.sender.key_is in
-    let cast : VotesFor q.act v t.caller.name = subst (VotesFor q.act v) (sym (so.sender.name_is ∙ name)) p.votes in (
+    let value = own_read s h.past h.trace a.answer x w.place b k.listed k.valued h.is.told.allowed h.carried r w.there w.name_is in (
       b,
       (
-        get_contains s.calls n.0 b n.2,
+        get_contains s.calls w.place b w.there,
         record {
-          name = name;
-          key = kb ∙ sym ka;
+          name = w.name_is;
+          key = w.key_is ∙ sym ka;
           write = r.writes b.name b.call value;
-          began = began_before key s ds i n.0 v a b x h.trace.caller.name a.end k ga n.2 ka kb r.shows_it shown name (subst (λ (q : Call). IsOwn h.trace.caller.name q None) (sym own) (own_of h.trace.caller None h.is.told.own r.reads)) write refl;
-          effect = effect_of c t b.answer (subst (IsAnswered c t) so.is.answer so.is.told.answered) (voted_some t.caller.name t.actions v (sent_votes t.actions q.act v t.caller.name so.sender.sent cast));
+          began = began_before key s ds i w.place v a b x h.trace.caller.name a.end k ga w.there ka w.key_is r.shows_it shown w.name_is (subst (λ (q : Call). IsOwn c h.trace.caller.name q None) (sym own) (own_of c h.trace.caller None h.is.told.own r.reads)) w.write refl;
+          effect = w.effect;
         },
       ),
     )
 
+-- the trace of a call has what each trace has
+among_each : (P : Trace → Type 0) (c : Config) (call : CallRec) (ts : List Trace) → IsAmong c call ts → EachTrace P ts → (past : List Trace) × ((t : Trace) × (IsTraceOf c call past t × P t))
+among_each P c call [] h each = absurd h
+among_each P c call (t ∷ ts) (inl h) each = (ts, (t, (h, each.0)))
+among_each P c call (t ∷ ts) (inr h) each = among_each P c call ts h each.1
+
+-- an answer that returns bytes
+bytes_answered : (answer : Option Answer) (x : Name) (bytes : List ℕ) → read_from answer ≡ Some x → bytes_read answer ≡ Some bytes → (v : ℕ) × (answer ≡ Some (Bytes v x bytes))
+bytes_answered (Some (Bytes v name read)) x bytes from is =
+    let named : name ≡ x = cc in
+    let same : read ≡ bytes = cc in
+    (v, ap (λ (y : Name). Some (Bytes v y read)) named ∙ ap (λ (bs : List ℕ). Some (Bytes v x bs)) same)
+bytes_answered answer x bytes from is = cc
+
 -- a call that reads returns the bytes of the put that it names
-pub returns_written : (key : List ℕ) (s : State) (ds : List Transition) (i j : ℕ) (a b : CallRec) → IsKnownRun key s ds → slice_get s.calls i ≡ Some a → slice_get s.calls j ≡ Some b → key_of a.call ≡ key → ReturnWritten a b
-returns_written key s ds i j a b k ga gb ka = λ bytes from read.
-    let h = call_trace key s ds i a k.run k.listed k.carries ga ka in
-    let t = h.trace in
-    let r = reading s.cfg t a.answer b.name (subst (IsAnswered s.cfg t) h.is.answer h.is.told.answered) from in
-    r.written b.name b.call bytes (own_read s t a.answer b.name j b k.listed k.valued h.carried r gb refl) read
+pub returns_written : (s : State) (i j : ℕ) (a b : CallRec) → AreCallsListed s → AreGivenBack s → slice_get s.calls i ≡ Some a → slice_get s.calls j ≡ Some b → ReturnWritten a b
+returns_written s i j a b listed given ga gb = λ bytes from read.
+    let answered = bytes_answered a.answer b.name bytes from read in
+    let k = among_each (GivesBack s.calls) s.cfg a (s.traces a.name.session) (listed.traces i a ga) (given a.name.session) in
+    let put = k.1.1.1 answered.0 b.name bytes (k.1.1.0.answer ∙ answered.1) in
+    let same = one_named s put.place j put.call b listed put.there gb put.name_is in
+    ap (λ (q : CallRec). bytes_written q.call) (sym same) ∙ ap bytes_written put.put
 
 -- what is known of a world that is reached
-known : (key : List ℕ) (s : State) → IsReached s → AllTell s → (ds : List Transition) × IsKnownRun key s ds
+pub known : (key : List ℕ) (s : State) → IsReached s → AllTell s → (ds : List Transition) × IsKnownRun key s ds
 known key s reached tell =
     let k = runs key s reached tell in
     (k.0, record { run = k.1; listed = listed s reached; carries = carried s reached; placed = placed s reached; recorded = recorded s reached; valued = valued s reached tell })
@@ -305,10 +379,9 @@ legal s reached tell = record {
       let x = contains_get s.calls a ca in
       reads_a_write (key_of a.call) s k.0 x.0 a k.1 x.1 refl;
   values = λ a b ca cb same.
-      let k = known (key_of a.call) s reached tell in
       let x = contains_get s.calls a ca in
       let y = contains_get s.calls b cb in
-      returns_written (key_of a.call) s k.0 x.0 y.0 a b k.1 x.1 y.1 refl;
+      returns_written s x.0 y.0 a b (listed s reached) (given_back s reached tell) x.1 y.1;
   asked = λ a ca.
       let k = known (key_of a.call) s reached tell in
       let x = contains_get s.calls a ca in

@@ -219,7 +219,7 @@ does_listed old new (events.Deliver n) effect d l = listed_same old new d.1.1.fr
 does_listed old new (events.Reply n which) effect d l =
     let r = d.0 in
     let by = d.1.1.0 in
-    turn_listed old new r.name.session by _ (turns old new n r _ (hears d.1.0.1) by effect d.1.1.1.1) l
+    turn_listed old new r.name.session by _ (turns old new n r _ (hears old.cfg.n d.1.0.1) by effect d.1.1.1.1) l
 does_listed old new (events.GiveUp n) effect d l =
     let r = d.0 in
     let by = d.1.0 in

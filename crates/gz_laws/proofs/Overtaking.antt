@@ -17,7 +17,9 @@ use Rattle.gz_core.specs.declared.requests.Turn.{Turn}
 use Rattle.gz_round.specs.declared.hearing.Seen.{Seen}
 use Rattle.gz_core.specs.History.{Asked, Action, Sent, Handed, GaveUp, Rested, GaveIn, Caller, Trace, is_row_request, asked_of, sent_from}
 use Rattle.gz_core.specs.declared.values.Value.{Value}
-use Rattle.gz_round.specs.Sending.{AreAllowed, MayAsk}
+use Rattle.gz_round.specs.Sending.{AreAllowed}
+use Rattle.gz_round.proofs.Actions.{is_to_row}
+use Rattle.gz_laws.proofs.Asking.{MayAskRow, row_asked}
 use Rattle.gz_round.specs.Sites.{SiteNow, site_now, after, after_reply, after_sent, is_to, seen_in, written_by, is_changed, as_heard}
 use Rattle.gz_site.specs.Told.{Told, Tells, etag_of}
 use Rattle.gz_site.specs.Steps.{RowStored}
@@ -40,7 +42,7 @@ use Rattle.gz_laws.proofs.Keeping.{awaited_key}
 use Rattle.gz_laws.proofs.Keys.{same_key-refl, key_cases}
 use Rattle.gz_laws.proofs.Nets.{IsKeptAs, kept_itself, kept_handed, kept_given_up, AreKeptOrSent, begin_cases, turn_cases}
 use Rattle.gz_laws.proofs.Placing.{acts_journal}
-use Rattle.gz_laws.proofs.RunSends.{closing_allowed}
+use Rattle.gz_laws.proofs.Closing.{closing_allowed}
 use Rattle.gz_laws.proofs.RunTools.{set_cases}
 use Rattle.gz_laws.proofs.Running.{told_request, handed_action, told_before}
 use Rattle.gz_laws.proofs.AsHeard.{heard_shown}
@@ -150,14 +152,14 @@ sent_row a now = elim a.awaited as (λ w. (if w then (let k : SiteNow = record {
 pub row_sent : (a : Asked) (ms : List Action) (s : ℕ) → (site_now (Sent a ∷ ms) s).row ≡ (site_now ms s).row
 row_sent a ms s = elim (is_to a s) as (λ b. (if b then after_sent a (site_now ms s) else site_now ms s).row ≡ (site_now ms s).row) [ true ↦ sent_row a (site_now ms s) | false ↦ refl ]
 
-handed_shown : (net : List RequestAt) (w : Caller) (a : Asked) (reply : Reply) (r : RequestAt) (seen : Seen) → r.name ≡ w.name → key_asked a.op ≡ key_of w.call → is_to a r.site ≡ true → seen_in (written_by a.op) reply ≡ Some seen → ActionCarried net w.name (Handed a reply)
+handed_shown : (n : ℕ) (net : List RequestAt) (w : Caller) (a : Asked) (reply : Reply) (r : RequestAt) (seen : Seen) → r.name ≡ w.name → key_asked a.op ≡ key_of w.call → is_to a r.site ≡ true → seen_in (written_by a.op) reply ≡ Some seen → ActionCarried n net w.name (Handed a reply)
     → (from : ℕ) × IsShownTag net r (key_of w.call) seen.etag from
-handed_shown net w a reply r seen own about to is carried =
+handed_shown n net w a reply r seen own about to is carried =
     let q = carried.0 in
     let req = carried.1.0 in
     let has = carried.1.1 in
     let site = (and_parts (is_row_request a.op) (a.site == r.site) to).1 in
-    let heard : reply ≡ as_heard (written_by a.op) has.made = has.heard ∙ ap (λ op. as_heard (written_by op) has.made) req.op_is in (
+    let heard : reply ≡ as_heard n (written_by a.op) has.made = has.heard ∙ ap (λ op. as_heard n (written_by op) has.made) req.op_is in (
       has.tick,
       record {
         number = a.number;
@@ -168,18 +170,18 @@ handed_shown net w a reply r seen own about to is carried =
         own = req.name_is ∙ sym own;
         at = req.site_is ∙ eqb-true a.site r.site site;
         about = ap key_asked req.op_is ∙ about;
-        tag = seen_tag (written_by a.op) has.made seen (heard_shown (written_by a.op) has.made seen (ap (seen_in (written_by a.op)) (sym heard) ∙ is));
+        tag = seen_tag (written_by a.op) has.made seen (heard_shown n (written_by a.op) has.made seen (ap (seen_in (written_by a.op)) (sym heard) ∙ is));
       },
     )
 
-last_shown : (net : List RequestAt) (c : Config) (w : Caller) (past : List Trace) (ms : List Action) (r : RequestAt) (seen : Seen) → r.name ≡ w.name → AreAllowed c w past ms → ActionsCarried net w.name ms → (site_now ms r.site).row ≡ Some seen → (from : ℕ) × IsShownTag net r (key_of w.call) seen.etag from
+last_shown : (net : List RequestAt) (c : Config) (w : Caller) (past : List Trace) (ms : List Action) (r : RequestAt) (seen : Seen) → r.name ≡ w.name → AreAllowed c w past ms → ActionsCarried c.n net w.name ms → (site_now ms r.site).row ≡ Some seen → (from : ℕ) × IsShownTag net r (key_of w.call) seen.etag from
 last_shown net c w past [] r seen own allowed carried e = cc
 last_shown net c w past (Sent a ∷ ms) r seen own allowed carried e = last_shown net c w past ms r seen own allowed.1 carried.1 (sym (row_sent a ms r.site) ∙ e)
 last_shown net c w past (Handed a reply ∷ ms) r seen own allowed carried e =
     let before = last_shown net c w past ms r seen own allowed.1 carried.1 in
     if_row (is_to a r.site) (after_reply (seen_in (written_by a.op) reply) (is_changed reply) (site_now ms r.site)) (site_now ms r.site) (Some seen) e
     (λ to now. reply_row (seen_in (written_by a.op) reply) (is_changed reply) (site_now ms r.site) seen now
-    (λ is. handed_shown net w a reply r seen own (awaited_key c w past ms a.site a allowed.1 allowed.0.0) to is carried.0) before) before
+    (λ is. handed_shown c.n net w a reply r seen own (awaited_key c w past ms a.site a allowed.1 (allowed.0 (is_to_row a r.site to)).0) to is carried.0) before) before
 last_shown net c w past (GaveUp a ∷ ms) r seen own allowed carried e =
     let before = last_shown net c w past ms r seen own allowed.1 carried.1 in
     if_row (is_to a r.site) (after (GaveUp a) (site_now ms r.site)) (site_now ms r.site) (Some seen) e (λ to now. before now) before
@@ -187,9 +189,9 @@ last_shown net c w past (Rested ∷ ms) r seen own allowed carried e = last_show
 last_shown net c w past (GaveIn ∷ ms) r seen own allowed carried e = last_shown net c w past ms r seen own allowed.1 carried.1 e
 
 -- a write that a call sends goes out on the last row of its site
-asks_last : (c : Config) (w : Caller) (past : List Trace) (ms : List Action) (now : SiteNow) (op : Op) (key : List ℕ) (expect : Option ℕ) (step : RowStep) (row : RowAt) → op ≡ WriteRow key expect step row → MayAsk c w past ms now op
+asks_last : (c : Config) (w : Caller) (past : List Trace) (ms : List Action) (now : SiteNow) (op : Op) (key : List ℕ) (expect : Option ℕ) (step : RowStep) (row : RowAt) → op ≡ WriteRow key expect step row → MayAskRow c w past ms now op
     → (key ≡ key_of w.call) × ((before : RowAt) × (now.row ≡ Some (let k : Seen = record { etag = expect; row = before } in k)))
-asks_last c w past ms now op key expect step row is may = let k = subst (MayAsk c w past ms now) is may in (k.0, (k.1.before, k.1.last))
+asks_last c w past ms now op key expect step row is may = let k = subst (MayAskRow c w past ms now) is may refl in (k.0, (k.1.before, k.1.last))
 
 sends_last : (c : Config) (w : Caller) (past : List Trace) (first : ℕ) (outs : List Out) (ms : List Action) (j : ℕ) (o : Out) (key : List ℕ) (expect : Option ℕ) (step : RowStep) (row : RowAt) → AreAllowed c w past (sent_from first outs ms) → slice_get outs j ≡ Some o → o.op ≡ WriteRow key expect step row
     → (key ≡ key_of w.call) × ((before : RowAt) × ((site_now ms o.site).row ≡ Some (let k : Seen = record { etag = expect; row = before } in k)))
@@ -198,13 +200,13 @@ sends_last c w past first (x ∷ xs) ms zero o key expect step row allowed there
     let same : x ≡ o = cc in
     let a = asked_of first x in
     subst (λ (k : Out). (key ≡ key_of w.call) × ((before : RowAt) × ((site_now ms k.site).row ≡ Some (let z : Seen = record { etag = expect; row = before } in z)))) same
-    (asks_last c w past ms (site_now ms x.site) x.op key expect step row (ap (λ (k : Out). k.op) same ∙ is) (allowed_base c w past (first + 1) xs (Sent a ∷ ms) allowed).0.asks)
+    (asks_last c w past ms (site_now ms x.site) x.op key expect step row (ap (λ (k : Out). k.op) same ∙ is) (row_asked c w past ms a (allowed_base c w past (first + 1) xs (Sent a ∷ ms) allowed).0))
 sends_last c w past first (x ∷ xs) ms (suc j) o key expect step row allowed there is =
     let a = asked_of first x in
     let k = sends_last c w past (first + 1) xs (Sent a ∷ ms) j o key expect step row allowed there is in
     (k.0, (k.1.0, sym (row_sent a ms o.site) ∙ k.1.1))
 
-sent_on : (old new : State) (ticks first : ℕ) (w : Caller) (past : List Trace) (outs : List Out) (ms : List Action) (j : ℕ) (o : Out) → Grows old.net new.net → AreAllowed old.cfg w past (sent_from first outs ms) → ActionsCarried old.net w.name ms → AreOvertakenBy ticks old → slice_get outs j ≡ Some o
+sent_on : (old new : State) (ticks first : ℕ) (w : Caller) (past : List Trace) (outs : List Out) (ms : List Action) (j : ℕ) (o : Out) → Grows old.net new.net → AreAllowed old.cfg w past (sent_from first outs ms) → ActionsCarried old.cfg.n old.net w.name ms → AreOvertakenBy ticks old → slice_get outs j ≡ Some o
     → IsOnShownTag new.net (sent_request w.name (ticks + 1) o)
 sent_on old new ticks first w past outs ms j o grows allowed carried over there = λ key expect step row is.
     let q = sent_request w.name (ticks + 1) o in
@@ -218,7 +220,7 @@ sent_on old new ticks first w past outs ms j o grows allowed carried over there 
 
 -- what a session's turn leaves
 moves_overtaken : (old new : State) (ticks first : ℕ) (w : Caller) (past : List Trace) (outs : List Out) (ms : List Action) → ((i : ℕ) → new.sites i ≡ old.sites i) → Grows old.net new.net → AreKeptOrSent old.net new.net w.name (ticks + 1) outs → AreAllowed old.cfg w past (sent_from first outs ms)
-    → ActionsCarried old.net w.name ms → AreOvertakenBy ticks old → AreOvertakenBy (ticks + 1) new
+    → ActionsCarried old.cfg.n old.net w.name ms → AreOvertakenBy ticks old → AreOvertakenBy (ticks + 1) new
 moves_overtaken old new ticks first w past outs ms sites grows cases allowed carried over =
     stay_overtaken old new ticks (ticks + 1) (omega arith) sites grows
     (λ n place tick q reply h. elim (cases n q h.request) [
@@ -251,7 +253,7 @@ begin_overtaken old new session call own turn effect b over =
     let grows : Grows old.net new.net = grows_then old.net (old.net ++ outs) new.net (grows_append old.net outs) (grows_same (old.net ++ outs) new.net b.net) in
     moves_overtaken old new (length old.journal) (next_of old) w past turn.send [] b.sites.sites grows (begin_cases old.net new.net name (tick_of old) turn.send b.net) b.moves.told.0.allowed tt over
 
-turn_overtaken : (old new : State) (n : ℕ) (r marked : RequestAt) (action : Asked → Action) (by : TurnBy) (effect : Effect) → TakesTurn old n r action by marked effect new → IsKeptAs r marked → IsLater r marked → ActionCarried old.net by.trace.caller.name (action by.asked)
+turn_overtaken : (old new : State) (n : ℕ) (r marked : RequestAt) (action : Asked → Action) (by : TurnBy) (effect : Effect) → TakesTurn old n r action by marked effect new → IsKeptAs r marked → IsLater r marked → ActionCarried old.cfg.n old.net by.trace.caller.name (action by.asked)
     → AreCarried old → AreOvertaken old → AreOvertakenBy (tick_of old) new
 turn_overtaken old new n r marked action by effect t kept later carry carries over =
     let w = by.trace.caller in
@@ -261,7 +263,7 @@ turn_overtaken old new n r marked action by effect t kept later carry carries ov
     let ms = action by.asked ∷ by.trace.actions in
     let mid = slice_set old.net (n - 1) marked in
     let place = numbered_place old.net n r t.request in
-    let mine : ActionsCarried old.net w.name by.trace.actions = (subst (TracesCarried old.net) t.traces (carries r.name.session)).0 in
+    let mine : ActionsCarried old.cfg.n old.net w.name by.trace.actions = (subst (TracesCarried old.cfg.n old.net) t.traces (carries r.name.session)).0 in
     let allowed = closing_allowed old.cfg w by.earlier by.closing (sent_from (next_of old) outs ms) t.closing t.moves.told.0.allowed in
     let grows : Grows old.net new.net = grows_then old.net (mid ++ sent) new.net (grows_then old.net mid (mid ++ sent) (grows_set old.net (n - 1) r marked place.1 later) (grows_append mid sent)) (grows_same (mid ++ sent) new.net t.net) in
     moves_overtaken old new (length old.journal) (next_of old) w by.earlier outs ms t.sites.sites grows (turn_cases old.net new.net n r marked w.name tick outs t.request kept t.net) allowed (carry, mine) over
@@ -501,7 +503,7 @@ does_overtaken old new events.OpenSession effect d c over = same_overtaken old n
 does_overtaken old new (events.Begin session call) effect d c over = begin_overtaken old new session call d.0 d.1.0 effect d.1.1 over
 does_overtaken old new (events.Deliver n) effect d c over = deliver_overtaken old new n d.0 d.1.0 effect d.1.1 over
 does_overtaken old new (events.Reply n which) effect d c over =
-    turn_overtaken old new n d.0 (with_handed (tick_of old) which d.0) (hears d.1.0.1) d.1.1.0 effect d.1.1.1.1 (kept_handed (tick_of old) which d.0) (handed_later (tick_of old) which d.0) (handed_action old new n which d.0 d.1.0 d.1.1.0 effect d.1.1.1.0 d.1.1.1.1 c) c over
+    turn_overtaken old new n d.0 (with_handed (tick_of old) which d.0) (hears old.cfg.n d.1.0.1) d.1.1.0 effect d.1.1.1.1 (kept_handed (tick_of old) which d.0) (handed_later (tick_of old) which d.0) (handed_action old new n which d.0 d.1.0 d.1.1.0 effect d.1.1.1.0 d.1.1.1.1 c) c over
 does_overtaken old new (events.GiveUp n) effect d c over =
     turn_overtaken old new n d.0 (with_given_up (tick_of old) d.0) (λ a. GaveUp a) d.1.0 effect d.1.1 (kept_given_up (tick_of old) d.0) (given_up_later (tick_of old) d.0)
     (d.0, told_request old new n d.0 (with_given_up (tick_of old) d.0) (λ a. GaveUp a) d.1.0 effect d.1.1 c) c over

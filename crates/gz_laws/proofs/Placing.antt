@@ -1,5 +1,5 @@
 -- Each step keeps the places of requests and the ticks of calls.
-use Rattle.std.proofs.Common.{◌≡◌, ℕ, zero, suc, ◌+◌, ◌<◌, ◌≤◌, ◌⊎◌, inl, inr, List, [], ◌∷◌, Some, None, length, refl, ap, sym, ◌∙◌, subst, arith, length-append}
+use Rattle.std.proofs.Common.{◌≡◌, ℕ, ◌+◌, ◌<◌, ◌≤◌, ◌⊎◌, inl, inr, List, [], ◌∷◌, Some, None, length, refl, ap, sym, ◌∙◌, subst, arith, length-append}
 use Rattle.std.proofs.lemmas.Bool.{cases_eq}
 use Rattle.std.specs.Prelude.{Option, MatchOption, is_some, slice_get, slice_set}
 use Rattle.gz_core.specs.Names.{Name}
@@ -10,7 +10,7 @@ use Rattle.gz_config.specs.declared.Config.{Config}
 use Rattle.gz_core.specs.declared.requests.Out.{Out}
 use Rattle.gz_core.specs.declared.requests.Reply.{Reply}
 use Rattle.gz_core.specs.declared.requests.Turn.{Turn}
-use Rattle.gz_core.specs.History.{Asked, Action, Sent, GaveUp, Caller, Trace, asked_of, sent_from, begun, turned}
+use Rattle.gz_core.specs.History.{Asked, Action, GaveUp, Caller, Trace, sent_from, begun, turned}
 use Rattle.gz_core.specs.declared.values.Value.{Value}
 use Rattle.gz_round.specs.Sending.{AreAllowed}
 use Rattle.gz_history.specs.Broken.{IsHistory}
@@ -25,12 +25,14 @@ use Rattle.gz_world.specs.Refusals.{refusal_of}
 use Rattle.gz_world.specs.States.{RequestAt, State, tick_of, next_of, numbered, with_reply, with_handed, with_given_up, sent_request, end_at}
 use Rattle.gz_world.specs.Steps.{SessionMoves, BeginsBy, DeliversBy, TurnBy, TakesTurn, CallEnds, answered, HasEffect, Does, Skips, WorldStep, hears}
 use Rattle.gz_laws.proofs.Beginning.{begun_open}
-use Rattle.gz_laws.proofs.Growing.{allowed_base}
 use Rattle.gz_laws.proofs.Listing.{listed, traces_here, traces_there}
 use Rattle.gz_world.proofs.Members.{numbered_place}
 use Rattle.gz_world.proofs.Places.{get_of_two, get_one, get_below, get_set_same, get_set_other}
 use Rattle.gz_laws.proofs.RunBegins.{begin_net}
-use Rattle.gz_laws.proofs.RunSends.{NetFrom, closing_allowed, call_before}
+use Rattle.gz_laws.proofs.RunSends.{NetFrom, call_before}
+use Rattle.gz_laws.proofs.Closing.{closing_allowed, closing_drops}
+use Rattle.gz_laws.proofs.BlobSites.{sends_site}
+use Rattle.gz_client.specs.Blobs.{AreBlobsAllowed}
 use Rattle.gz_laws.proofs.RunTools.{IsAlike, set_cases}
 use Rattle.gz_laws.proofs.RunTurns.{turn_net}
 
@@ -69,21 +71,13 @@ placed_same ticks more old new le cfg traces net calls p = record {
   answered = λ i a h. p.answered i a (subst (λ xs. slice_get xs i ≡ Some a) calls h);
 }
 
--- each request that a call sends goes to a site
-sends_site : (c : Config) (w : Caller) (past : List Trace) (first : ℕ) (outs : List Out) (ms : List Action) → AreAllowed c w past (sent_from first outs ms) → (j : ℕ) (o : Out) → slice_get outs j ≡ Some o → o.site < c.n
-sends_site c w past first [] ms allowed j o e = cc
-sends_site c w past first (out ∷ outs) ms allowed zero o e =
-    let same : out ≡ o = cc in
-    subst (λ (k : Out). k.site < c.n) same (allowed_base c w past (first + 1) outs (Sent (asked_of first out) ∷ ms) allowed).0.site
-sends_site c w past first (out ∷ outs) ms allowed (suc j) o e = sends_site c w past (first + 1) outs (Sent (asked_of first out) ∷ ms) allowed j o e
-
 -- the requests after a turn
-sent_placed : (old new : State) (w : Caller) (past : List Trace) (first tick : ℕ) (outs : List Out) (ms : List Action) → new.cfg ≡ old.cfg → AreLonger old new → NetFrom old.net new.net w.name tick outs → AreAllowed old.cfg w past (sent_from first outs ms) → w.name.seq ≤ length (new.traces w.name.session)
+sent_placed : (old new : State) (w : Caller) (past : List Trace) (first tick : ℕ) (outs : List Out) (ms : List Action) → new.cfg ≡ old.cfg → AreLonger old new → NetFrom old.net new.net w.name tick outs → IsConfig old.cfg → AreAllowed old.cfg w past (sent_from first outs ms) → AreBlobsAllowed old.cfg w (sent_from first outs ms) → w.name.seq ≤ length (new.traces w.name.session)
     → ((n : ℕ) (r : RequestAt) → numbered old.net n ≡ Some r → IsOfCall old r) → (n : ℕ) (q : RequestAt) → numbered new.net n ≡ Some q → IsOfCall new q
-sent_placed old new w past first tick outs ms cfg longer net allowed named all n q at = elim (net n q at) [
+sent_placed old new w past first tick outs ms cfg longer net sizes allowed blobs named all n q at = elim (net n q at) [
   | inl k ↦ (let same = k.1.1.1 in of_call old new k.1.0 q cfg longer same.site same.name (all k.0 k.1.0 k.1.1.0))
   | inr k ↦ (let one : IsOfCall new (sent_request w.name tick k.1.0) = record {
-    site = subst (λ (c : Config). k.1.0.site < c.n) (sym cfg) (sends_site old.cfg w past first outs ms allowed k.0 k.1.0 k.1.1.0);
+    site = subst (λ (c : Config). k.1.0.site < c.n) (sym cfg) (sends_site old.cfg w past first outs ms sizes allowed blobs k.0 k.1.0 k.1.1.0);
     call = named;
   } in subst (IsOfCall new) k.1.1.1 one)
 ]
@@ -120,7 +114,7 @@ begin_placed old new session call own turn effect b p =
     let unanswered : turn.answer ≡ None = begun_open old.cfg past session call own (next_of old) turn past p.config b.moves.told.0 in
     record {
       config = subst IsConfig (sym b.frame.cfg) p.config;
-      requests = sent_placed old new w past (next_of old) tick turn.send [] b.frame.cfg (moved_longer old new session (t ∷ past) b.moves (omega arith)) (begin_net old new name tick turn.send b.net) b.moves.told.0.allowed
+      requests = sent_placed old new w past (next_of old) tick turn.send [] b.frame.cfg (moved_longer old new session (t ∷ past) b.moves (omega arith)) (begin_net old new name tick turn.send b.net) p.config b.moves.told.0.allowed b.moves.told.0.blobs
           (let e : length (new.traces session) ≡ length (t ∷ past) = ap length here in omega (arith, e)) p.requests;
       began = late;
       over = ends;
@@ -189,6 +183,7 @@ turn_placed old new n r marked action by effect t alike p =
     let ts = after ∷ by.earlier in
     let told = t.moves.told in
     let allowed = closing_allowed old.cfg w by.earlier by.closing (sent_from first by.turn.send ms) t.closing told.0.allowed in
+    let blobs = closing_drops (AreBlobsAllowed old.cfg w) by.closing (sent_from first by.turn.send ms) t.closing (λ k. k.1) (λ k. k.1) told.0.blobs in
     let before = call_before old.calls new.calls w.name tick by.turn.answer t.calls in
     let cases = ended_cases old.calls new.calls w.name tick by.turn.answer t.calls in
     let at_end : (i : ℕ) (d : CallRec) → slice_get new.calls i ≡ Some d → d.end ≡ Some tick → i ≡ t.calls.0
@@ -198,7 +193,7 @@ turn_placed old new n r marked action by effect t alike p =
     let here : length (new.traces w.name.session) ≡ length ts = ap length (ap new.traces (ap (λ (x : Name). x.session) told.1) ∙ traces_here old new session ts t.moves) in
     record {
       config = subst IsConfig (sym t.frame.cfg) p.config;
-      requests = sent_placed old new w by.earlier first tick by.turn.send ms t.frame.cfg (moved_longer old new session ts t.moves (omega (arith, len))) (turn_net old new n r marked w.name tick by.turn.send t.request alike t.net) allowed (omega (arith, seq, here)) p.requests;
+      requests = sent_placed old new w by.earlier first tick by.turn.send ms t.frame.cfg (moved_longer old new session ts t.moves (omega (arith, len))) (turn_net old new n r marked w.name tick by.turn.send t.request alike t.net) p.config allowed blobs (omega (arith, seq, here)) p.requests;
       began = λ i d h. let b = before i d h in let k = p.began i b.0 b.1.0 in let e = b.1.1.begin_is in omega (arith, k, e);
       over = λ i end d h e. let b = before i d h in elim b.1.1.end_is [
         | inl same ↦ (let k = p.over i end b.0 b.1.0 (sym same.0 ∙ e) in omega (arith, k))
@@ -279,7 +274,7 @@ does_placed : (old new : State) (event : Event) (effect : Effect) → Does old e
 does_placed old new events.OpenSession effect d p = placed_same (length old.journal) (tick_of old) old new (omega arith) d.frame.cfg d.traces d.net d.calls p
 does_placed old new (events.Begin session call) effect d p = begin_placed old new session call d.0 d.1.0 effect d.1.1 p
 does_placed old new (events.Deliver n) effect d p = deliver_placed old new n d.0 d.1.0 effect d.1.1 p
-does_placed old new (events.Reply n which) effect d p = turn_placed old new n d.0 (with_handed (tick_of old) which d.0) (hears d.1.0.1) d.1.1.0 effect d.1.1.1.1 (handed_alike (tick_of old) which d.0) p
+does_placed old new (events.Reply n which) effect d p = turn_placed old new n d.0 (with_handed (tick_of old) which d.0) (hears old.cfg.n d.1.0.1) d.1.1.0 effect d.1.1.1.1 (handed_alike (tick_of old) which d.0) p
 does_placed old new (events.GiveUp n) effect d p = turn_placed old new n d.0 (with_given_up (tick_of old) d.0) (λ a. GaveUp a) d.1.0 effect d.1.1 (given_up_alike (tick_of old) d.0) p
 does_placed old new (events.Crash session) effect d p = placed_same (length old.journal) (tick_of old) old new (omega arith) d.frame.cfg d.traces d.net d.calls p
 

@@ -22,10 +22,11 @@ use Rattle.gz_pick.specs.Looks.{row_vote}
 use Rattle.gz_pick.specs.declared.heard.Heard.{Heard}
 use Rattle.gz_core.specs.History.{Asked, Action, Sent, Handed, GaveUp, Rested, GaveIn, Caller, Trace, is_row_request}
 use Rattle.gz_round.specs.declared.hearing.Seen.{Seen}
-use Rattle.gz_round.specs.Sites.{SiteNow, site_now, seen_in, written_by, is_to, WasHeard}
+use Rattle.gz_round.specs.Sites.{SiteNow, site_now, heard_in, is_to, WasHeard}
 use Rattle.gz_round.specs.Sent.{promise_by, of_step, or_earlier, passes_sent, has_promised, has_promised_at, last_promise}
 use Rattle.gz_round.specs.Rounds.{IsUnused, cast_by, has_classic_cast, IsPromiseHeard}
-use Rattle.gz_round.specs.Sending.{AreAllowed, MayAsk, MayMake}
+use Rattle.gz_round.specs.Sending.{AreAllowed, MayMake}
+use Rattle.gz_laws.proofs.Asking.{MayAskRow, row_asked}
 use Rattle.gz_ledger.specs.Histories.{RowSeen, IsIn, IsVotedAt}
 use Rattle.gz_ledger.specs.Guards.{IsPromiseSeen}
 use Rattle.gz_ledger.specs.Transitions.{Store}
@@ -73,8 +74,8 @@ abbrev pub OpGuard : Config → Caller → List Trace → List Action → Op →
 OpGuard c w past ms (WriteRow key expect step row) = MayMake c w past ms step
 OpGuard c w past ms op = Unit {0}
 
-asks_guard : (c : Config) (w : Caller) (past : List Trace) (ms : List Action) (now : SiteNow) (op : Op) → MayAsk c w past ms now op → OpGuard c w past ms op
-asks_guard c w past ms now (WriteRow key expect step row) h = h.1.guard
+asks_guard : (c : Config) (w : Caller) (past : List Trace) (ms : List Action) (now : SiteNow) (op : Op) → MayAskRow c w past ms now op → OpGuard c w past ms op
+asks_guard c w past ms now (WriteRow key expect step row) h = (h refl).1.guard
 asks_guard c w past ms now op h = tt
 
 pair_parts : (p q : ℕ × BallotAt) → Some p ≡ Some q → (p.0 ≡ q.0) × (p.1 ≡ q.1)
@@ -106,7 +107,7 @@ last_op c w past op ms u v b guard last (inr h) same any = same last h
 -- all promises of the ballot that was promised last are at its version
 pub last_version : (c : Config) (w : Caller) (past : List Trace) (ms : List Action) (u v : ℕ) (b : BallotAt) → AreAllowed c w past ms → last_promise ms ≡ Some (v, b) → SentStep ms (Promises u b) → u ≡ v
 last_version c w past [] u v b allowed last h = absurd h
-last_version c w past (Sent a ∷ ms) u v b allowed last h = last_op c w past a.op ms u v b (asks_guard c w past ms (site_now ms a.site) a.op allowed.0.asks) last h (λ l k. last_version c w past ms u v b allowed.1 l k) (λ x l k. last_version c w past ms u x b allowed.1 l k)
+last_version c w past (Sent a ∷ ms) u v b allowed last h = last_op c w past a.op ms u v b (asks_guard c w past ms (site_now ms a.site) a.op (row_asked c w past ms a allowed.0)) last h (λ l k. last_version c w past ms u v b allowed.1 l k) (λ x l k. last_version c w past ms u x b allowed.1 l k)
 last_version c w past (Handed a reply ∷ ms) u v b allowed last (inl h) = absurd h
 last_version c w past (Handed a reply ∷ ms) u v b allowed last (inr h) = last_version c w past ms u v b allowed.1 last h
 last_version c w past (GaveUp a ∷ ms) u v b allowed last (inl h) = absurd h
@@ -189,8 +190,8 @@ pub was_heard : (st : Store) (ms : List Action) (s : ℕ) (row : RowAt) → Acti
 was_heard st [] s row stands h = absurd h
 was_heard st (Sent a ∷ ms) s row stands (inl h) = let bad = h.2 in cc
 was_heard st (Sent a ∷ ms) s row stands (inr h) = was_heard st ms s row stands.1 h
-was_heard st (Handed a reply ∷ ms) s row stands (inl h) = heard_entry st a s (seen_in (written_by a.op) reply) (heard_of ms) row stands.0 h.1 (h.0, (h.2, h.3))
-was_heard st (Handed a reply ∷ ms) s row stands (inr h) = let r = was_heard st ms s row stands.1 h in (r.0, later a.site (seen_in (written_by a.op) reply) (heard_of ms) (record { site = s; row = slots row }) r.1)
+was_heard st (Handed a reply ∷ ms) s row stands (inl h) = heard_entry st a s (heard_in (Handed a reply)) (heard_of ms) row stands.0 h.1 (h.0, (h.2, h.3))
+was_heard st (Handed a reply ∷ ms) s row stands (inr h) = let r = was_heard st ms s row stands.1 h in (r.0, later a.site (heard_in (Handed a reply)) (heard_of ms) (record { site = s; row = slots row }) r.1)
 was_heard st (GaveUp a ∷ ms) s row stands (inl h) = let bad = h.2 in cc
 was_heard st (GaveUp a ∷ ms) s row stands (inr h) = was_heard st ms s row stands.1 h
 was_heard st (Rested ∷ ms) s row stands (inl h) = let bad = h.2 in cc

@@ -80,7 +80,7 @@ does_recorded : (old new : State) (event : Event) (effect : Effect) → Does old
 does_recorded old new events.OpenSession effect d h = recorded_same old new d.traces d.calls h
 does_recorded old new (events.Begin session call) effect d h = begin_recorded old new session call d.0 d.1.0 effect d.1.1 h
 does_recorded old new (events.Deliver n) effect d h = recorded_same old new d.1.1.sessions.traces d.1.1.sessions.calls h
-does_recorded old new (events.Reply n which) effect d h = turn_recorded old new n d.0 _ (hears d.1.0.1) d.1.1.0 effect d.1.1.1.1 h
+does_recorded old new (events.Reply n which) effect d h = turn_recorded old new n d.0 _ (hears old.cfg.n d.1.0.1) d.1.1.0 effect d.1.1.1.1 h
 does_recorded old new (events.GiveUp n) effect d h = turn_recorded old new n d.0 _ (λ a. GaveUp a) d.1.0 effect d.1.1 h
 does_recorded old new (events.Crash session) effect d h = recorded_same old new d.traces d.calls h
 

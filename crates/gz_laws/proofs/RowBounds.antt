@@ -14,7 +14,11 @@ use Rattle.gz_accept.specs.Steps.{with_column}
 use Rattle.gz_pick.specs.Evidences.{is_for, is_named, votes_for, decides}
 use Rattle.gz_pick.specs.Looks.{shows_value, top_in}
 use Rattle.gz_round.specs.Rounds.{slot_round, round_known, greatest}
-use Rattle.gz_round.specs.Sites.{column_stands, entry_stands, can_stand}
+use Rattle.gz_round.specs.Sites.{value_stands, column_stands, entry_stands, can_stand}
+use Rattle.gz_round.specs.Shown.{column_value, row_value}
+use Rattle.gz_core.proofs.Columns.{none_below}
+use Rattle.std.proofs.lemmas.Option.{none-some}
+use Rattle.gz_core.specs.declared.values.Value.{Value}
 use Rattle.gz_laws.specs.Bounded.{IsColumnWithin, AreColumnsWithin, IsRowWithin}
 use Rattle.gz_laws.proofs.Growing.{first_seen}
 use Rattle.gz_laws.proofs.Hearing.{slots_open}
@@ -104,26 +108,43 @@ rises_most : (versions rounds bound : ℕ) (cs : List (ℕ × Column)) → Rises
 rises_most versions rounds bound [] rises h le = omega (arith, le)
 rises_most versions rounds bound (c ∷ cs) rises h le = let r = rises_most versions rounds c.0 cs rises.1 h.1.1 h.0 in let above = rises.0 in omega (arith, r, above)
 
-column_can : (rounds : ℕ) (column : Column) → rounds < 2 ^ 31 → IsColumnWithin rounds column → column_stands column ≡ true
-column_can rounds (Open promise vote) few h = grind (arith, nat_tests)
-column_can rounds (Decided value) few h = refl
+-- whose values have their fragments at sites
+abbrev pub AreStanding : ℕ → RowAt → Type 0
+AreStanding n row = (v : ℕ) (x : Value) → row_value row v ≡ Some x → value_stands n x ≡ true
 
-columns_can : (versions rounds : ℕ) (cs : List (ℕ × Column)) → versions < 2 ^ 22 → rounds < 2 ^ 31 → AreColumnsWithin versions rounds cs → list_all entry_stands cs ≡ true
-columns_can versions rounds [] few low h = refl
-columns_can versions rounds (c ∷ cs) few low h =
+column_can : (n rounds : ℕ) (column : Column) → rounds < 2 ^ 31 → IsColumnWithin rounds column → ((x : Value) → column_value (Some column) ≡ Some x → value_stands n x ≡ true) → column_stands n column ≡ true
+column_can n rounds (Open promise None) few h stands = let t : nat_lt promise.round (2 ^ 31) ≡ true = grind (arith, nat_tests) in and_from (nat_lt promise.round (2 ^ 31)) true t refl
+column_can n rounds (Open promise (Some vote)) few h stands = let t : nat_lt promise.round (2 ^ 31) ≡ true = grind (arith, nat_tests) in and_from (nat_lt promise.round (2 ^ 31)) (value_stands n vote.value) t (stands vote.value refl)
+column_can n rounds (Decided value) few h stands = stands value refl
+
+-- the values of the first column, and of the others
+head_value : (c : ℕ × Column) (cs : List (ℕ × Column)) (x : Value) → column_value (Some c.1) ≡ Some x → column_value (column_in (c ∷ cs) c.0) ≡ Some x
+head_value c cs x e = let t : (c.0 == c.0) ≡ true = grind (arith, nat_tests) in ap (λ b. column_value (if b then Some c.1 else column_in cs c.0)) t ∙ e
+
+tail_value : (c : ℕ × Column) (cs : List (ℕ × Column)) (v : ℕ) (x : Value) → Rises c.0 cs → column_value (column_in cs v) ≡ Some x → column_value (column_in (c ∷ cs) v) ≡ Some x
+tail_value c cs v x rises e = elim (cases_eq c.0 v) [
+  | inl same ↦ absurd (none-some x (sym (ap column_value (none_below v c.0 cs (omega (arith, same)) rises)) ∙ e))
+  | inr apart ↦ (let t : (c.0 == v) ≡ false = grind (arith, nat_tests) in ap (λ b. column_value (if b then Some c.1 else column_in cs v)) t ∙ e)
+]
+
+columns_can : (n versions rounds bound : ℕ) (cs : List (ℕ × Column)) → versions < 2 ^ 22 → rounds < 2 ^ 31 → Rises bound cs → AreColumnsWithin versions rounds cs → ((v : ℕ) (x : Value) → column_value (column_in cs v) ≡ Some x → value_stands n x ≡ true) → list_all (entry_stands n) cs ≡ true
+columns_can n versions rounds bound [] few low rises h stands = refl
+columns_can n versions rounds bound (c ∷ cs) few low rises h stands =
     let l = h.0 in
     let below : c.0 < 2 ^ 62 = omega (arith, l, few) in
     let t : nat_lt c.0 (2 ^ 62) ≡ true = grind (arith, nat_tests) in
-    and_from (entry_stands c) (list_all entry_stands cs) (and_from (nat_lt c.0 (2 ^ 62)) (column_stands c.1) t (column_can rounds c.1 low h.1.0)) (columns_can versions rounds cs few low h.1.1)
+    and_from (entry_stands n c) (list_all (entry_stands n) cs)
+    (and_from (nat_lt c.0 (2 ^ 62)) (column_stands n c.1) t (column_can n rounds c.1 low h.1.0 (λ x e. stands c.0 x (head_value c cs x e))))
+    (columns_can n versions rounds c.0 cs few low rises.1 h.1.1 (λ v x e. stands v x (tail_value c cs v x rises.1 e)))
 
 -- such a row can stand
-pub row_can : (versions rounds : ℕ) (row : RowAt) → versions < 2 ^ 22 → rounds < 2 ^ 31 → IsRowWithin versions rounds row → can_stand row ≡ true
-row_can versions rounds row few low h =
+pub row_can : (n versions rounds : ℕ) (row : RowAt) → versions < 2 ^ 22 → rounds < 2 ^ 31 → IsRowWithin versions rounds row → AreStanding n row → can_stand n row ≡ true
+row_can n versions rounds row few low h stands =
     let floor = h.clean.floor in
     let most = rises_most versions rounds 0 row.columns h.clean.rises h.columns (omega arith) in
     let a : row.floor < 2 ^ 62 = omega (arith, floor) in
     let b : length row.columns < 2 ^ 22 = omega (arith, most, few) in
     let s : nat_lt row.floor (2 ^ 62) ≡ true = grind (arith, nat_tests) in
     let t : nat_lt (length row.columns) (2 ^ 22) ≡ true = grind (arith, nat_tests) in
-    and_from (nat_lt row.floor (2 ^ 62)) (nat_lt (length row.columns) (2 ^ 22) && list_all entry_stands row.columns) s
-    (and_from (nat_lt (length row.columns) (2 ^ 22)) (list_all entry_stands row.columns) t (columns_can versions rounds row.columns few low h.columns))
+    and_from (nat_lt row.floor (2 ^ 62)) (nat_lt (length row.columns) (2 ^ 22) && list_all (entry_stands n) row.columns) s
+    (and_from (nat_lt (length row.columns) (2 ^ 22)) (list_all (entry_stands n) row.columns) t (columns_can n versions rounds 0 row.columns few low h.clean.rises h.columns stands))

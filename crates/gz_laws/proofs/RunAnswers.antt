@@ -4,10 +4,12 @@ use Rattle.std.specs.Prelude.{Option, slice_get}
 use Rattle.gz_core.specs.Names.{Name}
 use Rattle.gz_core.specs.Calls.{key_of}
 use Rattle.gz_core.specs.declared.calls.Answer.{Answer}
-use Rattle.gz_core.specs.declared.calls.Answer.TheVariants.{Ok, Bytes, Gone, Absent, NoQuorum, Contended, Unsure}
+use Rattle.gz_core.specs.declared.calls.Answer.TheVariants.{Ok, Thin, Short, Bytes, Incomplete, Gone, Absent, NoQuorum, Contended, Unsure}
 use Rattle.gz_config.specs.declared.Config.{Config}
 use Rattle.gz_core.specs.History.{Action, Trace}
 use Rattle.gz_round.specs.Shown.{IsShown}
+use Rattle.gz_core.specs.Puts.{PutData}
+use Rattle.gz_client.specs.Causes.{IsRead}
 use Rattle.gz_client.specs.Traces.{IsAnswered}
 use Rattle.gz_history.specs.Answers.{shows, names}
 use Rattle.gz_history.specs.declared.record.CallRec.{CallRec}
@@ -27,10 +29,10 @@ pub record HasTrace (key : List ℕ) (s : State) (ds : List Transition) (call : 
   pub past : List Trace
   pub trace : Trace
   pub is : IsTraceOf s.cfg call past trace
-  pub carried : ActionsCarried s.net trace.caller.name trace.actions
+  pub carried : ActionsCarried s.cfg.n s.net trace.caller.name trace.actions
   pub stands : ActionsStand (after_transitions unused ds) trace.actions
 
-among_trace : (c : Config) (net : List RequestAt) (call : CallRec) (ts : List Trace) → IsAmong c call ts → TracesCarried net ts → (past : List Trace) × ((t : Trace) × (IsTraceOf c call past t × ActionsCarried net t.caller.name t.actions))
+among_trace : (c : Config) (net : List RequestAt) (call : CallRec) (ts : List Trace) → IsAmong c call ts → TracesCarried c.n net ts → (past : List Trace) × ((t : Trace) × (IsTraceOf c call past t × ActionsCarried c.n net t.caller.name t.actions))
 among_trace c net call [] h carried = absurd h
 among_trace c net call (t ∷ ts) (inl h) carried = (ts, (t, (h, carried.0)))
 among_trace c net call (t ∷ ts) (inr h) carried = among_trace c net call ts h carried.1
@@ -54,16 +56,22 @@ IsTellingOf c t answer v = ((v ≡ 0) × (names t.caller.name answer ≡ None)) 
 pub same_version : (u v : ℕ) → Some u ≡ Some v → u ≡ v
 same_version u v e = cc
 
-pub answer_tells : (c : Config) (t : Trace) (answer : Option Answer) (v : ℕ) → IsAnswered c t answer → shows answer ≡ Some v → IsTellingOf c t answer v
-answer_tells c t None v h e = cc
-answer_tells c t (Some (Ok u)) v h e = inr (t.caller.name, (subst (λ k. IsShown c t.actions k t.caller.name) (same_version u v e) h.1.2, refl))
-answer_tells c t (Some (Bytes u y bytes)) v h e = inr (y, (subst (λ k. IsShown c t.actions k y) (same_version u v e) h.1.shown, refl))
-answer_tells c t (Some (Gone u y)) v h e = inr (y, (subst (λ k. IsShown c t.actions k y) (same_version u v e) h.1.shown, refl))
-answer_tells c t (Some Absent) v h e = inl (sym (same_version 0 v e), refl)
-answer_tells c t (Some (NoQuorum phase heard)) v h e = cc
-answer_tells c t (Some (Contended met)) v h e = cc
-answer_tells c t (Some (Unsure why)) v h e = cc
-answer_tells c t (Some answer) v h e = absurd h
+read_shown : (c : Config) (t : Trace) (u v : ℕ) (y : Name) → u ≡ v → {told : PutData → Type 0} → IsRead c t.caller t.actions u y told → IsShown c t.actions v y
+read_shown c t u v y at read = subst (λ k. IsShown c t.actions k y) at (subst (IsShown c t.actions u) read.1 read.2.shown)
+
+pub answer_tells : (c : Config) (past : List Trace) (t : Trace) (answer : Option Answer) (v : ℕ) → IsAnswered c past t answer → shows answer ≡ Some v → IsTellingOf c t answer v
+answer_tells c past t None v h e = cc
+answer_tells c past t (Some (Ok u)) v h e = inr (t.caller.name, (subst (λ k. IsShown c t.actions k t.caller.name) (same_version u v e) h.1.chosen.2, refl))
+answer_tells c past t (Some (Thin u told)) v h e = inr (t.caller.name, (subst (λ k. IsShown c t.actions k t.caller.name) (same_version u v e) h.1.chosen.2, refl))
+answer_tells c past t (Some (Short told)) v h e = cc
+answer_tells c past t (Some (Bytes u y bytes)) v h e = inr (y, (read_shown c t u v y (same_version u v e) h.1, refl))
+answer_tells c past t (Some (Incomplete u y fates)) v h e = inr (y, (read_shown c t u v y (same_version u v e) h.1, refl))
+answer_tells c past t (Some (Gone u y)) v h e = inr (y, (subst (λ k. IsShown c t.actions k y) (same_version u v e) h.1.shown, refl))
+answer_tells c past t (Some Absent) v h e = inl (sym (same_version 0 v e), refl)
+answer_tells c past t (Some (NoQuorum phase heard)) v h e = cc
+answer_tells c past t (Some (Contended met)) v h e = cc
+answer_tells c past t (Some (Unsure why)) v h e = cc
+answer_tells c past t (Some answer) v h e = absurd h
 
 -- what a call's answer shows
 abbrev pub IsTold : Config → List Transition → CallRec → ℕ → Type 0
@@ -74,7 +82,7 @@ call_told key s ds a v h e =
     let t = h.trace in
     let is = h.is in
     let name : t.caller.name ≡ a.name = is.name_is in
-    elim (answer_tells s.cfg t a.answer v (subst (IsAnswered s.cfg t) is.answer is.told.answered) e) [
+    elim (answer_tells s.cfg h.past t a.answer v (subst (IsAnswered s.cfg h.past t) is.answer is.told.answered) e) [
       | inl k ↦ inl (k.0, subst (λ x. names x a.answer ≡ None) name k.1)
       | inr k ↦ inr (k.0, (trace_shown s.cfg ds t.actions v k.0 h.stands k.1.0, subst (λ x. names x a.answer ≡ Some k.0) name k.1.1))
     ]

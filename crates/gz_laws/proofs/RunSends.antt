@@ -1,5 +1,5 @@
 -- What a session's turn sends keeps the run of each object.
-use Rattle.std.proofs.Common.{◌≡◌, ℕ, zero, suc, ◌+◌, ◌⊎◌, inl, inr, List, [], ◌∷◌, ◌++◌, Some, None, refl, ap, sym, ◌∙◌, subst}
+use Rattle.std.proofs.Common.{◌≡◌, ℕ, zero, suc, ◌+◌, ◌⊎◌, inl, inr, List, [], ◌∷◌, ◌++◌, Some, None, true, refl, ap, sym, ◌∙◌, subst}
 use Rattle.std.proofs.lemmas.Bool.{cases_eq}
 use Rattle.std.specs.Prelude.{Option, slice_get, slice_set}
 use Rattle.gz_core.specs.Names.{Name}
@@ -8,11 +8,12 @@ use Rattle.gz_core.specs.Slots.{Act}
 use Rattle.gz_core.specs.declared.calls.Answer.{Answer}
 use Rattle.gz_config.specs.declared.Config.{Config}
 use Rattle.gz_core.specs.declared.requests.Op.{Op}
+use Rattle.gz_core.specs.declared.requests.Op.TheVariants.{WriteRow}
 use Rattle.gz_core.specs.declared.requests.Out.{Out}
 use Rattle.gz_core.specs.declared.requests.Reply.{Reply}
 use Rattle.gz_round.specs.declared.hearing.Seen.{Seen}
-use Rattle.gz_core.specs.History.{Action, Sent, Handed, GaveUp, Rested, GaveIn, Caller, Trace, IsClosing, asked_of, sent_from}
-use Rattle.gz_round.specs.Sites.{site_now, seen_in, written_by}
+use Rattle.gz_core.specs.History.{Action, Sent, Handed, GaveUp, Rested, GaveIn, Caller, Trace, asked_of, sent_from, is_row_request}
+use Rattle.gz_round.specs.Sites.{site_now, seen_in, heard_in, written_by}
 use Rattle.gz_round.specs.Sending.{AreAllowed}
 use Rattle.gz_history.specs.declared.record.CallRec.{CallRec}
 use Rattle.gz_model.specs.Casts.{has_cast}
@@ -27,7 +28,8 @@ use Rattle.gz_laws.specs.Runs.{key_asked, RequestStands, IsSentBy, IsRowIn, IsSi
 use Rattle.gz_world.specs.States.{RequestAt, State, numbered, sent_request}
 use Rattle.gz_world.specs.Steps.{SitesStay, CallEnds, answered}
 use Rattle.gz_laws.proofs.Growing.{OnlyAsks, only_itself, GoesOn, IsOwnVote, allowed_base, sends}
-use Rattle.gz_laws.proofs.AsHeard.{of_reply}
+use Rattle.gz_laws.proofs.AsHeard.{of_reply, heard_case}
+use Rattle.gz_laws.proofs.Asking.{row_asked}
 use Rattle.gz_laws.proofs.Keeping.{asks_key, awaited_key}
 use Rattle.gz_laws.proofs.Keys.{key_cases}
 use Rattle.gz_world.proofs.Places.{get_set_same, get_set_other}
@@ -50,16 +52,21 @@ pub record HasSent (c : Config) (key : List ℕ) (w : Caller) (first : ℕ) (out
   pub own : key_of w.call ≡ key → begins_of w.name ds ≡ sends_of ms → begins_of w.name more ≡ sends_of (sent_from first outs ms)
   pub on : (call : Name) (early late : List Transition) → ds ≡ late ++ early → AreCurrentTransitions c unused call late early → (call ≡ w.name → key_of w.call ≡ key → (e : RowSeen) → IsIn e (heard_of ms) → IsIn e (late_rows unused late early)) → GoesOn c call early late more
 
--- each request is of the call's object
-sends_key : (c : Config) (w : Caller) (past : List Trace) (first : ℕ) (outs : List Out) (ms : List Action) → AreAllowed c w past (sent_from first outs ms) → (j : ℕ) (o : Out) → slice_get outs j ≡ Some o → key_asked o.op ≡ key_of w.call
+-- each request about a row is of the call's object
+sends_key : (c : Config) (w : Caller) (past : List Trace) (first : ℕ) (outs : List Out) (ms : List Action) → AreAllowed c w past (sent_from first outs ms) → (j : ℕ) (o : Out) → slice_get outs j ≡ Some o → is_row_request o.op ≡ true → key_asked o.op ≡ key_of w.call
 sends_key c w past first [] ms allowed j o e = cc
 sends_key c w past first (out ∷ outs) ms allowed zero o e =
     let same : out ≡ o = cc in
     let a = asked_of first out in
-    subst (λ (k : Out). key_asked k.op ≡ key_of w.call) same (asks_key c w past ms (site_now ms out.site) out.op (allowed_base c w past (first + 1) outs (Sent a ∷ ms) allowed).0.asks)
+    subst (λ (k : Out). is_row_request k.op ≡ true → key_asked k.op ≡ key_of w.call) same (asks_key c w past ms (site_now ms out.site) out.op (row_asked c w past ms a (allowed_base c w past (first + 1) outs (Sent a ∷ ms) allowed).0))
 sends_key c w past first (out ∷ outs) ms allowed (suc j) o e = sends_key c w past (first + 1) outs (Sent (asked_of first out) ∷ ms) allowed j o e
 
-pub has_sent : (c : Config) (key : List ℕ) (w : Caller) (past : List Trace) (first : ℕ) (outs : List Out) (ms : List Action) (ds : List Transition) → HasQuorums c → AreTransitions c unused ds → (key_of w.call ≡ key → Keeps w past ms (after_transitions unused ds)) → AreAllowed c w past (sent_from first outs ms)
+-- a request for a blob asks nothing of a store
+rows_alone : (st : Store) (name : Name) (site : ℕ) (op : Op) → (is_row_request op ≡ true → AskedHere name site op st × CleanOp op) → AskedHere name site op st × CleanOp op
+rows_alone st name site (WriteRow key expect step row) f = f refl
+rows_alone st name site op f = (tt, tt)
+
+pub has_sent : (c : Config) (key : List ℕ) (w : Caller) (past : List Trace) (first : ℕ) (outs : List Out) (ms : List Action) (ds : List Transition) → HasQuorums c → AreTransitions c unused ds → (key_of w.call ≡ key → Keeps c w past ms (after_transitions unused ds)) → AreAllowed c w past (sent_from first outs ms)
     → (more : List Transition) × HasSent c key w first outs ms ds more
 has_sent c key w past first outs ms ds quorums are keeps allowed = elim (key_cases (key_of w.call) key) [
   | inl same ↦ (let k = sends c w past first outs ms ds quorums are (keeps same) allowed in
@@ -80,7 +87,7 @@ has_sent c key w past first outs ms ds quorums are keeps allowed = elim (key_cas
     record {
       transitions = are;
       only = only_itself (after_transitions unused ds);
-      here = λ j o e is. absurd (apart.0 (sym (sends_key c w past first outs ms allowed j o e) ∙ is));
+      here = λ j o e is. rows_alone (after_transitions unused ds) w.name o.site o.op (λ row. absurd (apart.0 (sym (sends_key c w past first outs ms allowed j o e row) ∙ is)));
       from = λ q i. inl i;
       others = λ x _. refl;
       own = λ is. absurd (apart.0 is);
@@ -128,7 +135,7 @@ entry_in s (Some seen) es rows e row more (inl same) = subst (λ k. IsIn k rows)
 entry_in s (Some seen) es rows e row more (inr h) = more h
 
 -- what a call heard is among the rows of its requests' replies
-pub heard_in_rows : (c : Config) (key : List ℕ) (net : List RequestAt) (w : Caller) (past : List Trace) (ms : List Action) (rows : List RowSeen) → key_of w.call ≡ key → AreAllowed c w past ms → ActionsCarried net w.name ms
+pub heard_in_rows : (c : Config) (key : List ℕ) (net : List RequestAt) (w : Caller) (past : List Trace) (ms : List Action) (rows : List RowSeen) → key_of w.call ≡ key → AreAllowed c w past ms → ActionsCarried c.n net w.name ms
     → ((n i tick : ℕ) (r : RequestAt) (reply : Reply) → numbered net n ≡ Some r → key_asked r.op ≡ key → r.name ≡ w.name → slice_get r.replies i ≡ Some (tick, reply) → IsRowIn r.site (seen_in (written_by r.op) reply) rows) → (e : RowSeen) → IsIn e (heard_of ms) → IsIn e rows
 heard_in_rows c key net w past [] rows is allowed carried all e h = absurd h
 heard_in_rows c key net w past (Sent a ∷ ms) rows is allowed carried all e h = heard_in_rows c key net w past ms rows is allowed.1 carried.1 all e h
@@ -136,28 +143,17 @@ heard_in_rows c key net w past (Handed a reply ∷ ms) rows is allowed carried a
     let r = carried.0.0 in
     let req = carried.0.1.0 in
     let has = carried.0.1.1 in
-    let own = awaited_key c w past ms a.site a allowed.1 allowed.0.0 ∙ is in
-    let row = of_reply (λ o. IsRowIn r.site o rows) r reply has tt (all a.number has.place has.tick r has.made req.there (ap key_asked req.op_is ∙ own) req.name_is has.there) in
-    entry_in a.site (seen_in (written_by a.op) reply) (heard_of ms) rows e
-    (subst (λ (o : Op). IsRowIn a.site (seen_in (written_by o) reply) rows) req.op_is (subst (λ (s : ℕ). IsRowIn s (seen_in (written_by r.op) reply) rows) req.site_is row))
+    entry_in a.site (heard_in (Handed a reply)) (heard_of ms) rows e
+    (heard_case (λ o. IsRowIn a.site o rows) a reply
+    (λ about.
+    let own = awaited_key c w past ms a.site a allowed.1 (allowed.0 about).0 ∙ is in
+    let row = of_reply (λ o. IsRowIn r.site o rows) c.n r reply has tt (all a.number has.place has.tick r has.made req.there (ap key_asked req.op_is ∙ own) req.name_is has.there) in
+    subst (λ (o : Op). IsRowIn a.site (seen_in (written_by o) reply) rows) req.op_is (subst (λ (s : ℕ). IsRowIn s (seen_in (written_by r.op) reply) rows) req.site_is row))
+    tt)
     (λ k. heard_in_rows c key net w past ms rows is allowed.1 carried.1 all e k) h
 heard_in_rows c key net w past (GaveUp a ∷ ms) rows is allowed carried all e h = heard_in_rows c key net w past ms rows is allowed.1 carried.1 all e h
 heard_in_rows c key net w past (Rested ∷ ms) rows is allowed carried all e h = heard_in_rows c key net w past ms rows is allowed.1 carried.1 all e h
 heard_in_rows c key net w past (GaveIn ∷ ms) rows is allowed carried all e h = heard_in_rows c key net w past ms rows is allowed.1 carried.1 all e h
-
--- how an event closes sends nothing
-pub closing_allowed : (c : Config) (w : Caller) (past : List Trace) (closing ms : List Action) → IsClosing closing → AreAllowed c w past (closing ++ ms) → AreAllowed c w past ms
-closing_allowed c w past closing ms (inl e) h = subst (λ ks. AreAllowed c w past (ks ++ ms)) e h
-closing_allowed c w past closing ms (inr e) h = (subst (λ ks. AreAllowed c w past (ks ++ ms)) e h).1
-
-pub closing_sent : (closing ms : List Action) (act : Act) → IsClosing closing → SentStep ms act → SentStep (closing ++ ms) act
-closing_sent closing ms act (inl e) h = subst (λ ks. SentStep (ks ++ ms) act) (sym e) h
-closing_sent closing ms act (inr e) h = subst (λ ks. SentStep (ks ++ ms) act) (sym e) (inr h)
-
--- and begins no write
-pub closing_sends : (closing ms : List Action) → IsClosing closing → sends_of (closing ++ ms) ≡ sends_of ms
-closing_sends closing ms (inl e) = ap (λ ks. sends_of (ks ++ ms)) e
-closing_sends closing ms (inr e) = ap (λ ks. sends_of (ks ++ ms)) e
 
 -- what a call sent before it sent
 pub sent_before : (first : ℕ) (outs : List Out) (ms : List Action) (act : Act) → SentStep ms act → SentStep (sent_from first outs ms) act

@@ -30,7 +30,8 @@ use Rattle.gz_world.specs.Steps.{SessionMoves, TurnBy, TakesTurn}
 use Rattle.gz_laws.proofs.Growing.{allowed_base}
 use Rattle.gz_laws.proofs.Keeping.{own_sender, keeps_newest, keeps_action}
 use Rattle.gz_laws.proofs.Listing.{traces_here, traces_there}
-use Rattle.gz_laws.proofs.RunSends.{IsOurs, has_sent, NetFrom, sent_run, heard_in_rows, closing_allowed, closing_sent, sent_before, IsAfter, call_before, closing_sends}
+use Rattle.gz_laws.proofs.RunSends.{IsOurs, has_sent, NetFrom, sent_run, heard_in_rows, sent_before, IsAfter, call_before}
+use Rattle.gz_laws.proofs.Closing.{closing_allowed, closing_sent, closing_sends}
 use Rattle.gz_laws.proofs.Traces.{each_moved}
 use Rattle.gz_laws.proofs.RunTools.{IsAlike, alike_itself, alike_in, set_cases, two_cases, fresh_request, row_in_more, since_on}
 
@@ -101,7 +102,7 @@ ended_before key old new name b early before began all i v d at own ends show =
     ]
 
 pub turn_run : (key : List ℕ) (old new : State) (ds : List Transition) (n : ℕ) (r marked : RequestAt) (action : Asked → Action) (by : TurnBy) (effect : Effect) → TakesTurn old n r action by marked effect new → IsAlike r marked
-    → ((key_of by.trace.caller.call ≡ key) → ActionStands (after_transitions unused ds) (action by.asked)) → ((act : Act) → SendsStep (action by.asked) act → ⊥) → ((a : Asked) → sends_of (action a ∷ by.trace.actions) ≡ sends_of by.trace.actions) → ActionCarried old.net by.trace.caller.name (action by.asked) → AreCallsListed old → AreCarried old → ArePlaced old → IsRun key old ds → (more : List Transition) × IsRun key new more
+    → ((key_of by.trace.caller.call ≡ key) → ActionStands (after_transitions unused ds) (action by.asked)) → ((act : Act) → SendsStep (action by.asked) act → ⊥) → ((a : Asked) → sends_of (action a ∷ by.trace.actions) ≡ sends_of by.trace.actions) → ActionCarried old.cfg.n old.net by.trace.caller.name (action by.asked) → AreCallsListed old → AreCarried old → ArePlaced old → IsRun key old ds → (more : List Transition) × IsRun key new more
 turn_run key old new ds n r marked action by effect t alike stands none action_sends carried listed carries placed run =
     let c = old.cfg in
     let w = by.trace.caller in
@@ -112,10 +113,10 @@ turn_run key old new ds n r marked action by effect t alike stands none action_s
     let tick = tick_of old in
     let after = turned first by.turn (action by.asked) by.closing by.trace in
     let told : AllKeepRules c session (by.trace ∷ by.earlier) = subst (AllKeepRules c session) t.traces (listed.told session) in
-    let mine : ActionsCarried old.net w.name by.trace.actions = (subst (TracesCarried old.net) t.traces (carries session)).0 in
+    let mine : ActionsCarried c.n old.net w.name by.trace.actions = (subst (TracesCarried c.n old.net) t.traces (carries session)).0 in
     let allowed : AreAllowed c w by.earlier (sent_from first outs ms) = closing_allowed c w by.earlier by.closing (sent_from first outs ms) t.closing t.moves.told.0.allowed in
     let s = has_sent c key w by.earlier first outs ms ds placed.config.quorums run.transitions
-    (λ same. keeps_action w by.earlier (action by.asked) by.trace.actions (after_transitions unused ds) (stands same) none
+    (λ same. keeps_action c w by.earlier (action by.asked) by.trace.actions (after_transitions unused ds) (stands same) none
     (keeps_newest c key old.net old.traces (after_transitions unused ds) session by.trace by.earlier listed.told run.requests run.sent t.traces same mine)) allowed in
     let more = s.0 in
     let sent = s.1 in

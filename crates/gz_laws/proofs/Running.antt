@@ -1,12 +1,15 @@
 -- Each step keeps the run of each object.
-use Rattle.std.proofs.Common.{◌≡◌, ℕ, ◌-◌, ◌<◌, inl, inr, List, [], ◌∷◌, Some, None, refl, ap, sym, ◌∙◌, subst}
-use Rattle.std.proofs.lemmas.Bool.{cases_eq}
-use Rattle.std.specs.Prelude.{Option, MatchOption, IfSome, IsSome, slice_get}
+use Rattle.std.proofs.Common.{◌≡◌, ℕ, ◌-◌, ◌<◌, inl, inr, List, [], ◌∷◌, Some, None, Bool, true, refl, ap, sym, ◌∙◌, subst}
+use Rattle.std.proofs.lemmas.Bool.{cases_eq, false≢true}
+use Rattle.std.specs.Prelude.{Option, MatchOption, IfSome, IsSome, not, slice_get}
+use Rattle.std.specs.List.{filter}
+use Rattle.std.proofs.lemmas.List.Elements.{All-contains, filter_passes}
+use Rattle.gz_core.specs.Awaiting.{awaiting}
 use Rattle.gz_config.specs.declared.Config.{Config}
 use Rattle.gz_core.specs.declared.requests.Reply.{Reply}
-use Rattle.gz_core.specs.History.{Asked, Action, GaveUp}
-use Rattle.gz_round.specs.Sites.{as_heard, written_by}
-use Rattle.gz_client.specs.Traces.{AllKeepRules}
+use Rattle.gz_core.specs.History.{Asked, Action, GaveUp, is_row_request}
+use Rattle.gz_round.specs.Sites.{site_now, as_heard, written_by}
+use Rattle.gz_client.specs.Traces.{AllKeepRules, Awaits}
 use Rattle.gz_site.specs.Told.{Told, Tells, IsEmpty}
 use Rattle.gz_model.specs.Casts.{has_cast}
 use Rattle.gz_ledger.specs.Transitions.{Transition, after_transitions, AreTransitions}
@@ -24,7 +27,7 @@ use Rattle.gz_world.specs.Refusals.{refusal_of}
 use Rattle.gz_laws.specs.Runs.{stored_of, IsCleanStored, IsSentBy, IsRun}
 use Rattle.gz_world.specs.States.{RequestAt, State, tick_of, numbered, with_handed, with_given_up}
 use Rattle.gz_world.specs.Steps.{Answers, DeliversBy, SitesStay, TurnBy, TakesTurn, hears, HasEffect, Does, Skips, WorldStep}
-use Rattle.gz_laws.proofs.Carrying.{carried, awaited_carried}
+use Rattle.gz_laws.proofs.Carrying.{carried, awaits_carried}
 use Rattle.gz_laws.proofs.Keeping.{awaited_key, handed_stands}
 use Rattle.gz_laws.proofs.Listing.{listed}
 use Rattle.gz_world.proofs.Members.{numbered_place}
@@ -59,16 +62,21 @@ same_request a b e = cc
 -- the request that a running call learns of is the one that it awaits
 pub told_request : (old new : State) (n : ℕ) (r marked : RequestAt) (action : Asked → Action) (by : TurnBy) (effect : Effect) → TakesTurn old n r action by marked effect new → AreCarried old → IsRequestOf old.net by.trace.caller.name by.asked r
 told_request old new n r marked action by effect t carries =
-    let mine : TracesCarried old.net (by.trace ∷ by.earlier) = subst (TracesCarried old.net) t.traces (carries r.name.session) in
-    let k = awaited_carried old.net by.trace.caller.name by.trace.actions by.asked.site by.asked mine.0 t.awaited.awaits in
+    let mine : TracesCarried old.cfg.n old.net (by.trace ∷ by.earlier) = subst (TracesCarried old.cfg.n old.net) t.traces (carries r.name.session) in
+    let k = awaits_carried old.cfg.n old.cfg old.net by.trace.caller.name by.trace.actions by.asked mine.0 t.awaited.awaits in
     let same = same_request k.0 r (sym k.1.there ∙ ap (numbered old.net) t.awaited.number_is ∙ t.request) in
     subst (λ (q : RequestAt). IsRequestOf old.net by.trace.caller.name by.asked q) same k.1
 
+-- a request about a row that is awaited is awaited of its site
+pub awaits_row : (c : Config) (ms : List Action) (a : Asked) → is_row_request a.op ≡ true → Awaits c ms a → (site_now ms a.site).awaits ≡ Some a
+awaits_row c ms a row (inl k) = k.1
+awaits_row c ms a row (inr blob) = let p : Asked → Bool = λ b. not (is_row_request b.op) in absurd (false≢true (sym (ap not row) ∙ All-contains (λ b. p b ≡ true) (filter p (awaiting ms)) a (filter_passes p (awaiting ms)) blob))
+
 -- the reply that it learns of is one of that request
-pub handed_action : (old new : State) (n which : ℕ) (r : RequestAt) (reply : ℕ × Reply) (by : TurnBy) (effect : Effect) → numbered r.replies which ≡ Some reply → TakesTurn old n r (hears reply.1) by (with_handed (tick_of old) which r) effect new → AreCarried old
-    → ActionCarried old.net by.trace.caller.name (hears reply.1 by.asked)
+pub handed_action : (old new : State) (n which : ℕ) (r : RequestAt) (reply : ℕ × Reply) (by : TurnBy) (effect : Effect) → numbered r.replies which ≡ Some reply → TakesTurn old n r (hears old.cfg.n reply.1) by (with_handed (tick_of old) which r) effect new → AreCarried old
+    → ActionCarried old.cfg.n old.net by.trace.caller.name (hears old.cfg.n reply.1 by.asked)
 handed_action old new n which r reply by effect there t carries =
-    let request = told_request old new n r (with_handed (tick_of old) which r) (hears reply.1) by effect t carries in (
+    let request = told_request old new n r (with_handed (tick_of old) which r) (hears old.cfg.n reply.1) by effect t carries in (
       r,
       (
         request,
@@ -77,19 +85,19 @@ handed_action old new n which r reply by effect there t carries =
           tick = reply.0;
           made = reply.1;
           there = (numbered_place r.replies which reply there).1;
-          heard = ap (λ op. as_heard (written_by op) reply.1) (sym request.op_is);
+          heard = ap (λ op. as_heard old.cfg.n (written_by op) reply.1) (sym request.op_is);
         },
       ),
     )
 
-hand_run : (key : List ℕ) (old new : State) (ds : List Transition) (n which : ℕ) (r : RequestAt) (reply : ℕ × Reply) (by : TurnBy) (effect : Effect) → numbered r.replies which ≡ Some reply → TakesTurn old n r (hears reply.1) by (with_handed (tick_of old) which r) effect new
+hand_run : (key : List ℕ) (old new : State) (ds : List Transition) (n which : ℕ) (r : RequestAt) (reply : ℕ × Reply) (by : TurnBy) (effect : Effect) → numbered r.replies which ≡ Some reply → TakesTurn old n r (hears old.cfg.n reply.1) by (with_handed (tick_of old) which r) effect new
     → AreCallsListed old → AreCarried old → ArePlaced old → IsRun key old ds → (more : List Transition) × IsRun key new more
 hand_run key old new ds n which r reply by effect there t listed carries placed run =
     let name = by.trace.caller.name in
     let action = handed_action old new n which r reply by effect there t carries in
     let told : AllKeepRules old.cfg r.name.session (by.trace ∷ by.earlier) = subst (AllKeepRules old.cfg r.name.session) t.traces (listed.told r.name.session) in
-    turn_run key old new ds n r (with_handed (tick_of old) which r) (hears reply.1) by effect t (handed_alike (tick_of old) which r)
-    (λ same. handed_stands key old.net (after_transitions unused ds) name by.asked (as_heard (written_by by.asked.op) reply.1) run.requests (awaited_key old.cfg by.trace.caller by.earlier by.trace.actions by.asked.site by.asked told.0.allowed t.awaited.awaits ∙ same) action)
+    turn_run key old new ds n r (with_handed (tick_of old) which r) (hears old.cfg.n reply.1) by effect t (handed_alike (tick_of old) which r)
+    (λ same. handed_stands key old.cfg.n old.net (after_transitions unused ds) name by.asked (as_heard old.cfg.n (written_by by.asked.op) reply.1) run.requests (λ row. awaited_key old.cfg by.trace.caller by.earlier by.trace.actions by.asked.site by.asked told.0.allowed (awaits_row old.cfg by.trace.actions by.asked row t.awaited.awaits) ∙ same) action)
     (λ act h. h) (λ a. refl) action listed carries placed run
 
 give_up_run : (key : List ℕ) (old new : State) (ds : List Transition) (n : ℕ) (r : RequestAt) (by : TurnBy) (effect : Effect) → TakesTurn old n r (λ a. GaveUp a) by (with_given_up (tick_of old) r) effect new

@@ -20,13 +20,13 @@ use Rattle.gz_core.specs.declared.requests.Out.{Out}
 use Rattle.gz_core.proofs.Counting.{count_added, count_weaker}
 use Rattle.gz_core.specs.History.{Asked, Action, Sent, Caller, Trace, asked_of, sent_from, is_row_request}
 use Rattle.gz_round.specs.Rounds.{top_rounds, round_known, MayPromise}
-use Rattle.gz_round.specs.Sending.{AreAllowed, MaySend, MayAsk, MayMake, IsMade, made_by, is_awaited, rows_known}
+use Rattle.gz_round.specs.Sending.{AreAllowed, IsAllowed, MaySend, MayAsk, MayMake, IsMade, made_by, is_awaited, rows_known}
 use Rattle.gz_round.specs.Sent.{of_step, passes_sent, promise_by, has_promised_at, round_after, top_round, is_notice}
 use Rattle.gz_round.specs.Sites.{SiteNow, site_now, after_sent, is_to}
 use Rattle.gz_round.proofs.LookBacks.{last_promised_at}
 use Rattle.gz_laws.specs.Bounded.{IsColumnWithin, AreColumnsWithin, IsRowWithin, IfWritten}
 use Rattle.gz_laws.proofs.Growing.{allowed_base, clean_made}
-use Rattle.gz_laws.proofs.HeardOrder.{to_here}
+use Rattle.gz_round.proofs.Actions.{is_to_same}
 use Rattle.gz_laws.proofs.RowBounds.{row_wider, columns_with, greatest_within}
 use Rattle.gz_laws.proofs.Bounding.{AreHeardWithin, last_within, shown_within, next_within, grounded_within, known_within, promised_low}
 
@@ -118,12 +118,13 @@ asks_version : (versions rounds used : ℕ) (c : Config) (w : Caller) (past : Li
 asks_version versions rounds used c w past ms now (WriteRow key expect step row) u d k may h = step_version versions rounds used c w past ms step u d k may.1.guard h
 asks_version versions rounds used c w past ms now op u d k may h = cc
 
--- a measure that grows with each request that is awaited
+-- a measure that grows with each request for a row that is awaited, and falls with none
 abbrev pub cost_of : Bool → ℕ
 cost_of b = if b then 1 else 0
 
 pub record Measures (c : Config) (measure : List Action → ℕ) : Type 0 where
   pub grows : (w : Caller) (past : List Trace) (ms : List Action) (a : Asked) → MaySend c w past ms a → measure ms + cost_of a.awaited ≤ measure (Sent a ∷ ms)
+  pub keeps : (ms : List Action) (a : Asked) → measure ms ≤ measure (Sent a ∷ ms)
 
 -- once the call has sent its requests
 pub record HasSentWithin (versions used : ℕ) (measure : List Action → ℕ) (first : ℕ) (outs : List Out) (ms : List Action) : Type 0 where
@@ -145,17 +146,66 @@ ops_cons : (v r : ℕ) (out : Out) (outs : List Out) → IfWritten (IsRowWithin 
 ops_cons v r out outs one more zero o e = let same : out ≡ o = cc in subst (λ (k : Out). IfWritten (IsRowWithin v r) k.op) same one
 ops_cons v r out outs one more (suc j) o e = more j o e
 
+-- once the call has sent one request
+record HasSentOne (versions used : ℕ) (measure : List Action → ℕ) (a : Asked) (ms : List Action) : Type 0 where
+  next : ℕ
+  low : used ≤ next
+  cost : next + measure ms ≤ used + measure (Sent a ∷ ms)
+  now : top_round (Sent a ∷ ms) ≤ next
+  versions_are : (v : ℕ) (b : BallotAt) → passes_sent (λ p. (p.0 == v) && same_ballot p.1 b) (of_step promise_by a.op) ≡ true → v ≤ versions + 1
+  op : IfWritten (IsRowWithin (versions + 1) next) a.op
+
+row_within : (versions rounds used : ℕ) (measure : List Action → ℕ) (c : Config) (w : Caller) (past : List Trace) (ms : List Action) (a : Asked) → IsCallWithin versions rounds used c past ms → Measures c measure → MaySend c w past ms a → HasSentOne versions used measure a ms
+row_within versions rounds used measure c w past ms a k measures may =
+    let next = used + cost_of a.awaited in
+    let le : used ≤ next = omega arith in
+    let more : is_awaited a.op ≡ true → used + 1 ≤ next = λ e. cost_least a.awaited used (may.awaited ∙ e) in
+    let grown = measures.grows w past ms a may in
+    record {
+      next = next;
+      low = le;
+      cost = omega (arith, grown);
+      now = asks_round versions rounds used next c w past ms (site_now ms a.site) a.op k le more may.asks;
+      versions_are = λ v b e. asks_version versions rounds used c w past ms (site_now ms a.site) a.op v b k may.asks e;
+      op = asks_within versions rounds used next c w past ms a.site a.op k le more may.asks;
+    }
+
+-- a request for a blob writes no row, and promises nothing
+unwritten : (P : RowAt → Type 0) (op : Op) → is_row_request op ≡ false → IfWritten P op
+unwritten P (WriteRow key expect step row) blob = cc
+unwritten P op blob = tt
+
+unpromised : (op : Op) → is_row_request op ≡ false → of_step promise_by op ≡ None
+unpromised (WriteRow key expect step row) blob = cc
+unpromised op blob = refl
+
+blob_within : (versions rounds used : ℕ) (measure : List Action → ℕ) (c : Config) (past : List Trace) (ms : List Action) (a : Asked) → IsCallWithin versions rounds used c past ms → Measures c measure → is_row_request a.op ≡ false → HasSentOne versions used measure a ms
+blob_within versions rounds used measure c past ms a k measures blob =
+    let kept = measures.keeps ms a in
+    let none = unpromised a.op blob in
+    let now = k.now in
+    record {
+      next = used;
+      low = omega arith;
+      cost = omega (arith, kept);
+      now = subst (λ o. round_after o (top_round ms) ≤ used) (sym none) now;
+      versions_are = λ v b e. let bad : false ≡ true = sym (ap (passes_sent (λ p. (p.0 == v) && same_ballot p.1 b)) none) ∙ e in cc;
+      op = unwritten (IsRowWithin (versions + 1) used) a.op blob;
+    }
+
+one_within : (versions rounds used : ℕ) (measure : List Action → ℕ) (c : Config) (w : Caller) (past : List Trace) (ms : List Action) (a : Asked) → IsCallWithin versions rounds used c past ms → Measures c measure → IsAllowed c w past ms (Sent a) → HasSentOne versions used measure a ms
+one_within versions rounds used measure c w past ms a k measures may = elim (cases_Bool (is_row_request a.op)) [
+  | inl row ↦ row_within versions rounds used measure c w past ms a k measures (may row)
+  | inr blob ↦ blob_within versions rounds used measure c past ms a k measures blob
+]
+
 pub sends_within : (versions rounds used : ℕ) (measure : List Action → ℕ) (c : Config) (w : Caller) (past : List Trace) (first : ℕ) (outs : List Out) (ms : List Action) → IsCallWithin versions rounds used c past ms → Measures c measure → AreAllowed c w past (sent_from first outs ms) → HasSentWithin versions used measure first outs ms
 sends_within versions rounds used measure c w past first [] ms k measures allowed = record { next = used; low = omega arith; cost = omega arith; now = k.now; versions_are = k.low; ops = λ j o e. cc }
 sends_within versions rounds used measure c w past first (out ∷ outs) ms k measures allowed =
     let a = asked_of first out in
-    let may = (allowed_base c w past (first + 1) outs (Sent a ∷ ms) allowed).0 in
-    let cost = cost_of out.awaited in
-    let next = used + cost in
-    let le : used ≤ next = omega arith in
-    let more : is_awaited out.op ≡ true → used + 1 ≤ next = λ e. cost_least out.awaited used (may.awaited ∙ e) in
-    let op = asks_within versions rounds used next c w past ms out.site out.op k le more may.asks in
-    let round = asks_round versions rounds used next c w past ms (site_now ms out.site) out.op k le more may.asks in
+    let one = one_within versions rounds used measure c w past ms a k measures (allowed_base c w past (first + 1) outs (Sent a ∷ ms) allowed).0 in
+    let next = one.next in
+    let le = one.low in
     let above = k.above in
     let before = k.earlier in
     let after : IsCallWithin versions rounds next c past (Sent a ∷ ms) = record {
@@ -163,28 +213,28 @@ sends_within versions rounds used measure c w past first (out ∷ outs) ms k mea
       heard = k.heard;
       above = omega (arith, above, le);
       earlier = omega (arith, before, le);
-      now = round;
-      low = λ v b h. elim (or_cases (passes_sent (λ p. (p.0 == v) && same_ballot p.1 b) (of_step promise_by out.op)) (has_promised_at ms v b) h) [
-        | inl e ↦ asks_version versions rounds used c w past ms (site_now ms out.site) out.op v b k may.asks e
-        | inr e ↦ k.low v b e
-      ];
+      now = one.now;
+      low = λ v b h. elim (or_cases (passes_sent (λ p. (p.0 == v) && same_ballot p.1 b) (of_step promise_by out.op)) (has_promised_at ms v b) h) [ inl e ↦ one.versions_are v b e | inr e ↦ k.low v b e ];
     } in
     let rest = sends_within versions rounds next measure c w past (first + 1) outs (Sent a ∷ ms) after measures allowed in
     let low = rest.low in
     let paid = rest.cost in
-    let grown = measures.grows w past ms a may in
+    let grown = one.cost in
     record {
       next = rest.next;
       low = omega (arith, low, le);
       cost = omega (arith, paid, grown);
       now = rest.now;
       versions_are = rest.versions_are;
-      ops = ops_cons (versions + 1) rest.next out outs (op_wider (versions + 1) next rest.next out.op low op) rest.ops;
+      ops = ops_cons (versions + 1) rest.next out outs (op_wider (versions + 1) next rest.next out.op low one.op) rest.ops;
     }
 
 -- how many requests were sent is such a measure
 pub sent_measures : (c : Config) → Measures c (λ ms. length ms)
-sent_measures c = record { grows = λ w past ms a may. elim a.awaited as (λ b. length ms + cost_of b ≤ suc (length ms)) [ true ↦ omega arith | false ↦ omega arith ] }
+sent_measures c = record {
+  grows = λ w past ms a may. elim a.awaited as (λ b. length ms + cost_of b ≤ suc (length ms)) [ true ↦ omega arith | false ↦ omega arith ];
+  keeps = λ ms a. omega arith;
+}
 
 pub sent_length : (first : ℕ) (outs : List Out) (ms : List Action) → length (sent_from first outs ms) ≡ length outs + length ms
 sent_length first [] ms = omega arith
@@ -211,7 +261,7 @@ still_awaited : (a : Asked) (ms : List Action) (s : ℕ) → awaited_at ms s ≡
 still_awaited a ms s h = if_awaited (is_to a s) (after_sent a (site_now ms s)) (site_now ms s) (kept_awaited a (site_now ms s)) h
 
 now_awaited : (a : Asked) (ms : List Action) (s : ℕ) → is_row_request a.op ≡ true → a.awaited ≡ true → a.site ≡ s → awaited_at (Sent a ∷ ms) s ≡ true
-now_awaited a ms s row e same = ap (λ b. is_some (if b then after_sent a (site_now ms s) else site_now ms s).awaits) (to_here a s row same) ∙ sent_awaited a (site_now ms s) e
+now_awaited a ms s row e same = ap (λ b. is_some (if b then after_sent a (site_now ms s) else site_now ms s).awaits) (is_to_same a s row same) ∙ sent_awaited a (site_now ms s) e
 
 busy_more : (c : Config) (ms : List Action) (a : Asked) → is_row_request a.op ≡ true → a.site < c.n → (site_now ms a.site).awaits ≡ None → busy c ms + cost_of a.awaited ≤ busy c (Sent a ∷ ms)
 busy_more c ms a row below idle = elim (cases_Bool a.awaited) [
@@ -224,11 +274,14 @@ busy_more c ms a row below idle = elim (cases_Bool a.awaited) [
       omega (arith, all, k))
 ]
 
--- each request that a call sends is for a row
+-- what a call may ask of a site's row is for a row
 asks_row : (c : Config) (w : Caller) (past : List Trace) (ms : List Action) (now : SiteNow) (op : Op) → MayAsk c w past ms now op → is_row_request op ≡ true
 asks_row c w past ms now (ReadRow key) may = refl
 asks_row c w past ms now (WriteRow key expect step row) may = refl
 asks_row c w past ms now op may = absurd may
 
 pub busy_measures : (c : Config) → Measures c (busy c)
-busy_measures c = record { grows = λ w past ms a may. busy_more c ms a (asks_row c w past ms (site_now ms a.site) a.op may.asks) may.site may.idle }
+busy_measures c = record {
+  grows = λ w past ms a may. busy_more c ms a (asks_row c w past ms (site_now ms a.site) a.op may.asks) may.site may.idle;
+  keeps = λ ms a. count_weaker c.n (awaited_at ms) (awaited_at (Sent a ∷ ms)) (λ s h. still_awaited a ms s h);
+}

@@ -67,7 +67,7 @@ sent_votes (GaveIn ∷ ms) act u x (inl h) votes = absurd h
 sent_votes (GaveIn ∷ ms) act u x (inr h) votes = sent_votes ms act u x h votes
 
 -- a call that is clear at a version is so by what it heard
-pub clear_heard : (c : Config) (w : Caller) (past : List Trace) (ms : List Action) (st : Store) (v : ℕ) → Keeps w past ms st → IsClear c w.name ms v → IsClearByRows c (heard_of ms) (writes_of st.asked) w.name v
+pub clear_heard : (c : Config) (w : Caller) (past : List Trace) (ms : List Action) (st : Store) (v : ℕ) → Keeps c w past ms st → IsClear c w.name ms v → IsClearByRows c (heard_of ms) (writes_of st.asked) w.name v
 clear_heard c w past ms st v keeps clear = λ q u found own votes apart.
     let k = clear u apart (sent_votes ms q.act u w.name (keeps.own q found own) votes) in
     (k.0, k.1, shown_heard c st ms u k.0 keeps.stands k.2)

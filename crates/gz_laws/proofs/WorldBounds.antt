@@ -14,12 +14,13 @@ use Rattle.gz_core.specs.declared.requests.Reply.{Reply}
 use Rattle.gz_core.specs.declared.requests.Reply.TheVariants.{Row, NoRow, Written, Changed, Failed}
 use Rattle.gz_core.specs.declared.requests.Turn.{Turn}
 use Rattle.gz_core.proofs.Counting.{count_most}
-use Rattle.gz_core.specs.History.{Asked, Action, GaveUp, Caller, Trace, IsClosing, sent_from, begun, turned}
+use Rattle.gz_core.specs.History.{Asked, Action, GaveUp, Caller, Trace, sent_from, begun, turned}
 use Rattle.gz_core.specs.declared.values.Value.{Value}
 use Rattle.gz_round.specs.Rounds.{top_rounds}
 use Rattle.gz_round.specs.Sending.{AreAllowed}
 use Rattle.gz_round.specs.Sent.{has_promised_at, top_round}
 use Rattle.gz_round.specs.Sites.{can_stand}
+use Rattle.gz_client.specs.Traces.{IsClosed}
 use Rattle.gz_site.specs.Told.{Told, IsEmpty, same_key}
 use Rattle.gz_site.specs.Steps.{RowStored}
 use Rattle.gz_world.specs.declared.events.Effect.{Effect}
@@ -41,12 +42,14 @@ use Rattle.gz_laws.proofs.Carrying.{carried}
 use Rattle.gz_laws.proofs.Listing.{listed}
 use Rattle.gz_laws.proofs.Nets.{IsKeptAs, kept_handed, kept_given_up, AreKeptOrSent, begin_cases, turn_cases}
 use Rattle.gz_laws.proofs.Placing.{placed, acts_journal}
-use Rattle.gz_laws.proofs.RowBounds.{row_wider, row_can}
+use Rattle.gz_laws.proofs.RowBounds.{row_wider, AreStanding, row_can}
 use Rattle.gz_laws.proofs.RunDelivers.{both_tell, same_told, more_replies}
-use Rattle.gz_laws.proofs.RunSends.{closing_allowed}
+use Rattle.gz_laws.proofs.Closing.{closing_allowed, closing_keeps}
 use Rattle.gz_laws.proofs.RunTools.{set_cases}
 use Rattle.gz_laws.proofs.Running.{told_request, handed_action, step_tell}
 use Rattle.gz_laws.proofs.SendBounds.{Measures, sends_within, sent_measures, sent_length, awaited_at, busy, busy_measures}
+use Rattle.gz_laws.proofs.Standing.{rows_standing}
+use Rattle.gz_laws.proofs.Valuing.{valued}
 use Rattle.gz_laws.proofs.Traces.{each_on, each_moved}
 use Rattle.gz_laws.proofs.AsHeard.{stands_heard}
 use Rattle.gz_laws.proofs.BlobSteps.{blob_leaves}
@@ -165,13 +168,11 @@ past_within : (v r : ℕ) (ts : List Trace) → EachTrace (ArePromisesWithin v r
 past_within v r [] h = omega arith
 past_within v r (t ∷ ts) h = let a = h.0.rounds_low in let b = past_within v r ts h.1 in omega (arith, a, b)
 
-closing_round : (closing ms : List Action) → IsClosing closing → top_round (closing ++ ms) ≡ top_round ms
-closing_round closing ms (inl e) = ap (λ ks. top_round (ks ++ ms)) e
-closing_round closing ms (inr e) = ap (λ ks. top_round (ks ++ ms)) e
+closing_round : (closing ms : List Action) → IsClosed closing → top_round (closing ++ ms) ≡ top_round ms
+closing_round closing ms closed = closing_keeps (λ ks. top_round ks ≡ top_round ms) closing ms closed refl refl refl
 
-closing_promised : (closing ms : List Action) (v : ℕ) (b : BallotAt) → IsClosing closing → has_promised_at (closing ++ ms) v b ≡ has_promised_at ms v b
-closing_promised closing ms v b (inl e) = ap (λ ks. has_promised_at (ks ++ ms) v b) e
-closing_promised closing ms v b (inr e) = ap (λ ks. has_promised_at (ks ++ ms) v b) e
+closing_promised : (closing ms : List Action) (v : ℕ) (b : BallotAt) → IsClosed closing → has_promised_at (closing ++ ms) v b ≡ has_promised_at ms v b
+closing_promised closing ms v b closed = closing_keeps (λ ks. has_promised_at ks v b ≡ has_promised_at ms v b) closing ms closed refl refl refl
 
 -- a session's turn, where the bound on rounds makes room for what is sent
 record HasRoom (old new : State) (c : Config) (rounds next : ℕ) : Type 0 where
@@ -180,7 +181,7 @@ record HasRoom (old new : State) (c : Config) (rounds next : ℕ) : Type 0 where
   room : (first : ℕ) (outs : List Out) (ms : List Action) → length new.net ≡ length old.net + length outs → rounds + measure (sent_from first outs ms) ≤ next + measure ms
 
 moves_within : (v r q : ℕ) (old new : State) (session first : ℕ) (w : Caller) (past : List Trace) (outs : List Out) (ms : List Action) (after : Trace) → HasRoom old new old.cfg r q → length new.net ≡ length old.net + length outs → IsConfig old.cfg → ((i : ℕ) → new.sites i ≡ old.sites i)
-    → AreKeptOrSent old.net new.net w.name (tick_of old) outs → AreAllowed old.cfg w past (sent_from first outs ms) → ActionsCarried old.net w.name ms → EachTrace (ArePromisesWithin v r) past → top_round ms ≤ r → ((u : ℕ) (b : BallotAt) → has_promised_at ms u b ≡ true → u ≤ v)
+    → AreKeptOrSent old.net new.net w.name (tick_of old) outs → AreAllowed old.cfg w past (sent_from first outs ms) → ActionsCarried old.cfg.n old.net w.name ms → EachTrace (ArePromisesWithin v r) past → top_round ms ≤ r → ((u : ℕ) (b : BallotAt) → has_promised_at ms u b ≡ true → u ≤ v)
     → SessionMoves old session (after ∷ past) new → top_round after.actions ≡ top_round (sent_from first outs ms) → ((u : ℕ) (b : BallotAt) → has_promised_at after.actions u b ≡ has_promised_at (sent_from first outs ms) u b) → AreCallsListed old → AreWithin v r old → AreWithin (v + 1) q new
 moves_within v r q old new session first w past outs ms after room len sizes sites cases allowed carried before now versions moves same_round same_promised l h =
     let k = sends_within v r r room.measure old.cfg w past first outs ms
@@ -223,7 +224,7 @@ begin_within v r q old new session call own turn effect b room l p h =
     (λ u d e. cc) b.moves refl (λ u d. refl) l h
 
 turn_within : (v r q : ℕ) (old new : State) (n : ℕ) (x marked : RequestAt) (action : Asked → Action) (by : TurnBy) (effect : Effect) → TakesTurn old n x action by marked effect new → IsKeptAs x marked → HasRoom old new old.cfg r q → ((a : Asked) (ms : List Action) → top_round (action a ∷ ms) ≡ top_round ms)
-    → ((a : Asked) (ms : List Action) (u : ℕ) (b : BallotAt) → has_promised_at (action a ∷ ms) u b ≡ has_promised_at ms u b) → ActionCarried old.net by.trace.caller.name (action by.asked) → AreCallsListed old → AreCarried old → ArePlaced old → AreWithin v r old → AreWithin (v + 1) q new
+    → ((a : Asked) (ms : List Action) (u : ℕ) (b : BallotAt) → has_promised_at (action a ∷ ms) u b ≡ has_promised_at ms u b) → ActionCarried old.cfg.n old.net by.trace.caller.name (action by.asked) → AreCallsListed old → AreCarried old → ArePlaced old → AreWithin v r old → AreWithin (v + 1) q new
 turn_within v r q old new n x marked action by effect t kept room rounds promises carry l c p h =
     let session = x.name.session in
     let w = by.trace.caller in
@@ -235,7 +236,7 @@ turn_within v r q old new n x marked action by effect t kept room rounds promise
     let mid = slice_set old.net (n - 1) marked in
     let len : length new.net ≡ length old.net + length outs = ap length t.net ∙ length-append mid sent ∙ ap (λ k. k + length sent) (length-set old.net (n - 1) marked) ∙ ap (λ k. length old.net + k) (sent_count w.name (tick_of old) outs) in
     let before : EachTrace (ArePromisesWithin v r) (by.trace ∷ by.earlier) = subst (EachTrace (ArePromisesWithin v r)) t.traces (h.traces session) in
-    let mine : TracesCarried old.net (by.trace ∷ by.earlier) = subst (TracesCarried old.net) t.traces (c session) in
+    let mine : TracesCarried old.cfg.n old.net (by.trace ∷ by.earlier) = subst (TracesCarried old.cfg.n old.net) t.traces (c session) in
     let top = before.0.rounds_low in
     let same = rounds by.asked by.trace.actions in
     moves_within v r q old new session first w by.earlier outs ms after room len p.config t.sites.sites (turn_cases old.net new.net n x marked w.name (tick_of old) outs t.request kept t.net)
@@ -251,7 +252,7 @@ does_within v r q old new (events.Deliver n) effect d le room tells l c p h =
       traces = λ m. subst (EachTrace (ArePromisesWithin v r)) (sym (d.1.1.sessions.traces m)) (h.traces m);
     })
 does_within v r q old new (events.Reply n which) effect d le room tells l c p h =
-    turn_within v r q old new n d.0 (with_handed (tick_of old) which d.0) (hears d.1.0.1) d.1.1.0 effect d.1.1.1.1 (kept_handed (tick_of old) which d.0) room (λ a ms. refl) (λ a ms u b. refl) (handed_action old new n which d.0 d.1.0 d.1.1.0 effect d.1.1.1.0 d.1.1.1.1 c) l c p h
+    turn_within v r q old new n d.0 (with_handed (tick_of old) which d.0) (hears old.cfg.n d.1.0.1) d.1.1.0 effect d.1.1.1.1 (kept_handed (tick_of old) which d.0) room (λ a ms. refl) (λ a ms u b. refl) (handed_action old new n which d.0 d.1.0 d.1.1.0 effect d.1.1.1.0 d.1.1.1.1 c) l c p h
 does_within v r q old new (events.GiveUp n) effect d le room tells l c p h =
     turn_within v r q old new n d.0 (with_given_up (tick_of old) d.0) (λ a. GaveUp a) d.1.0 effect d.1.1 (kept_given_up (tick_of old) d.0) room (λ a ms. refl) (λ a ms u b. refl)
     (d.0, told_request old new n d.0 (with_given_up (tick_of old) d.0) (λ a. GaveUp a) d.1.0 effect d.1.1 c) l c p h
@@ -341,14 +342,37 @@ by_events _ (stepped old new event h step) tells =
     step_within (16 * length old.journal) (16 * length new.journal) old new event step (omega (arith, grew)) room tells (listed old h) (carried old h) (placed old h) (by_events old h (step_tell old new event step tells))
 
 -- so each row is one that a run can hold, and each reply is heard as it was made
-is_heard : (op : Op) (reply : Reply) → IfWritten (λ row. can_stand row ≡ true) op → IfShown (λ row. can_stand row ≡ true) reply → IsHeard op reply
-is_heard op (Row etag row) w h = stands_heard row (Row etag row) h
-is_heard (WriteRow key expect step row) (Written etag) w h = stands_heard row (Written etag) w
-is_heard op reply w h = refl
+is_heard : (n : ℕ) (op : Op) (reply : Reply) → IfWritten (λ row. can_stand n row ≡ true) op → IfShown (λ row. can_stand n row ≡ true) reply → IsHeard n op reply
+is_heard n op (Row etag row) w h = stands_heard n row (Row etag row) h
+is_heard n (WriteRow key expect step row) (Written etag) w h = stands_heard n row (Written etag) w
+is_heard n op reply w h = refl
+
+-- what holds of all rows for two reasons
+kept_both : (P Q : RowAt → Type 0) (o : Option (ℕ × RowAt)) → IfKept P o → IfKept Q o → IfKept (λ row. P row × Q row) o
+kept_both P Q None h k = tt
+kept_both P Q (Some kept) h k = (h, k)
+
+written_both : (P Q : RowAt → Type 0) (op : Op) → IfWritten P op → IfWritten Q op → IfWritten (λ row. P row × Q row) op
+written_both P Q (WriteRow key expect step row) h k = (h, k)
+written_both P Q op h k = tt
+
+shown_both : (P Q : RowAt → Type 0) (reply : Reply) → IfShown P reply → IfShown Q reply → IfShown (λ row. P row × Q row) reply
+shown_both P Q (Row etag row) h k = (h, k)
+shown_both P Q reply h k = tt
+
+rows_both : (P Q : RowAt → Type 0) (s : State) → EachRow P s → EachRow Q s → EachRow (λ row. P row × Q row) s
+rows_both P Q s h k = record {
+  sites = λ i told key is. kept_both P Q (told.rows key) (h.sites i told key is) (k.sites i told key is);
+  requests = λ n r at. written_both P Q r.op (h.requests n r at) (k.requests n r at);
+  replies = λ n place tick r reply at has. shown_both P Q reply (h.replies n place tick r reply at has) (k.replies n place tick r reply at has);
+}
 
 pub can_stand_all : (s : State) → IsReached s → AllTell s → length s.journal ≤ 4000000 → CanStand s
 can_stand_all s reached tells few =
     let v = length s.journal in
     let r = 16 * length s.journal in
-    let rows = rows_on (IsRowWithin v r) (λ row. can_stand row ≡ true) s (λ row h. row_can v r row (omega (arith, few)) (omega (arith, few)) h) (by_events s reached tells).rows in
-    record { rows = rows; heard = λ n place tick q reply at has. is_heard q.op reply (rows.requests n q at) (rows.replies n place tick q reply at has) }
+    let n = s.cfg.n in
+    let within = (by_events s reached tells).rows in
+    let standing = rows_standing s (placed s reached).config (valued s reached tells) in
+    let rows = rows_on (λ row. IsRowWithin v r row × AreStanding n row) (λ row. can_stand n row ≡ true) s (λ row h. row_can n v r row (omega (arith, few)) (omega (arith, few)) h.0 h.1) (rows_both (IsRowWithin v r) (AreStanding n) s within standing) in
+    record { rows = rows; heard = λ number place tick q reply at has. is_heard n q.op reply (rows.requests number q at) (rows.replies number place tick q reply at has) }

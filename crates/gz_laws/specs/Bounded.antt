@@ -1,5 +1,6 @@
 -- How far the rows of a world go: no version is above the number of events, and no round above the number of requests, nor
--- above the number of sites for each event. So no row is beyond the bounds on rows that no run can hold.
+-- above the number of sites for each event. No value has a fragment elsewhere than at a site. So no row is beyond the
+-- bounds on rows that no run can hold.
 use Rattle.std.specs.Prelude.{ℕ, ◌≡◌, ◌≤◌, true, List, [], ◌∷◌, Option, Some, None, slice_get}
 use Rattle.gz_core.specs.Names.{BallotAt}
 use Rattle.gz_core.specs.Rows.{RowAt}
@@ -59,11 +60,11 @@ pub record AreWithin (versions rounds : ℕ) (s : State) : Type 0 where
   pub rows : EachRow (IsRowWithin versions rounds) s
   pub traces : (session : ℕ) → EachTrace (ArePromisesWithin versions rounds) (s.traces session)
 
--- a call hears a reply of its request as it was made
-abbrev pub IsHeard : Op → Reply → Type 0
-IsHeard op reply = as_heard (written_by op) reply ≡ reply
+-- a call over n sites hears a reply of its request as it was made
+abbrev pub IsHeard : ℕ → Op → Reply → Type 0
+IsHeard n op reply = as_heard n (written_by op) reply ≡ reply
 
 -- each row is one that a run can hold, and each reply is heard as it was made
 pub record CanStand (s : State) : Type 0 where
-  pub rows : EachRow (λ row. can_stand row ≡ true) s
-  pub heard : (n place tick : ℕ) (r : RequestAt) (reply : Reply) → numbered s.net n ≡ Some r → slice_get r.replies place ≡ Some (tick, reply) → IsHeard r.op reply
+  pub rows : EachRow (λ row. can_stand s.cfg.n row ≡ true) s
+  pub heard : (n place tick : ℕ) (r : RequestAt) (reply : Reply) → numbered s.net n ≡ Some r → slice_get r.replies place ≡ Some (tick, reply) → IsHeard s.cfg.n r.op reply

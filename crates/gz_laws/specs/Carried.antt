@@ -13,29 +13,29 @@ pub record IsRequestOf (net : List RequestAt) (name : Name) (a : Asked) (r : Req
   pub site_is : r.site ≡ a.site
   pub op_is : r.op ≡ a.op
 
--- a reply is one of those that were made to a request, as the call of the request hears it
-pub record HasReply (r : RequestAt) (reply : Reply) : Type 0 where
+-- a reply is one of those that were made to a request, as the call of the request hears it, which is one over n sites
+pub record HasReply (n : ℕ) (r : RequestAt) (reply : Reply) : Type 0 where
   pub place : ℕ
   pub tick : ℕ
   pub made : Reply
   pub there : slice_get r.replies place ≡ Some (tick, made)
-  pub heard : reply ≡ as_heard (written_by r.op) made
+  pub heard : reply ≡ as_heard n (written_by r.op) made
 
 -- what is sent is a request of the world, and what is handed is a reply of that request, as the call hears it
-abbrev pub ActionCarried : List RequestAt → Name → Action → Type 0
-ActionCarried net name (Sent a) = (r : RequestAt) × IsRequestOf net name a r
-ActionCarried net name (Handed a reply) = (r : RequestAt) × (IsRequestOf net name a r × HasReply r reply)
-ActionCarried net name (GaveUp a) = (r : RequestAt) × IsRequestOf net name a r
-ActionCarried net name Rested = Unit {0}
-ActionCarried net name GaveIn = Unit {0}
+abbrev pub ActionCarried : ℕ → List RequestAt → Name → Action → Type 0
+ActionCarried n net name (Sent a) = (r : RequestAt) × IsRequestOf net name a r
+ActionCarried n net name (Handed a reply) = (r : RequestAt) × (IsRequestOf net name a r × HasReply n r reply)
+ActionCarried n net name (GaveUp a) = (r : RequestAt) × IsRequestOf net name a r
+ActionCarried n net name Rested = Unit {0}
+ActionCarried n net name GaveIn = Unit {0}
 
-abbrev pub ActionsCarried : List RequestAt → Name → List Action → Type 0
-ActionsCarried net name [] = Unit {0}
-ActionsCarried net name (m ∷ ms) = ActionCarried net name m × ActionsCarried net name ms
+abbrev pub ActionsCarried : ℕ → List RequestAt → Name → List Action → Type 0
+ActionsCarried n net name [] = Unit {0}
+ActionsCarried n net name (m ∷ ms) = ActionCarried n net name m × ActionsCarried n net name ms
 
-abbrev pub TracesCarried : List RequestAt → List Trace → Type 0
-TracesCarried net [] = Unit {0}
-TracesCarried net (t ∷ ts) = ActionsCarried net t.caller.name t.actions × TracesCarried net ts
+abbrev pub TracesCarried : ℕ → List RequestAt → List Trace → Type 0
+TracesCarried n net [] = Unit {0}
+TracesCarried n net (t ∷ ts) = ActionsCarried n net t.caller.name t.actions × TracesCarried n net ts
 
 abbrev pub AreCarried : State → Type 0
-AreCarried s = (session : ℕ) → TracesCarried s.net (s.traces session)
+AreCarried s = (session : ℕ) → TracesCarried s.cfg.n s.net (s.traces session)

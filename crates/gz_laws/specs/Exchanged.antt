@@ -15,27 +15,27 @@ pub record Exchange : Type 0 where
   pub reply : Option Reply
   pub given_up : Bool
 
--- the reply that was handed, as the call of the request hears it
-abbrev pub reply_handed : Op → List (ℕ × Reply) → Option (ℕ × ℕ) → Option Reply
-reply_handed op replies None = None
-reply_handed op replies (Some handed) = option_map (λ (r : ℕ × Reply). as_heard (written_by op) r.1) (numbered replies handed.1)
+-- the reply that was handed, as the call of the request hears it, which is one over n sites
+abbrev pub reply_handed : ℕ → Op → List (ℕ × Reply) → Option (ℕ × ℕ) → Option Reply
+reply_handed n op replies None = None
+reply_handed n op replies (Some handed) = option_map (λ (r : ℕ × Reply). as_heard n (written_by op) r.1) (numbered replies handed.1)
 
--- what the world has of its n-th request
-abbrev pub exchange_of : ℕ → RequestAt → Exchange
-exchange_of n r = record {
-  asked = record { number = n; site = r.site; op = r.op; awaited = r.awaited };
-  reply = reply_handed r.op r.replies r.handed;
+-- what the world has of the request with this number
+abbrev pub exchange_of : ℕ → ℕ → RequestAt → Exchange
+exchange_of n number r = record {
+  asked = record { number = number; site = r.site; op = r.op; awaited = r.awaited };
+  reply = reply_handed n r.op r.replies r.handed;
   given_up = is_some r.given_up;
 }
 
--- the exchanges of a call among requests with numbers from n on, in the order in which they were sent
-abbrev pub exchanges_from : ℕ → List RequestAt → Name → List Exchange
-exchanges_from n [] name = []
-exchanges_from n (r ∷ rs) name = if same_name r.name name then exchange_of n r ∷ exchanges_from (n + 1) rs name else exchanges_from (n + 1) rs name
+-- the exchanges of a call among requests with numbers from `first` on, in the order in which they were sent
+abbrev pub exchanges_from : ℕ → ℕ → List RequestAt → Name → List Exchange
+exchanges_from n first [] name = []
+exchanges_from n first (r ∷ rs) name = if same_name r.name name then exchange_of n first r ∷ exchanges_from n (first + 1) rs name else exchanges_from n (first + 1) rs name
 
 -- the exchanges of a call, by the world's requests
-abbrev pub exchanges_in : List RequestAt → Name → List Exchange
-exchanges_in net name = exchanges_from 1 net name
+abbrev pub exchanges_in : ℕ → List RequestAt → Name → List Exchange
+exchanges_in n net name = exchanges_from n 1 net name
 
 abbrev pub just_sent : Asked → Exchange
 just_sent a = record { asked = a; reply = None; given_up = false }
@@ -60,8 +60,8 @@ exchanges_told (Rested ∷ ms) = exchanges_told ms
 exchanges_told (GaveIn ∷ ms) = exchanges_told ms
 
 -- the world's requests and the trace of a call have the same exchanges
-abbrev pub IsExchanged : List RequestAt → Trace → Type 0
-IsExchanged net t = exchanges_in net t.caller.name ≡ exchanges_told t.actions
+abbrev pub IsExchanged : ℕ → List RequestAt → Trace → Type 0
+IsExchanged n net t = exchanges_in n net t.caller.name ≡ exchanges_told t.actions
 
 -- one of these calls has the name
 abbrev pub IsCallOf : List Trace → Name → Type 0
@@ -75,6 +75,6 @@ IsHandedOne r = (tick which : ℕ) → r.handed ≡ Some (tick, which) → (repl
 -- the world's requests and the calls' traces agree in both directions: each trace has its call's requests, and each
 -- request is of a trace's call
 pub record AreExchanged (s : State) : Type 0 where
-  pub traces : (session : ℕ) → EachTrace (IsExchanged s.net) (s.traces session)
+  pub traces : (session : ℕ) → EachTrace (IsExchanged s.cfg.n s.net) (s.traces session)
   pub calls : (n : ℕ) (r : RequestAt) → numbered s.net n ≡ Some r → IsCallOf (s.traces r.name.session) r.name
   pub handed : (n : ℕ) (r : RequestAt) → numbered s.net n ≡ Some r → IsHandedOne r

@@ -1,14 +1,15 @@
 -- What a call heard, as rows of acceptors, and that it stands in a store of one object.
 use Rattle.std.specs.Prelude.{ℕ, ◌≡◌, ◌⊎◌, List, [], ◌∷◌, Option, Some, None}
 use Rattle.gz_core.specs.Names.{Name, BallotAt}
-use Rattle.gz_core.specs.Calls.{IsOwn}
+use Rattle.gz_config.specs.declared.Config.{Config}
 use Rattle.gz_core.specs.Rows.{RowAt, Rises}
 use Rattle.gz_core.specs.Slots.{Act, Promises, act_of, slots}
 use Rattle.gz_core.specs.declared.requests.Op.{Op}
 use Rattle.gz_core.specs.declared.requests.Op.TheVariants.{WriteRow}
 use Rattle.gz_core.specs.History.{Caller, Trace, Action, Sent, Handed, GaveUp, Rested, GaveIn}
 use Rattle.gz_round.specs.declared.hearing.Seen.{Seen}
-use Rattle.gz_round.specs.Sites.{seen_in, written_by}
+use Rattle.gz_round.specs.Sites.{heard_in}
+use Rattle.gz_data.specs.Own.{IsOwn}
 use Rattle.gz_ledger.specs.Acceptors.{Acceptor}
 use Rattle.gz_ledger.specs.Histories.{RowSeen, Write, IsIn}
 use Rattle.gz_ledger.specs.Transitions.{Store, Answered, WriteSent, writes_of}
@@ -22,7 +23,7 @@ seen_entry s (Some seen) es = record { site = s; row = slots seen.row } ∷ es
 abbrev pub heard_of : List Action → List RowSeen
 heard_of [] = []
 heard_of (Sent a ∷ ms) = heard_of ms
-heard_of (Handed a reply ∷ ms) = seen_entry a.site (seen_in (written_by a.op) reply) (heard_of ms)
+heard_of (Handed a reply ∷ ms) = seen_entry a.site (heard_in (Handed a reply)) (heard_of ms)
 heard_of (GaveUp a ∷ ms) = heard_of ms
 heard_of (Rested ∷ ms) = heard_of ms
 heard_of (GaveIn ∷ ms) = heard_of ms
@@ -44,7 +45,7 @@ IsStepSent op act = ⊥
 
 abbrev pub ActionStands : Store → Action → Type 0
 ActionStands st (Sent a) = Unit {0}
-ActionStands st (Handed a reply) = SeenStands st a.site (seen_in (written_by a.op) reply)
+ActionStands st (Handed a reply) = SeenStands st a.site (heard_in (Handed a reply))
 ActionStands st (GaveUp a) = Unit {0}
 ActionStands st Rested = Unit {0}
 ActionStands st GaveIn = Unit {0}
@@ -93,8 +94,8 @@ CleanOp op = Unit {0}
 
 -- what a store knows of a call of its object: it writes its own value, its heard rows were shown, its writes and those of
 -- the store are the same, and each ballot that was promised is of the session that promised it
-pub record Keeps (w : Caller) (past : List Trace) (ms : List Action) (st : Store) : Type 0 where
-  pub value : IsOwn w.name w.call w.own
+pub record Keeps (c : Config) (w : Caller) (past : List Trace) (ms : List Action) (st : Store) : Type 0 where
+  pub value : IsOwn c w.name w.call w.own
   pub stands : ActionsStand st ms
   pub own : (q : Write) → IsIn q (writes_of st.asked) → q.call ≡ w.name → SentStep ms q.act
   pub asked : (act : Act) → SentStep ms act → (q : Write) × (IsIn q (writes_of st.asked) × ((q.call ≡ w.name) × (q.act ≡ act)))

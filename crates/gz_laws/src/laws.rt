@@ -19,8 +19,8 @@ ghost use Rattle.gz_history.specs.Broken.{IsHistory};
 ghost use Rattle.gz_history.specs.Legal.{IsLegal};
 
 /// Of every world that is reached: the names of the calls differ, each call is that of a trace of its session, each
-/// action of a trace was allowed when it came, and its answer, which is the call's, has its cause in what the call was
-/// handed; what the call was handed are replies, in the world, to requests that the call sent, as it hears them; each
+/// action of a trace was allowed when it came, be it about a row or about a fragment, and its answer, which is the
+/// call's, has its cause in what the call was handed; what the call was handed are replies, in the world, to requests that the call sent, as it hears them; each
 /// trace is that of a call; and requests and calls are of sites, sessions and ticks that there are. The world's requests and the traces agree
 /// in both directions, so that a call's counts can be read off the world; and the calls are a history: they began one
 /// after another, with names of their own, and each ended after it began.
@@ -55,8 +55,9 @@ pub fn agreement()
 {}
 
 /// In a world that is reached and whose sites tell what they hold, no version in a row is above the number of events, and no
-/// round above the number of requests, nor above sixteen for each event. So after as many events as a world takes each row
-/// is one that a run can hold, and each reply is heard as it was made.
+/// round above the number of requests, nor above sixteen for each event; and no value has a fragment elsewhere than at a
+/// site. So after as many events as a world takes each row is one that a run can hold, and each reply is heard as it was
+/// made.
 pub fn rows_are_bounded()
     ensures requests { (s : State) → IsReached s → AllTell s → AreWithin (length s.journal) (length s.net) s }
     ensures events { (s : State) → IsReached s → AllTell s → AreWithin (length s.journal) (16 * length s.journal) s }
@@ -71,7 +72,8 @@ pub fn no_call_gives_in()
 {}
 
 /// In a world that is reached and whose sites tell what they hold, every value that a row has is one that a call of
-/// the history writes: the bytes that a put was given, or the tombstone of a delete.
+/// the history writes to the row's object: the length of what a put was given and the digests of the records into
+/// which it is cut, or the tombstone of a delete.
 pub fn values_are_given()
     ensures { (s : State) → IsReached s → AllTell s → AreValued s }
 {}

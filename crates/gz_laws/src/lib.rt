@@ -1,4 +1,5 @@
 //! The laws of the worlds that events reach.
 #![tactic(auto)]
 
+pub mod data_laws;
 pub mod laws;
