@@ -10,21 +10,23 @@ use Rattle.gz_core.specs.declared.calls.Call.TheVariants as calls
 use Rattle.std.specs.declared.alloc.Global.{Global}
 use Rattle.gz_core.specs.declared.texts.TextError.{TextError}
 use Rattle.gz_core.specs.declared.texts.Why.TheVariants as whys
-use Rattle.gz_lines.specs.declared.faults.Fault.{Fault}
-use Rattle.gz_lines.specs.declared.faults.Fault.TheVariants.{Bad, TooLong}
+use Rattle.gz_text.specs.declared.faults.Fault.{Fault}
+use Rattle.gz_text.specs.declared.faults.Fault.TheVariants.{Bad, TooLong}
 use Rattle.gz_lines.specs.declared.line.Line.{Line}
 use Rattle.gz_lines.specs.declared.line.Line.TheVariants.{OpenSession, Begin, Deliver, Reply, GiveUp, Crash, Take, Settle, Drain}
 use Rattle.gz_lines.specs.declared.line.Reading.{Reading}
 use Rattle.gz_lines.specs.declared.line.Reading.TheVariants.{Skipped, Faulty, Is}
 use Rattle.gz_lines.specs.declared.verbs.Verb.{Verb}
 use Rattle.gz_lines.specs.declared.verbs.Verb.TheVariants as verbs
-use Rattle.gz_lines.specs.Texts.{fields, lines}
-use Rattle.gz_lines.specs.Fields.{number_field}
-use Rattle.gz_lines.specs.Faults.{with, or_bad}
-use Rattle.gz_lines.specs.Bytes.{next, generated, within, spelled, pair_of, generated_within, generated_by, generated_from, bytes_in}
+use Rattle.gz_text.specs.Texts.{fields_of, lines}
+use Rattle.gz_text.specs.Fields.{number_field, is_word}
+use Rattle.gz_text.specs.Faults.{with, or_bad}
+use Rattle.gz_text.specs.Objects.{within}
+use Rattle.gz_text.specs.Places.{pair_of}
+use Rattle.gz_lines.specs.Bytes.{next, generated, spelled, generated_within, generated_by, generated_from, bytes_in}
 use Rattle.gz_lines.specs.Counts.{first_of, one_of, two_of, three_of, counted}
-use Rattle.gz_lines.specs.Verbs.{is_word, verb_of}
-use Rattle.gz_lines.specs.Grammar.{number_in, session_in, key_in, list_in, number_alone, session_alone, settle_without, settle_by, line_from, is_or_faulty, reading_for, reading_by, reading_of, read_line}
+use Rattle.gz_lines.specs.Verbs.{verb_of}
+use Rattle.gz_lines.specs.Grammar.{number_in, session_in, key_in, list_in, number_alone, session_alone, settle_without, settle_by, line_from, is_or_faulty, reading_for, reading_by, read_line}
 use Rattle.gz_lines.specs.Schedule.{IsBoundedLine, line_of, readings, Reads}
 
 -- what follows from a value that was read has a property
@@ -152,15 +154,8 @@ reading_by-bounded : (word : Option (List ℕ)) (fields : List (List ℕ)) → I
 reading_by-bounded None fields = tt
 reading_by-bounded (Some word) fields = reading_for-bounded (verb_of word) fields
 
-skip-bounded : (t : Bool) (r : Reading) → IsBoundedReading r → IsBoundedReading (if t then Skipped else r)
-skip-bounded true r h = tt
-skip-bounded false r h = h
-
 read_line-bounded : (text : List ℕ) → IsBoundedReading (read_line text)
-read_line-bounded [] = tt
-read_line-bounded (b ∷ bs) =
-    let found = fields (b ∷ bs) in
-    skip-bounded (b == 35) (reading_of found) (reading_by-bounded (first_of found) found)
+read_line-bounded text = reading_by-bounded (first_of (fields_of text)) (fields_of text)
 
 one-more : (r : Reading) (rest : List Reading) → IsBoundedReading r → All IsBoundedLine (filter_map line_of rest) → All IsBoundedLine (filter_map line_of (r ∷ rest))
 one-more Skipped rest h all = all

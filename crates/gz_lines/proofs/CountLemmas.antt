@@ -2,15 +2,7 @@
 use denote.Ref.{Bor}
 use Rattle.std.proofs.Common.{ℕ, ◌≡◌, ◌≤◌, List, [], ◌∷◌, length, map, refl, arith}
 use Rattle.std.specs.Prelude.{None}
-use Rattle.gz_lines.specs.Bytes.{pair_of}
 use Rattle.gz_lines.specs.Counts.{one_of, two_of, three_of}
-
--- three parts are no pair
-pub no_pair : (parts : List (Bor (List ℕ))) → 3 ≤ length parts → None ≡ pair_of (map (λ x. x.now) parts)
-no_pair [] h = absurd (omega arith)
-no_pair (a ∷ []) h = absurd (omega arith)
-no_pair (a ∷ b ∷ []) h = absurd (omega arith)
-no_pair (a ∷ b ∷ c ∷ more) h = refl
 
 -- more fields than one, two or three after the first
 pub not_one : (fields : List (Bor (List ℕ))) → 3 ≤ length fields → None ≡ one_of (map (λ x. x.now) fields)

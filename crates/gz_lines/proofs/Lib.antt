@@ -2,5 +2,4 @@ pub mod Bounds
 pub mod CountLemmas
 pub mod CutLemmas
 pub mod Generating
-pub mod ReadLemmas
 pub mod Reading

@@ -8,16 +8,16 @@ use Rattle.std.proofs.lemmas.Option.{slice_get-map, slice_get-get_or}
 use Rattle.std.specs.declared.alloc.Global.{Global}
 use Rattle.std.proofs.Math.Seq.{take-length}
 use Rattle.gz_core.specs.declared.texts.TextError.{TextError}
-use Rattle.gz_lines.specs.declared.faults.Fault.{Fault}
-use Rattle.gz_lines.specs.declared.faults.Fault.TheVariants.{Bad, TooLong}
+use Rattle.gz_text.specs.declared.faults.Fault.{Fault}
+use Rattle.gz_text.specs.declared.faults.Fault.TheVariants.{Bad, TooLong}
 use Rattle.gz_lines.specs.declared.line.Line.{Line}
 use Rattle.gz_lines.specs.declared.line.Reading.{Reading}
 use Rattle.gz_lines.specs.declared.line.Reading.TheVariants.{Skipped, Faulty, Is}
-use Rattle.gz_lines.specs.Faults.{error_at}
+use Rattle.gz_text.specs.Faults.{error_at, told_number}
 use Rattle.gz_lines.specs.Grammar.{read_line}
-use Rattle.gz_lines.specs.Schedule.{fault_of, fault_at, line_of, readings, AreFaultless, IsFirstFault, told_number, Reads}
+use Rattle.gz_lines.specs.Schedule.{fault_of, fault_at, line_of, readings, AreFaultless, IsFirstFault, Reads}
 use Rattle.gz_lines.proofs.CutLemmas.{length_readings}
-use Rattle.gz_lines.proofs.ReadLemmas.{lent_more, filter_map-some, filter_map-none}
+use Rattle.gz_text.proofs.ReadLemmas.{lent_more, filter_map-some, filter_map-none}
 
 -- what the lines that are lent read as
 abbrev pub all_of : List (Bor (List ℕ)) → List Reading

@@ -1,8 +1,8 @@
 -- The fields of a line, where there are so many.
 use Rattle.std.specs.Prelude.{ℕ, List, [], ◌∷◌, Option, Some, None, Result, Err}
 use Rattle.gz_core.specs.declared.texts.Why.TheVariants.{Count}
-use Rattle.gz_lines.specs.declared.faults.Fault.{Fault}
-use Rattle.gz_lines.specs.declared.faults.Fault.TheVariants.{Bad}
+use Rattle.gz_text.specs.declared.faults.Fault.{Fault}
+use Rattle.gz_text.specs.declared.faults.Fault.TheVariants.{Bad}
 
 -- the first field
 abbrev pub first_of : List (List ℕ) → Option (List ℕ)

@@ -1,21 +1,22 @@
 -- What a line of a schedule reads as.
-use Rattle.std.specs.Prelude.{ℕ, ◌==◌, if◌then◌else◌, List, [], ◌∷◌, length, Option, Some, None, Result, Ok, Err, codes}
+use Rattle.std.specs.Prelude.{ℕ, ◌==◌, if◌then◌else◌, List, [], length, Option, Some, None, Result, Ok, Err, codes}
 use Rattle.gz_core.specs.declared.calls.Call.TheVariants as calls
 use Rattle.gz_core.specs.declared.texts.Why.TheVariants as whys
-use Rattle.gz_lines.specs.declared.faults.Fault.{Fault}
-use Rattle.gz_lines.specs.declared.faults.Fault.TheVariants.{Bad}
+use Rattle.gz_text.specs.declared.faults.Fault.{Fault}
+use Rattle.gz_text.specs.declared.faults.Fault.TheVariants.{Bad}
 use Rattle.gz_lines.specs.declared.line.Line.{Line}
 use Rattle.gz_lines.specs.declared.line.Line.TheVariants.{OpenSession, Begin, Deliver, Reply, GiveUp, Crash, Take, Settle, Drain}
 use Rattle.gz_lines.specs.declared.line.Reading.{Reading}
 use Rattle.gz_lines.specs.declared.line.Reading.TheVariants.{Skipped, Faulty, Is}
 use Rattle.gz_lines.specs.declared.verbs.Verb.{Verb}
 use Rattle.gz_lines.specs.declared.verbs.Verb.TheVariants as verbs
-use Rattle.gz_lines.specs.Texts.{fields}
-use Rattle.gz_lines.specs.Fields.{number_field, session_field, sites_field, key_field}
-use Rattle.gz_lines.specs.Faults.{with, or_bad}
+use Rattle.gz_text.specs.Texts.{fields_of}
+use Rattle.gz_text.specs.Fields.{number_field, key_field, is_word}
+use Rattle.gz_text.specs.Faults.{with, or_bad}
+use Rattle.gz_lines.specs.Fields.{session_field, sites_field}
 use Rattle.gz_lines.specs.Bytes.{bytes_in}
 use Rattle.gz_lines.specs.Counts.{first_of, one_of, two_of, three_of, counted}
-use Rattle.gz_lines.specs.Verbs.{is_word, verb_of}
+use Rattle.gz_lines.specs.Verbs.{verb_of}
 
 -- a field as what it should be, or its fault
 abbrev pub number_in : List ℕ → Result ℕ Fault
@@ -118,7 +119,6 @@ reading_by (Some word) fields = reading_for (verb_of word) fields
 abbrev pub reading_of : List (List ℕ) → Reading
 reading_of fields = reading_by (first_of fields) fields
 
--- a line whose first byte is `#` is a comment
+-- a comment, which has no fields, is skipped too
 abbrev pub read_line : List ℕ → Reading
-read_line [] = Skipped
-read_line (b ∷ bs) = if b == 35 then Skipped else reading_of (fields (b ∷ bs))
+read_line line = reading_of (fields_of line)

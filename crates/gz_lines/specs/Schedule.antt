@@ -1,16 +1,17 @@
 -- Which texts are schedules, and the first line of a text that keeps it from being one.
-use Rattle.std.specs.Prelude.{ℕ, ◌≡◌, ◌-◌, ◌<◌, ◌≤◌, ◌^◌, min, Vec, List, length, map, filter_map, Option, Some, None, option_and_then, Result, Ok, Err, slice_get}
+use Rattle.std.specs.Prelude.{ℕ, ◌≡◌, ◌-◌, ◌<◌, ◌≤◌, Vec, List, length, map, filter_map, Option, Some, None, option_and_then, Result, Ok, Err, slice_get}
 use Rattle.std.specs.declared.alloc.Global.{Global}
 use Rattle.gz_core.specs.declared.texts.TextError.{TextError}
 use Rattle.gz_core.specs.declared.texts.TextError.TheVariants.{Bad, TooLong, NoMemory}
 use Rattle.gz_round.specs.Starting.{IsWithin}
-use Rattle.gz_lines.specs.declared.faults.Fault.{Fault}
-use Rattle.gz_lines.specs.declared.faults.Fault.TheVariants as faults
+use Rattle.gz_text.specs.declared.faults.Fault.{Fault}
+use Rattle.gz_text.specs.declared.faults.Fault.TheVariants as faults
+use Rattle.gz_text.specs.Faults.{told_number}
+use Rattle.gz_text.specs.Texts.{lines}
 use Rattle.gz_lines.specs.declared.line.Line.{Line}
 use Rattle.gz_lines.specs.declared.line.Line.TheVariants.{OpenSession, Begin, Deliver, Reply, GiveUp, Crash, Take, Settle, Drain}
 use Rattle.gz_lines.specs.declared.line.Reading.{Reading}
 use Rattle.gz_lines.specs.declared.line.Reading.TheVariants.{Skipped, Faulty, Is}
-use Rattle.gz_lines.specs.Texts.{lines}
 use Rattle.gz_lines.specs.Grammar.{read_line}
 
 -- the line's call keeps to the bounds of an object
@@ -55,10 +56,6 @@ pub record IsFirstFault (all : List Reading) (line : ℕ) (fault : Fault) : Type
   pub within : line ≤ length all
   pub above : AreFaultless all (line - 1)
   pub found : fault_at all (line - 1) ≡ Some fault
-
--- the number that is told of a line: its own, or the greatest of 32 bits where it is above that
-abbrev pub told_number : ℕ → ℕ
-told_number line = min line (2 ^ 32 - 1)
 
 -- a line of which this number is told is the first with a fault, and has this one
 abbrev pub IsFaultTold : List Reading → ℕ → Fault → Type 0

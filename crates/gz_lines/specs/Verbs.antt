@@ -1,12 +1,8 @@
 -- The first words of lines.
-use Rattle.std.specs.Prelude.{ℕ, ◌||◌, Bool, nat_eq, if◌then◌else◌, List, Option, Some, None, codes}
-use Rattle.std.specs.Cmp.Lexicographic.{pointwise}
+use Rattle.std.specs.Prelude.{ℕ, ◌||◌, Bool, if◌then◌else◌, List, Option, Some, None, codes}
+use Rattle.gz_text.specs.Fields.{is_word}
 use Rattle.gz_lines.specs.declared.verbs.Verb.{Verb}
 use Rattle.gz_lines.specs.declared.verbs.Verb.TheVariants.{Session, Put, Delete, Get, Deliver, Reply, GiveUp, Take, Crash, Settle, Drain, Unbuilt}
-
--- the field is this word
-abbrev pub is_word : List ℕ → List ℕ → Bool
-is_word word field = pointwise nat_eq field word
 
 -- lines that can't be played yet
 abbrev pub is_unbuilt : List ℕ → Bool

@@ -6,26 +6,20 @@ ghost use Rattle.gz_lines.specs.Counts.{three_of};
 
 use crate::bytes::bytes;
 use crate::counts::{first, one, three, two};
-use crate::faults::Fault;
+use crate::fields;
 use crate::line::{Line, Reading};
 use crate::numbers::{crash, deliver, drain, give_up, number, session, settle_all, take};
 use crate::verbs::{Verb, verb_of};
-use crate::{cut, fields};
 use gz_core::{Call, Items, Key, SiteId, Why};
+use gz_text::{Fault, cut};
 use std::alloc::{AllocError, Global};
 
 /// The reading of a line.
 pub fn read_line(alloc: Global, line: &[u8]) -> Result<Reading, AllocError>
     ensures { IfOk result (λ reading. reading ≡ read_line line.now) }
 {
-    match line {
-        [] => Ok(Reading::Skipped),
-        [b'#', ..] => Ok(Reading::Skipped),
-        _ => {
-            let fields = cut::fields(alloc, line)?;
-            reading(alloc, fields.as_slice())
-        }
-    }
+    let fields = cut::fields_of(alloc, line)?;
+    reading(alloc, fields.as_slice())
 }
 
 /// The reading of a line's fields.

@@ -3,8 +3,6 @@
 
 pub mod bytes;
 mod counts;
-mod cut;
-pub mod faults;
 pub mod fields;
 mod grammar;
 pub mod line;
@@ -12,6 +10,6 @@ mod numbers;
 pub mod schedule;
 mod verbs;
 
-pub use faults::Fault;
+pub use gz_text::Fault;
 pub use line::Line;
 pub use schedule::read_schedule;

@@ -1,6 +1,6 @@
 //! A line of a schedule.
-use crate::faults::Fault;
 use gz_core::{Call, Items, Session, SiteId};
+use gz_text::Fault;
 
 /// What a line of a schedule asks for. Requests and replies count from 1.
 pub enum Line {

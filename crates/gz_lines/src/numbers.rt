@@ -3,10 +3,10 @@ ghost use Rattle.std.specs.Prelude.{◌≡◌, [], map};
 ghost use Rattle.gz_lines.specs.Grammar.{number_in, session_in, number_alone, session_alone, deliver_line, give_up_line, take_line, crash_line, drain_line, settle_by};
 
 use crate::counts::one;
-use crate::faults::Fault;
 use crate::fields;
 use crate::line::Line;
 use gz_core::{Items, Session, Why};
+use gz_text::Fault;
 use std::alloc::Global;
 
 /// A number.

@@ -1,12 +1,12 @@
 //! A schedule: the lines that the program plays.
-ghost use Rattle.std.specs.Prelude.{◌≡◌, ◌≤◌, ◌+◌, length, map, filter_map, IfOk, All};
+ghost use Rattle.std.specs.Prelude.{◌≤◌, ◌+◌, length, map, IfOk, All};
 ghost use Rattle.gz_lines.specs.Grammar.{read_line};
-ghost use Rattle.gz_lines.specs.Schedule.{readings, IsBoundedLine, Reads, told_number};
+ghost use Rattle.gz_lines.specs.Schedule.{readings, IsBoundedLine, Reads};
 
-use crate::cut;
 use crate::grammar::read_line;
 use crate::line::{Line, Reading};
 use gz_core::TextError;
+use gz_text::{cut, number_at};
 use std::alloc::{AllocError, Global};
 
 /// The lines of a schedule, or the first line with a fault, counted from 1. Time and memory grow linearly with the text.
@@ -43,15 +43,4 @@ fn lines_read(alloc: Global, texts: &[&[u8]]) -> Result<Result<Vec<Line>, TextEr
         }
     }
     Ok(Ok(lines))
-}
-
-/// The number that is told of the line at a place.
-fn number_at(place: usize) -> u32
-    ensures { result ≡ told_number (place + 1) }
-{
-    if place < u32::MAX as usize {
-        place as u32 + 1
-    } else {
-        u32::MAX
-    }
 }

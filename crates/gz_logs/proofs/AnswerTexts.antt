@@ -124,10 +124,10 @@ versioned_read fields p h =
 after_word : (fields : List (List ℕ)) (word tail : List ℕ) → field_at 0 fields ≡ word → joined fields ≡ field_at 0 fields ++ 32 ∷ tail → joined fields ≡ word ++ 32 ∷ tail
 after_word fields word tail same read = read ∙ ap (λ (w : List ℕ). w ++ 32 ∷ tail) same
 
-spaced : (a b : List ℕ) → a ++ 32 ∷ b ≡ a ++ codes " " ++ b
+pub spaced : (a b : List ℕ) → a ++ 32 ∷ b ≡ a ++ codes " " ++ b
 spaced a b = sym (append_assoc a (32 ∷ []) b)
 
-spaced_three : (a b c : List ℕ) → a ++ 32 ∷ (b ++ 32 ∷ c) ≡ a ++ codes " " ++ b ++ codes " " ++ c
+pub spaced_three : (a b c : List ℕ) → a ++ 32 ∷ (b ++ 32 ∷ c) ≡ a ++ codes " " ++ b ++ codes " " ++ c
 spaced_three a b c = simp append_assoc refl
 
 -- why a write ended without knowing

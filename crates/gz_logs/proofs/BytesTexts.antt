@@ -106,7 +106,7 @@ written (b ∷ more) field some h = h
 some_field : (field : List ℕ) → nat_le 1 (length field) ≡ true → 0 < length field
 some_field field h = grind (arith, nat_tests)
 
-result_some : (r : Result (List ℕ) FromHexError) (x : List ℕ) → result_ok r ≡ Some x → r ≡ Ok x
+pub result_some : (r : Result (List ℕ) FromHexError) (x : List ℕ) → result_ok r ≡ Some x → r ≡ Ok x
 result_some (Ok y) x h = ap Ok (same_Some y x h)
 result_some (Err e) x h = absurd (cc)
 

@@ -50,10 +50,10 @@ paired (x ∷ y ∷ []) a b h =
 paired (x ∷ y ∷ z ∷ more) a b h = absurd (cc)
 
 -- the name of two numbers
-abbrev name_with : ℕ → ℕ → Name
+abbrev pub name_with : ℕ → ℕ → Name
 name_with session seq = record { session = session; seq = seq }
 
-abbrev name_from : List ℕ → ℕ → Option Name
+abbrev pub name_from : List ℕ → ℕ → Option Name
 name_from field session = option_map (name_with session) (positive_below (2 ^ 32) field)
 
 pub name_read : (n : Name) (field : List ℕ) → name_field field ≡ Some n → field ≡ name_text n

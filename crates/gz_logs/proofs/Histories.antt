@@ -27,15 +27,15 @@ use Rattle.gz_logs.specs.Lines.{Seen, begin_before, is_after, is_end, is_ordered
 use Rattle.gz_logs.specs.Named.{same_name, is_named}
 use Rattle.gz_logs.specs.Parsed.{Log, FaultAt, finished, at_line, read_from, unread, parsed, Parses}
 
--- an element in front of others, and the last one
-get_front : (xs ys : List CallRec) (i : ℕ) → i < length xs → slice_get (xs ++ ys) i ≡ slice_get xs i
+-- an element in front of others, and the next one
+pub get_front : (xs ys : List CallRec) (i : ℕ) → i < length xs → slice_get (xs ++ ys) i ≡ slice_get xs i
 get_front [] ys i h = absurd (omega arith)
 get_front (x ∷ xs) ys zero h = refl
 get_front (x ∷ xs) ys (suc i) h = get_front xs ys i (omega arith)
 
-get_last : (xs : List CallRec) (x : CallRec) → slice_get (xs ++ x ∷ []) (length xs) ≡ Some x
-get_last [] x = refl
-get_last (y ∷ ys) x = get_last ys x
+pub get_next : (xs ys : List CallRec) (x : CallRec) → slice_get (xs ++ x ∷ ys) (length xs) ≡ Some x
+get_next [] ys x = refl
+get_next (z ∷ zs) ys x = get_next zs ys x
 
 length_more : (xs : List CallRec) (x : CallRec) → length (xs ++ x ∷ []) ≡ length xs + 1
 length_more [] x = refl
@@ -98,10 +98,10 @@ history_more : (calls : List CallRec) (c : CallRec) (open_field : Bool) → IsHi
 history_more calls c open_field h unnamed ordered =
     let parts = ordered_parts (begin_before calls) c.begin c.end open_field ordered in
     let more : AreInOrder (calls ++ c ∷ []) (length calls + 1) =
-    order_more (calls ++ c ∷ []) (length calls) c (in_front calls c h) (get_last calls c) (ends_from c.begin c.end open_field parts.1)
+    order_more (calls ++ c ∷ []) (length calls) c (in_front calls c h) (get_next calls [] c) (ends_from c.begin c.end open_field parts.1)
     (λ i m a b p q.
     let here : slice_get calls i ≡ Some a = sym (get_front calls (c ∷ []) i m) ∙ p in
-    subst (λ (x : CallRec). Precedes a x) (same_Some c b (sym (get_last calls c) ∙ q))
+    subst (λ (x : CallRec). Precedes a x) (same_Some c b (sym (get_next calls [] c) ∙ q))
     (record { began = began_before calls i c.begin a h parts.0 here; name = apart c.name a (not_named c.name calls i a unnamed here) })) in
     subst (λ (n : ℕ). AreInOrder (calls ++ c ∷ []) n) (sym (length_more calls c)) more
 
@@ -170,13 +170,13 @@ pub at_line_ok : (line : ℕ) (r : Result Seen Fault) (next : Seen → Result Lo
 at_line_ok line (Ok seen) next log e = (seen, (refl, e))
 at_line_ok line (Err fault) next log e = absurd (cc)
 
-reads_history : (line : ℕ) (seen : Seen) (texts : List (List ℕ)) (log : Log) → IsHistory seen.calls → read_from line seen texts ≡ Ok log → IsHistory log.calls
+pub reads_history : (line : ℕ) (seen : Seen) (texts : List (List ℕ)) (log : Log) → IsHistory seen.calls → read_from line seen texts ≡ Ok log → IsHistory log.calls
 reads_history line seen [] log h e = finished_history line seen.calls seen.ends log h e
 reads_history line seen (text ∷ texts) log h e =
     let read = at_line_ok line (after seen (fields_of text)) (λ next. read_from (line + 1) next texts) log e in
     reads_history (line + 1) read.0 texts log (after_history seen read.0 (fields_of text) h read.1.0) read.1.1
 
-no_history : IsHistory []
+pub no_history : IsHistory []
 no_history = record { order = λ i j l m. absurd (omega arith); ends = λ i a m. absurd (omega arith) }
 
 -- the calls that are read are a history

@@ -8,4 +8,12 @@ pub mod LineByLine
 pub mod LineTexts
 pub mod NameLemmas
 pub mod NumberLemmas
+pub mod ReadAnswers
+pub mod ReadFields
+pub mod ReadFits
 pub mod Tidied
+pub mod Words
+pub mod Written
+pub mod WrittenAnswers
+pub mod WrittenFields
+pub mod WrittenLines

@@ -119,7 +119,7 @@ open_read kind fields answer h =
     ]
 
 -- seven texts with a blank between, and LF
-line_of_seven : (a b c d e f g : List ℕ) → (a ++ 32 ∷ (b ++ 32 ∷ (c ++ 32 ∷ (d ++ 32 ∷ (e ++ 32 ∷ (f ++ 32 ∷ g)))))) ++ codes "\n"
+pub line_of_seven : (a b c d e f g : List ℕ) → (a ++ 32 ∷ (b ++ 32 ∷ (c ++ 32 ∷ (d ++ 32 ∷ (e ++ 32 ∷ (f ++ 32 ∷ g)))))) ++ codes "\n"
     ≡ (a ++ codes " " ++ b ++ codes " " ++ c ++ codes " " ++ d) ++ codes " " ++ e ++ codes " " ++ f ++ codes " " ++ g ++ codes "\n"
 line_of_seven a b c d e f g = simp append_assoc refl
 
@@ -146,7 +146,7 @@ call_text calls fields c h =
     (name_read name.0 (field_at 0 fields) (some_ok whys.Word (name_field (field_at 0 fields)) name.0 name.1.0)) (timed_read fields timed.0 timed.1.0)
 
 -- the last line
-line_of_four : (a b c d : List ℕ) → (a ++ 32 ∷ (b ++ 32 ∷ (c ++ 32 ∷ d))) ++ codes "\n" ≡ a ++ codes " " ++ b ++ codes " " ++ c ++ codes " " ++ d ++ codes "\n"
+pub line_of_four : (a b c d : List ℕ) → (a ++ 32 ∷ (b ++ 32 ∷ (c ++ 32 ∷ d))) ++ codes "\n" ≡ a ++ codes " " ++ b ++ codes " " ++ c ++ codes " " ++ d ++ codes "\n"
 line_of_four a b c d = simp append_assoc refl
 
 pub end_read : (calls : ℕ) (fields : List (List ℕ)) (counts : Counts) → is_word (codes "end") (field_at 0 fields) ≡ true → end_line calls fields ≡ Ok counts

@@ -16,7 +16,7 @@ use Rattle.gz_logs.proofs.Choices.{then_some}
 abbrev value_from : ℕ → List ℕ → ℕ
 value_from n digits = fold (λ m d. m * 10 + (d - 48)) n digits
 
-own : IsNumeralModel (λ ds. list_all is_ascii_digit ds ≡ true) value_of
+pub own : IsNumeralModel (λ ds. list_all is_ascii_digit ds ≡ true) value_of
 own = numerals_by_fold (λ ds. list_all is_ascii_digit ds ≡ true) (search rules) value_from (search rules)
 
 -- what a numeral begins with

@@ -1,6 +1,7 @@
 pub mod Answers
 pub mod Bytes
 pub mod Calls
+pub mod Fitting
 pub mod Kinds
 pub mod Laws
 pub mod Lines

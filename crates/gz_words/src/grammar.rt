@@ -5,7 +5,7 @@ ghost use Rattle.std.specs.List.{list_all, list_any};
 ghost use Rattle.gz_words.specs.Words.{task_in, task_of, form_of, replay_in, code_in, is_option, is_shape, is_hex, IsWellFormed};
 
 use crate::command::Command;
-use gz_lines::fields::number;
+use gz_text::fields::number;
 
 /// What the words ask for, none where they are of no form. A word that begins with a dash is of no form.
 pub fn own_reading<'a>(words: &[&'a str]) -> Option<Command<'a>>

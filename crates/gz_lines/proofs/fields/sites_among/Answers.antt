@@ -1,6 +1,6 @@
 use denote.Ref.{Bor}
 use Rattle.std.proofs.Common.{ℕ, List, [], map, take, get_or, filter_map, ap, sym, ◌∙◌}
-use Rattle.gz_lines.proofs.ReadLemmas.{lent_more, filter_map-some, filter_map-none}
+use Rattle.gz_text.proofs.ReadLemmas.{lent_more, filter_map-some, filter_map-none}
 use Rattle.gz_lines.specs.Fields.{site_of}
 use Rattle.gz_lines.proofs.fields.sites_among.Goals as goal
 use Rattle.gz_lines.proofs.fields.sites_among.Goals.{in-Some+in_ok-push, in_default}
