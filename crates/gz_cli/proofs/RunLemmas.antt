@@ -2,8 +2,8 @@
 use Rattle.std.proofs.Common.{ℕ, ◌≡◌, ◌-◌, ◌≤◌, ◌<◌, List, length, subst, arith}
 use Rattle.std.specs.Prelude.{Option, Some, None}
 use Rattle.gz_site.specs.Files.{Exceeds}
-use Rattle.gz_lines.specs.declared.faults.Fault.{Fault}
-use Rattle.gz_lines.specs.declared.faults.Fault.TheVariants as faults
+use Rattle.gz_text.specs.declared.faults.Fault.{Fault}
+use Rattle.gz_text.specs.declared.faults.Fault.TheVariants as faults
 use Rattle.gz_lines.specs.Schedule.{readings, AreFaultless, IsFirstFault, fault_at}
 use Rattle.gz_cli.specs.declared.status.Status.{Status}
 use Rattle.gz_cli.specs.declared.status.Status.TheVariants.{Done, Usage, ShelfFault, NoFile, FileTooLarge, BadText, TooLong, Full, SinkFault, NoMemory}

@@ -2,9 +2,10 @@
 use Rattle.std.proofs.Common.{ℕ, ◌≡◌, ◌≤◌, List, length, Err, subst, arith}
 use Rattle.gz_core.specs.declared.texts.TextError.{TextError}
 use Rattle.gz_core.specs.declared.texts.TextError.TheVariants.{Bad, TooLong as TextTooLong, NoMemory as NoTextMemory}
-use Rattle.gz_lines.specs.declared.faults.Fault.{Fault}
-use Rattle.gz_lines.specs.declared.faults.Fault.TheVariants as faults
-use Rattle.gz_lines.specs.Schedule.{readings, told_number, IsFirstFault, IsFaultTold, Reads}
+use Rattle.gz_text.specs.declared.faults.Fault.{Fault}
+use Rattle.gz_text.specs.declared.faults.Fault.TheVariants as faults
+use Rattle.gz_text.specs.Faults.{told_number}
+use Rattle.gz_lines.specs.Schedule.{readings, IsFirstFault, IsFaultTold, Reads}
 use Rattle.gz_lines.proofs.CutLemmas.{length_readings}
 use Rattle.gz_cli.specs.Runs.{Files, Counts, HasBytes, LoadCause, text_status}
 

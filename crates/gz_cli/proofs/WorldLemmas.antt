@@ -21,6 +21,9 @@ use Rattle.gz_world.specs.declared.world.World.{World}
 use Rattle.gz_world.proofs.Members.{numbered_suc}
 use Rattle.gz_world.proofs.Opened.{no_traces_yet, fits_opened}
 use Rattle.gz_laws.proofs.Agreement.{agreement}
+use Rattle.gz_laws.proofs.ByPieces.{by_pieces}
+use Rattle.gz_laws.proofs.GivenBack.{given_back}
+use Rattle.gz_laws.proofs.OneRegister.{one_register}
 use Rattle.gz_laws.proofs.Legality.{legal}
 use Rattle.gz_cli.specs.Worlds.{default, AreFresh, AllTellAt, PlaysSome, IsPlayed, IsFilled, AgreesBy}
 use Rattle.gz_cli.specs.declared.status.Status.{Status}
@@ -95,11 +98,21 @@ reached-by told sites lines w p = (p.traces, (p.fits, reached_played told sites 
 pub legal-by : {S : Type 0} (told : S → Option Told) (sites : List S) (lines : List Line) (w : World S) → IsPlayed told sites (PlaysSome lines) w → AllTellAt told sites → IsLegal w.calls.items
 legal-by told sites lines w p tell = legal (state_of told p.traces w) (reached_played told sites lines w p) (tells_played told sites lines w p tell)
 
--- there is agreement in it
+-- there is agreement in it, its gets give what was put, and the calls of each object are those of one register
 pub agrees-by : {S : Type 0} (told : S → Option Told) (sites : List S) (lines : List Line) (w : World S) → IsPlayed told sites (PlaysSome lines) w → AllTellAt told sites → AgreesBy told w
 agrees-by told sites lines w p tell =
-    let reached = reached_played told sites lines w p in
-    (p.traces, (p.fits, (reached, λ key. agreement key (state_of told p.traces w) reached (tells_played told sites lines w p tell))))
+    let s = state_of told p.traces w in
+    let reached : IsReached s = reached_played told sites lines w p in
+    let tells : AllTell s = tells_played told sites lines w p tell in
+    record {
+      traces = p.traces;
+      fits = p.fits;
+      reached = reached;
+      agreed = λ key. agreement key s reached tells;
+      given = given_back s reached tells;
+      pieces = by_pieces s reached tells;
+      register = λ key. one_register key s reached tells;
+    }
 
 -- lines that were played to their end, and lines that were played in part
 pub some-whole : {S : Type 0} (told : S → Option Told) (lines : List Line) (old new : World S) → ChangesBy told (Plays lines) old new → ChangesBy told (PlaysSome lines) old new

@@ -11,8 +11,8 @@ use Rattle.gz_site.specs.declared.sinks.SinkError.{SinkError}
 use Rattle.gz_site.specs.declared.sinks.SinkError.TheVariants.{Failed as SinkFailed, NoMemory as NoSinkMemory}
 use Rattle.gz_script.specs.Plays.{Plays, PlaysInPart}
 use Rattle.gz_lines.specs.Schedule.{readings, line_of, AreFaultless, IsFirstFault}
-use Rattle.gz_lines.specs.declared.faults.Fault.{Fault}
-use Rattle.gz_lines.specs.declared.faults.Fault.TheVariants as faults
+use Rattle.gz_text.specs.declared.faults.Fault.{Fault}
+use Rattle.gz_text.specs.declared.faults.Fault.TheVariants as faults
 use Rattle.gz_lines.specs.declared.line.Line.{Line}
 use Rattle.gz_world.specs.States.{State}
 use Rattle.gz_world.specs.declared.events.ApplyError.TheVariants as applying

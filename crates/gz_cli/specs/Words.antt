@@ -3,7 +3,7 @@ use Rattle.std.specs.Prelude.{ℕ, ◌≡◌, ◌+◌, ◌%◌, ◌≤◌, ◌==
 use Rattle.std.specs.Char.{is_ascii_hexdigit}
 use Rattle.std.specs.Cmp.Lexicographic.{pointwise}
 use Rattle.std.specs.List.{list_all}
-use Rattle.gz_lines.specs.Fields.{number_field}
+use Rattle.gz_text.specs.Fields.{number_field}
 use Rattle.gz_cli.specs.declared.words.Command.{Command}
 use Rattle.gz_cli.specs.declared.words.Command.TheVariants.{Replay, Code}
 

@@ -9,6 +9,9 @@ use Rattle.gz_history.specs.Log.{log_of}
 use Rattle.gz_script.specs.Plays.{Plays, PlaysInPart}
 use Rattle.gz_lines.specs.declared.line.Line.{Line}
 use Rattle.gz_laws.specs.Agreed.{AreAgreed}
+use Rattle.gz_laws.specs.Given.{AreGivenBack}
+use Rattle.gz_laws.specs.Pieces.{AreByPieces}
+use Rattle.gz_laws.specs.Serial.{IsOneRegister}
 use Rattle.gz_world.specs.Bridge.{state_of}
 use Rattle.gz_world.specs.Counting.{IsFull}
 use Rattle.gz_world.specs.Fits.{Fits}
@@ -73,6 +76,14 @@ pub record IsFilled {S : Type 0} (events held : ℕ) (w : World S) : Type 0 wher
   pub events_are : events ≡ length w.journal.items
   pub held_is : held ≡ w.held
 
--- there is agreement on each object, by traces that the sessions' clients stand for and that the events of the run told
-abbrev pub AgreesBy : {S : Type 0} → (S → Option Told) → World S → Type 0
-AgreesBy told w = (traces : ℕ → List Trace) × (Fits traces w × (IsReached (state_of told traces w) × ((key : List ℕ) → AreAgreed key (state_of told traces w))))
+-- by traces that the sessions' clients stand for and that the events of the run told: there is agreement on each object, a get's bytes
+-- are those that its version's put was given, a get that learnt a put's value answers by the pieces of that value, and the calls of each
+-- object are those of one register
+pub record AgreesBy {S : Type 0} (told : S → Option Told) (w : World S) : Type 0 where
+  pub traces : ℕ → List Trace
+  pub fits : Fits traces w
+  pub reached : IsReached (state_of told traces w)
+  pub agreed : (key : List ℕ) → AreAgreed key (state_of told traces w)
+  pub given : AreGivenBack (state_of told traces w)
+  pub pieces : AreByPieces (state_of told traces w)
+  pub register : (key : List ℕ) → IsOneRegister key (state_of told traces w)

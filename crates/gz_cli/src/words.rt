@@ -5,7 +5,7 @@ ghost use Rattle.std.specs.List.{list_all};
 ghost use Rattle.gz_cli.specs.Words.{task_in, task_of, replay_in, code_in, is_replay, is_code, is_option, is_shape, is_hex, IsWellFormed};
 
 use gz_core::Word;
-use gz_script::fields::number;
+use gz_text::fields::number;
 
 /// What the words ask for.
 #[derive(Drop)]

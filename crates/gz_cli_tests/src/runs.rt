@@ -14,7 +14,7 @@ use std::test::Fail;
 const PUT_GET: &str = "session\nput 1 a x:0102\nsettle 1\nget 1 a\nsettle 1\n";
 
 const PUT_GET_LOG: &str =
-    "1.1 put a 0102 2 14 ok 1\n1.2 get a - 15 21 bytes 1 1.1 0102\nend 2 21 0\n";
+    "1.1 put a 0102 2 20 ok 1\n1.2 get a - 21 31 bytes 1 1.1 0102\nend 2 31 0\n";
 
 /// The words of a run, the text of its one file `s`, the calls of the shelf and of the sink that fail (counted from 1, 0 for none), and the
 /// number and the text of its status and what it writes.
@@ -117,7 +117,7 @@ static SCHEDULES: [(&str, u8, &str, &str); 21] = [
         "session\nsession\nput 2 b x:\nsettle 2\nput 1 b x:Ff\n\nsettle 1\nget 2 b\nsettle 2\n",
         0,
         "done",
-        "2.1 put b - 3 15 ok 1\n1.1 put b ff 16 28 ok 2\n2.2 get b - 29 35 bytes 2 1.1 ff\nend 3 35 0\n",
+        "2.1 put b - 3 21 ok 1\n1.1 put b ff 22 40 ok 2\n2.2 get b - 41 51 bytes 2 1.1 ff\nend 3 51 0\n",
     ),
     (
         "session\nput 1 a x:01\n",
@@ -132,10 +132,10 @@ static SCHEDULES: [(&str, u8, &str, &str); 21] = [
         "end 0 4 2\n",
     ),
     (
-        "session\nput 1 a x:0102\ntake 1\ntake 2\ndeliver 4\ndeliver 4\nreply 4 2\nsettle 1\n",
+        "session\nput 1 a x:0102\ntake 1\ntake 2\ndeliver 7\ndeliver 7\nreply 7 2\nsettle 1\n",
         0,
         "done",
-        "1.1 put a 0102 2 17 ok 1\nend 1 17 0\n",
+        "1.1 put a 0102 2 23 ok 1\nend 1 23 0\n",
     ),
     (
         "session\nput 1 a x:0102\nsettle 1 without 1,2\n",
@@ -144,7 +144,7 @@ static SCHEDULES: [(&str, u8, &str, &str); 21] = [
         "1.1 put a 0102 2 6 noquorum look 1\nend 1 6 0\n",
     ),
     (
-        "session\nput 1 a x:0102\ntake 1\ntake 2\ndeliver 4\ndeliver 5\ngiveup 4\ngiveup 5\n",
+        "session\nput 1 a x:0102\ntake 1\ntake 2\ndeliver 7\ndeliver 8\ngiveup 7\ngiveup 8\n",
         0,
         "done",
         "1.1 put a 0102 2 10 unsure noquorum fast 0\nend 1 10 0\n",
@@ -153,43 +153,43 @@ static SCHEDULES: [(&str, u8, &str, &str); 21] = [
         "session\nput 1 a x:0102\nsettle 1 without 2\n",
         0,
         "done",
-        "1.1 put a 0102 2 19 ok 1\nend 1 19 0\n",
+        "1.1 put a 0102 2 24 ok 1\nend 1 24 0\n",
     ),
     (
-        "session\nput 1 a x:0102\ntake 1\ntake 2\ntake 3\ndeliver 4\ncrash 1\nsession\nget 2 a\nsettle 2\n",
+        "session\nput 1 a x:0102\ntake 1\ntake 2\ntake 3\ndeliver 4\ndeliver 5\ndeliver 7\ncrash 1\nsession\nget 2 a\nsettle 2\n",
         0,
         "done",
-        "1.1 put a 0102 2 - open\n2.1 get a - 12 28 bytes 1 1.1 0102\nend 2 28 0\n",
+        "1.1 put a 0102 2 - open\n2.1 get a - 14 34 bytes 1 1.1 0102\nend 2 34 0\n",
     ),
     (
         "session\nput 1 a x:01\nsettle 1\ndelete 1 a\nsettle 1\nget 1 a\nsettle 1\n",
         0,
         "done",
-        "1.1 put a 01 2 14 ok 1\n1.2 delete a - 15 27 ok 2\n1.3 get a - 28 34 gone 2 1.2\nend 3 34 0\n",
+        "1.1 put a 01 2 20 ok 1\n1.2 delete a - 21 33 ok 2\n1.3 get a - 34 40 gone 2 1.2\nend 3 40 0\n",
     ),
     (
-        "put 2 a x:01\nsession\nput 1 a x:02\nput 1 b x:03\ndrain 1\nreply 1 0\nreply 1 1\nreply 1 1\ndeliver 0\ngiveup 4\n",
+        "put 2 a x:01\nsession\nput 1 a x:02\nput 1 b x:03\ndrain 1\nreply 1 0\nreply 1 1\nreply 1 1\ndeliver 0\ngiveup 7\n",
         0,
         "done",
-        "1.1 put a 02 3 - open\nend 1 12 6\n",
+        "1.1 put a 02 3 - open\nend 1 15 6\n",
     ),
     (
-        "session\nsession\nput 1 a x:01\nput 2 a x:02\ntake 1\ntake 2\ntake 3\ntake 4\ntake 5\ntake 6\ndeliver 7\ndeliver 11\ndeliver 9\nsettle 1\nsettle 2\nget 1 a\nsettle 1\n",
+        "session\nsession\nput 1 a x:01\nput 2 a x:02\ntake 1\ntake 2\ntake 3\ntake 7\ntake 8\ntake 9\ndeliver 13\ndeliver 17\ndeliver 15\nsettle 1\nsettle 2\nget 1 a\nsettle 1\n",
         0,
         "done",
-        "1.1 put a 01 3 35 ok 1\n2.1 put a 02 4 62 ok 2\n1.2 get a - 63 69 bytes 2 2.1 02\nend 3 69 0\n",
+        "1.1 put a 01 3 41 ok 1\n2.1 put a 02 4 74 ok 2\n1.2 get a - 75 85 bytes 2 2.1 02\nend 3 85 0\n",
     ),
     (
-        "session\nput 1 a x:01\nsettle 1\nput 1 a x:02\ntake 10\ntake 11\ntake 12\ncrash 1\nsession\nget 2 a\nsettle 2\ndeliver 13\nget 2 a\nsettle 2\n",
+        "session\nput 1 a x:01\nsettle 1\nput 1 a x:02\ntake 13\ntake 14\ntake 15\ncrash 1\nsession\nget 2 a\nsettle 2\ndeliver 16\ndeliver 17\ndeliver 19\nget 2 a\nsettle 2\n",
         0,
         "done",
-        "1.1 put a 01 2 14 ok 1\n1.2 put a 02 15 - open\n2.1 get a - 24 30 bytes 1 1.1 01\n2.2 get a - 32 48 bytes 2 1.2 02\nend 4 48 0\n",
+        "1.1 put a 01 2 20 ok 1\n1.2 put a 02 21 - open\n2.1 get a - 30 40 bytes 1 1.1 01\n2.2 get a - 44 64 bytes 2 1.2 02\nend 4 64 0\n",
     ),
     (
-        "session\nput 1 a x:0102\ntake 1\ntake 2\ntake 3\ndeliver 4\ncrash 1\nsession\nget 2 a\nsettle 2\nget 2 a\nsettle 2\n",
+        "session\nput 1 a x:0102\ntake 1\ntake 2\ntake 3\ndeliver 4\ndeliver 5\ndeliver 7\ncrash 1\nsession\nget 2 a\nsettle 2\nget 2 a\nsettle 2\n",
         0,
         "done",
-        "1.1 put a 0102 2 - open\n2.1 get a - 12 28 bytes 1 1.1 0102\n2.2 get a - 29 33 bytes 1 1.1 0102\nend 3 33 0\n",
+        "1.1 put a 0102 2 - open\n2.1 get a - 14 34 bytes 1 1.1 0102\n2.2 get a - 35 43 bytes 1 1.1 0102\nend 3 43 0\n",
     ),
     ("session\ngetat 1 a 1\n", 7, "line 2: unbuilt", ""),
     ("session\npat 1 a\n", 7, "line 2: word", ""),
@@ -363,8 +363,8 @@ static FILLINGS: [(u32, u32, u8, &str, &str); 3] = [
         "done",
         "1.1 put a 01 2 - open\nend 1 4000000 3999996\n",
     ),
-    (61, 2_301, 9, "full after 4000000 events, 257 bytes", ""),
-    (62, 0, 9, "full after 4000000 events, 257 bytes", ""),
+    (61, 2_301, 9, "full after 4000000 events, 515 bytes", ""),
+    (62, 0, 9, "full after 4000000 events, 515 bytes", ""),
 ];
 
 #[test]
