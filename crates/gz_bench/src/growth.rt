@@ -46,20 +46,30 @@ fn play_once(rt: &HostRuntime, lines: &[Line]) -> Result<Played>
     requires { All IsBoundedLine lines.now }
 {
     let mut world = open(rt.alloc())?;
-    let start = Instant::now(rt)?;
-    if play(lines, &mut world).is_err() {
-        bail!("the schedule is too long");
-    }
+    let nanoseconds = time_of_play(rt, lines, &mut world)?;
     Ok(Played {
-        nanoseconds: start.elapsed(rt)?.as_nanos(),
+        nanoseconds,
         events: world.journal.len(),
     })
 }
 
-/// Three empty sites.
-fn sites(alloc: Global) -> Result<Vec<MemSite>, AllocError> {
+/// Plays lines, and tells the time in nanoseconds that it took.
+pub fn time_of_play(rt: &HostRuntime, lines: &[Line], world: &mut World<MemSite>) -> Result<u128>
+    requires bounded { All IsBoundedLine lines.now }
+    requires fitting { IsFitting world.old }
+    ensures { IfOk result (λ _. IsFitting world.new) }
+{
+    let start = Instant::now(rt)?;
+    if play(lines, world).is_err() {
+        bail!("the schedule is too long");
+    }
+    Ok(start.elapsed(rt)?.as_nanos())
+}
+
+/// So many empty sites.
+fn sites(alloc: Global, n: u16) -> Result<Vec<MemSite>, AllocError> {
     let mut sites = Vec::new(alloc);
-    for _ in 0..3 {
+    for _ in 0..n {
         sites.push(MemSite::new(alloc, Vec::new(alloc)))?;
     }
     Ok(sites)
@@ -69,9 +79,15 @@ fn sites(alloc: Global) -> Result<Vec<MemSite>, AllocError> {
 fn open(alloc: Global) -> Result<World<MemSite>>
     ensures { IfOk result (λ world. IsFitting world) }
 {
-    let config = Config::DEFAULT;
+    open_with(alloc, Config::DEFAULT)
+}
+
+/// A world over the empty sites of a configuration.
+pub fn open_with(alloc: Global, config: Config) -> Result<World<MemSite>>
+    ensures { IfOk result (λ world. IsFitting world) }
+{
     ensure!(config.check().is_ok(), "no configuration");
-    match World::open(alloc, config, sites(alloc)?) {
+    match World::open(alloc, config, sites(alloc, config.n)?) {
         Ok(world) => Ok(world),
         Err(_) => bail!("too few sites"),
     }
@@ -126,7 +142,7 @@ fn get_of(alloc: Global, object: u32) -> Result<Call>
 }
 
 /// The line that begins a call.
-fn begin(call: Call) -> Line
+pub fn begin(call: Call) -> Line
     requires { IsWithin call }
     ensures { IsBoundedLine result }
 {
@@ -136,7 +152,7 @@ fn begin(call: Call) -> Line
     }
 }
 
-fn settle(alloc: Global) -> Line
+pub fn settle(alloc: Global) -> Line
     ensures { IsBoundedLine result }
 {
     Line::Settle {

@@ -3,6 +3,7 @@
 #![tactic(auto)]
 
 mod growth;
+mod paths;
 mod work;
 
 ghost use Rattle.std.specs.Prelude.{◌+◌, ◌≤◌};
@@ -10,6 +11,7 @@ ghost use Rattle.std.specs.Prelude.{◌+◌, ◌≤◌};
 use anyhow::{Result, bail, ensure};
 use growth::{Load, play_calls};
 use gz_code::{join, split, split_plainly};
+use paths::{Timed, config_of, time_paths};
 use std::alloc::Global;
 use std::env;
 use std::time::Instant;
@@ -134,13 +136,36 @@ fn show_growth(rt: &HostRuntime, load: Load, calls: &str, rounds: &str) -> Resul
     Ok(())
 }
 
+fn show_parts(rt: &HostRuntime, timed: Timed) -> Result<()> {
+    let Timed {
+        call,
+        digests,
+        coding,
+        copies,
+    } = timed;
+    println!(rt; "{call} {digests} {coding} {copies}")?;
+    Ok(())
+}
+
+/// Prints the best times of a put and of a get: of the call, its digests, its coding and its copies.
+fn show_paths(rt: &HostRuntime, k: &str, m: &str, len: &str, rounds: &str) -> Result<()> {
+    let config = config_of(k.parse()?, m.parse()?)?;
+    let object = object_of(rt.alloc(), 1, len.parse()?)?;
+    let (put, get) = time_paths(rt, config, &object, rounds.parse()?)?;
+    show_parts(rt, put)?;
+    show_parts(rt, get)
+}
+
 fn run(rt: &HostRuntime, words: &[String]) -> Result<()> {
     match words {
         [_] => show_sums(rt),
         [_, task, calls, rounds] => show_growth(rt, load_of(task)?, calls, rounds),
+        [_, task, k, m, len, rounds] if task.as_str() == "paths" => show_paths(
+            rt, k, m, len, rounds,
+        ),
         [_, task, k, m, len, rounds] => show_time(rt, task, &Job::parse(k, m, rounds)?, len),
         _ => bail!(
-            "usage: gz_bench [TASK K M LENGTH ROUNDS | growth CALLS ROUNDS | rewrites PUTS ROUNDS]"
+            "usage: gz_bench [TASK K M LENGTH ROUNDS | paths K M LENGTH ROUNDS | growth CALLS ROUNDS | rewrites PUTS ROUNDS]"
         ),
     }
 }
