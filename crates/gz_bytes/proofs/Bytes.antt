@@ -1,11 +1,13 @@
 -- What a reader takes from the front of some bytes.
-use Rattle.std.proofs.Common.{◌≡◌, ℕ, suc, ◌+◌, ◌<◌, ◌≤◌, ltb, List, [], ◌∷◌, ◌++◌, length, get_or, take, drop, Ok, refl, sym, ap, subst, ◌∙◌, append_assoc, arith, false, inl, inr}
+use Rattle.std.proofs.Common.{◌≡◌, ℕ, suc, ◌+◌, ◌<◌, ◌≤◌, ltb, List, [], ◌∷◌, ◌++◌, length, get_or, take, drop, Ok, refl, sym, ap, subst, ◌∙◌, append_assoc, arith, rules, true, false, cond, Err, inl, inr}
+use Rattle.std.specs.Prelude.{nat_eq}
+use Rattle.std.specs.Cmp.Lexicographic.{pointwise, same_text}
 use Rattle.std.proofs.lemmas.Bool.{cases_lt, ltb-false, le-ltb}
 use Rattle.std.proofs.lemmas.List.{take_at, drop_at, take-append-drop, length-append, length-take, get_or-drop, get_or-take, get_or_past}
 use Rattle.gz_bytes.specs.declared.faults.Fault.{Fault}
 use Rattle.gz_bytes.specs.declared.faults.Fault.TheVariants.{Short}
-use Rattle.gz_bytes.specs.Fields.{bytes_at, byte_at}
-use Rattle.gz_bytes.proofs.Steps.{not_refused, ok_is}
+use Rattle.gz_bytes.specs.Fields.{bytes_at, byte_at, after_magic}
+use Rattle.gz_bytes.proofs.Steps.{told_ok, told_again, not_refused, admitted, ok_is}
 
 abbrev pub IsBytes : List ℕ → Type 0
 IsBytes bytes = (i : ℕ) → get_or bytes i 0 < 256
@@ -51,3 +53,21 @@ pub byte_takes : (at : ℕ) (bytes : List ℕ) (x : ℕ × List ℕ) → IsBytes
 byte_takes at [] x fits e = absurd cc
 byte_takes at (b ∷ rest) x fits e =
     subst (λ (y : ℕ × List ℕ). Takes (b ∷ rest) (y.0 ∷ []) y.1 × (y.0 < 256)) (ok_is {E = Fault} (b, rest) x e) (record { parts = refl; rest_fits = λ i. fits (suc i) }, fits 0)
+
+-- ---- what each record of a format begins with
+
+same_test : (xs : List ℕ) → pointwise nat_eq xs xs ≡ true
+same_test xs = let same : xs ≡ xs = refl in search (rules, same)
+
+pub magic_takes : {E : Type 0} (words : Fault → E) (magic : List ℕ) (wrong : E) (bytes rest : List ℕ) → IsBytes bytes → after_magic words magic wrong bytes ≡ Ok rest → Takes bytes magic rest
+magic_takes words magic wrong bytes rest fits e =
+    let front = told_ok words (bytes_at (length magic) 0 bytes) _ rest e in
+    let took = bytes_takes (length magic) 0 bytes front.0 fits front.1 in
+    let good = admitted (pointwise nat_eq front.0.0 magic) wrong front.0.1 rest front.2 in
+    let same : front.0.0 ≡ magic = same_text front.0.0 magic (sym good.0) in
+    subst (λ (r : List ℕ). Takes bytes magic r) good.1 (subst (λ (t : List ℕ). Takes bytes t front.0.1) same took.0)
+
+pub magic_again : {E : Type 0} (words : Fault → E) (magic : List ℕ) (wrong : E) (rest : List ℕ) → after_magic words magic wrong (magic ++ rest) ≡ Ok rest
+magic_again words magic wrong rest =
+    told_again words (bytes_at (length magic) 0 (magic ++ rest)) (magic, rest) (λ front. cond (pointwise nat_eq front.0 magic) (Ok front.1) (Err wrong)) (Ok rest)
+    (bytes_again magic rest (length magic) 0 refl) (rw (same_test magic) refl)

@@ -1,10 +1,11 @@
 -- Reading a field that begins at a place: its value and the bytes after it, or what is wrong and the place.
-use Rattle.std.specs.Prelude.{ℕ, ◌+◌, ◌||◌, ◌==◌, List, [], ◌∷◌, take, drop, length, Result, Ok, Err, nat_lt, if◌then◌else◌}
+use Rattle.std.specs.Prelude.{ℕ, ◌+◌, ◌||◌, ◌==◌, List, [], ◌∷◌, take, drop, length, Result, Ok, Err, nat_eq, nat_lt, if◌then◌else◌}
+use Rattle.std.specs.Cmp.Lexicographic.{pointwise}
 use Rattle.std.specs.Int.{Width, w32, byte_len, from_be_bytes}
 use Rattle.gz_core.specs.Names.{Name}
 use Rattle.gz_bytes.specs.declared.faults.Fault.{Fault}
 use Rattle.gz_bytes.specs.declared.faults.Fault.TheVariants.{Short, Wrong}
-use Rattle.gz_bytes.specs.Steps.{◌>>=◌}
+use Rattle.gz_bytes.specs.Steps.{◌>>=◌, told}
 
 -- ---- bytes and numbers
 
@@ -17,6 +18,12 @@ byte_at at (b ∷ rest) = Ok (b, rest)
 
 abbrev pub number_at : Width → ℕ → List ℕ → Result (ℕ × List ℕ) Fault
 number_at w at bytes = if nat_lt (length bytes) (byte_len w) then Err (Short at) else Ok (from_be_bytes w (take (byte_len w) bytes), drop (byte_len w) bytes)
+
+-- the bytes after those that each record of a format begins with: `wrong` where others stand there
+abbrev pub after_magic : {E : Type 0} → (Fault → E) → List ℕ → E → List ℕ → Result (List ℕ) E
+after_magic words magic wrong bytes = do
+  front ← told words (bytes_at (length magic) 0 bytes)
+  if pointwise nat_eq front.0 magic then Ok front.1 else Err wrong
 
 -- ---- what is said of a put
 

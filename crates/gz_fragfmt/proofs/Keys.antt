@@ -1,34 +1,18 @@
 -- Keys: no byte is bad exactly where each may stand in a key.
-use Rattle.std.proofs.Common.{◌≡◌, ℕ, ◌≤◌, Bool, true, false, cond, eqb, ltb, List, [], ◌∷◌, ◌++◌, length, get_or, Option, Some, None, Ok, Err, refl, sym, ap, subst, arith, inl, inr}
-use Rattle.std.specs.Prelude.{not, nat_eq}
+use Rattle.std.proofs.Common.{◌≡◌, ℕ, ◌≤◌, Bool, true, false, cond, eqb, ltb, List, [], ◌∷◌, ◌++◌, length, get_or, Option, Some, None, Ok, refl, sym, ap, subst, arith, inl, inr}
+use Rattle.std.specs.Prelude.{not}
 use Rattle.std.specs.List.{All, position_or_len}
-use Rattle.std.specs.Cmp.Lexicographic.{pointwise, same_text}
 use Rattle.std.proofs.lemmas.Bool.{cases_lt, ltb-false, le-ltb, le-leb, eqb-false}
 use Rattle.std.proofs.lemmas.Bool.Decides.{leb_tells}
 use Rattle.std.proofs.lemmas.List.Sums.{fails_before_first, passes_at_first}
 use Rattle.gz_core.specs.Keys.{IsKeyByte, IsKey}
 use Rattle.gz_bytes.specs.Fields.{bytes_at, byte_at}
-use Rattle.gz_bytes.proofs.Steps.{told_ok, told_again, ok_is, not_refused, admitted, not_zero}
+use Rattle.gz_bytes.proofs.Steps.{told_ok, told_again, ok_is, not_refused, not_zero}
 use Rattle.gz_bytes.proofs.Bytes.{IsBytes, Takes, Takes-then, bytes_takes, bytes_again, byte_takes}
 use Rattle.gz_fragfmt.specs.declared.errors.FragError.{FragError}
-use Rattle.gz_fragfmt.specs.declared.errors.FragError.TheVariants.{Magic, Field}
-use Rattle.gz_fragfmt.specs.Spelling.{magic, string}
-use Rattle.gz_fragfmt.specs.Reading.{fault_of, magic_at, is_key_byte, bad_place, good_key, key_bytes_at, key_at}
-
--- ---- the magic
-
-pub magic_takes : (bytes rest : List ℕ) → IsBytes bytes → magic_at bytes ≡ Ok rest → Takes bytes magic rest
-unfolding magic_at
-magic_takes bytes rest fits e =
-    let front = told_ok fault_of (bytes_at 4 0 bytes) _ rest e in
-    let took = bytes_takes 4 0 bytes front.0 fits front.1 in
-    let good = admitted (pointwise nat_eq front.0.0 magic) (Magic 0) front.0.1 rest front.2 in
-    let same : front.0.0 ≡ magic = same_text front.0.0 magic (sym good.0) in
-    subst (λ (r : List ℕ). Takes bytes magic r) good.1 (subst (λ (t : List ℕ). Takes bytes t front.0.1) same took.0)
-
-pub magic_again : (rest : List ℕ) → magic_at (magic ++ rest) ≡ Ok rest
-unfolding magic_at
-magic_again rest = told_again fault_of (bytes_at 4 0 (magic ++ rest)) (magic, rest) (λ front. cond (pointwise nat_eq front.0 magic) (Ok front.1) (Err (Magic 0))) (Ok rest) (bytes_again magic rest 4 0 refl) refl
+use Rattle.gz_fragfmt.specs.declared.errors.FragError.TheVariants.{Field}
+use Rattle.gz_fragfmt.specs.Spelling.{string}
+use Rattle.gz_fragfmt.specs.Reading.{fault_of, is_key_byte, bad_place, good_key, key_bytes_at, key_at}
 
 -- ---- the bytes of a key
 

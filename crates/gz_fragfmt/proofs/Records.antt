@@ -7,14 +7,15 @@ use Rattle.gz_core.specs.Keys.{IsKey}
 use Rattle.gz_bytes.specs.Fields.{byte_at, name_at, data_at, length_at}
 use Rattle.gz_bytes.specs.Spelling.{name_bytes, IsName}
 use Rattle.gz_bytes.proofs.Steps.{bind_ok, bind_again, told_ok, told_again, ok_is}
-use Rattle.gz_bytes.proofs.Bytes.{IsBytes, byte_takes}
+use Rattle.gz_bytes.proofs.Bytes.{IsBytes, byte_takes, magic_takes, magic_again}
 use Rattle.gz_bytes.proofs.PutFields.{name_takes, name_again, data_takes, data_again, length_takes, length_again}
 use Rattle.gz_fragfmt.specs.declared.errors.FragError.{FragError}
+use Rattle.gz_fragfmt.specs.declared.errors.FragError.TheVariants.{Magic}
 use Rattle.gz_fragfmt.specs.declared.fragments.Parts.{Parts}
 use Rattle.gz_fragfmt.specs.Fragments.{FragmentAt, IsFragmentPiece, IsFragment, parts_at}
 use Rattle.gz_fragfmt.specs.Spelling.{magic, string, shape_bytes, spelling}
 use Rattle.gz_fragfmt.specs.Reading.{Gives, fault_of, magic_at, key_at, m_at, piece_at, rest_at, fragment_in}
-use Rattle.gz_fragfmt.proofs.Keys.{magic_takes, magic_again, key_takes, key_again}
+use Rattle.gz_fragfmt.proofs.Keys.{key_takes, key_again}
 use Rattle.gz_fragfmt.proofs.Fields.{m_takes, m_again, piece_takes, piece_again}
 
 -- what stands after the key
@@ -70,11 +71,11 @@ spelling_parts : (f : FragmentAt) → spelling f ≡ magic ++ (string f.key ++ a
 spelling_parts f = ap (λ (t : List ℕ). magic ++ (list_length f.key ∷ t)) (append_assoc f.key (name_bytes f.name ++ shape_bytes f.index f.k f.m f.length) f.piece)
 
 fragment_takes : (bytes : List ℕ) (f : FragmentAt) → IsBytes bytes → fragment_in bytes ≡ Ok f → IsFragment f × (bytes ≡ spelling f)
-unfolding fragment_in
+unfolding fragment_in magic_at
 fragment_takes bytes f fits e =
     let start = bind_ok (magic_at bytes) _ f e in
     let key = bind_ok (key_at start.0) _ f start.2 in
-    let t0 = magic_takes bytes start.0 fits start.1 in
+    let t0 = magic_takes fault_of magic (Magic 0) bytes start.0 fits start.1 in
     let t1 = key_takes start.0 key.0 t0.rest_fits key.1 in
     let rest = rest_takes key.0.0 (5 + list_length key.0.0) key.0.1 f t1.0.rest_fits key.2 in
     let parts : start.0 ≡ string f.key ++ after_key f =
@@ -84,10 +85,10 @@ fragment_takes bytes f fits e =
     )
 
 pub fragment_again : (f : FragmentAt) → IsFragment f → fragment_in (spelling f) ≡ Ok f
-unfolding fragment_in
+unfolding fragment_in magic_at
 fragment_again f is =
     ap fragment_in (spelling_parts f)
-    ∙ bind_again (magic_at (magic ++ (string f.key ++ after_key f))) (string f.key ++ after_key f) _ (Ok f) (magic_again (string f.key ++ after_key f))
+    ∙ bind_again (magic_at (magic ++ (string f.key ++ after_key f))) (string f.key ++ after_key f) _ (Ok f) (magic_again fault_of magic (Magic 0) (string f.key ++ after_key f))
     (bind_again (key_at (string f.key ++ after_key f)) (f.key, after_key f) _ (Ok f) (key_again f.key (after_key f) is.is_key)
     (rest_again f (5 + list_length f.key) (record { from_one = is.from_one; session_fits = is.session_fits; counted = is.counted; seq_fits = is.seq_fits }) is.is_piece))
 

@@ -1,11 +1,10 @@
 -- Reading a fragment record from left to right, with the first fault that is met and its place.
-use Rattle.std.specs.Prelude.{ℕ, ◌≡◌, ◌+◌, ◌&&◌, ◌==◌, Bool, not, List, take, drop, length, Option, Some, None, Result, Ok, Err, position, nat_eq, nat_le, if◌then◌else◌}
-use Rattle.std.specs.Cmp.Lexicographic.{pointwise}
+use Rattle.std.specs.Prelude.{ℕ, ◌≡◌, ◌+◌, ◌&&◌, ◌==◌, Bool, not, List, length, Option, Some, None, Result, Ok, Err, position, nat_le, if◌then◌else◌}
 use Rattle.std.specs.Int.{div_ceil}
 use Rattle.gz_bytes.specs.declared.faults.Fault.{Fault}
 use Rattle.gz_bytes.specs.declared.faults.Fault.TheVariants as faults
-use Rattle.gz_bytes.specs.Steps.{◌>>=◌, told}
-use Rattle.gz_bytes.specs.Fields.{bytes_at, byte_at, name_at, length_at, data_at, parity_at}
+use Rattle.gz_bytes.specs.Steps.{◌>>=◌, told, Gives as GivesIn}
+use Rattle.gz_bytes.specs.Fields.{bytes_at, byte_at, after_magic, name_at, length_at, data_at, parity_at}
 use Rattle.gz_fragfmt.specs.Fragments.{FragmentAt}
 use Rattle.gz_fragfmt.specs.Spelling.{magic}
 use Rattle.gz_fragfmt.specs.declared.errors.FragError.{FragError}
@@ -13,8 +12,7 @@ use Rattle.gz_fragfmt.specs.declared.errors.FragError.TheVariants.{Magic, Short,
 
 -- what a function returned, seen by view, is what reading gives
 abbrev pub Gives : {X Y : Type 0} → (X → Y) → Result X FragError → Result Y FragError → Type 0
-Gives view (Ok x) read = read ≡ Ok (view x)
-Gives view (Err e) read = read ≡ Err e
+Gives view returned read = GivesIn view returned read
 
 -- the same, but that memory may run out
 abbrev pub MayGive : {Y : Type 0} → Result Y FragError → Result Y FragError → Type 0
@@ -33,9 +31,7 @@ field read = told fault_of read
 
 -- the bytes after the magic
 unfoldable pub magic_at : List ℕ → Result (List ℕ) FragError
-magic_at bytes = do
-  front ← field (bytes_at 4 0 bytes)
-  if pointwise nat_eq front.0 magic then Ok front.1 else Err (Magic 0)
+magic_at bytes = after_magic fault_of magic (Magic 0) bytes
 
 -- whether a byte may stand in a key
 abbrev pub is_key_byte : ℕ → Bool

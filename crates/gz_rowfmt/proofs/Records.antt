@@ -1,17 +1,16 @@
 -- A record that is read is the row's spelling, and a row that was spelled is read again.
 use Rattle.std.proofs.Common.{◌≡◌, ℕ, zero, suc, ◌-◌, ◌^◌, ◌<◌, Bool, true, false, cond, eqb, leb, ltb, List, [], ◌∷◌, ◌++◌, length, Result, Ok, Err, Vec, Global, refl, sym, ap, subst, ◌∙◌, arith, inl, inr}
-use Rattle.std.specs.Prelude.{◌&&◌, nat_eq, IfOk, OnOk}
+use Rattle.std.specs.Prelude.{◌&&◌, IfOk, OnOk}
 use Rattle.std.specs.List.{flat_map, AllByRecursion}
 use Rattle.std.specs.Int.{w32, w64, to_be_bytes}
-use Rattle.std.specs.Cmp.Lexicographic.{pointwise, same_text}
 use Rattle.std.proofs.Math.Dec.{eqb-suc-zero}
 use Rattle.std.proofs.lemmas.Bool.{cases_lt, leb-false, lt-leb, lt-ltb, eqb-true}
 use Rattle.std.proofs.lemmas.List.{append-nil, nil_from_length}
 use Rattle.gz_core.specs.Rows.{RowAt, Rises, AreColumns, StartsDecided}
 use Rattle.gz_core.specs.declared.rows.Column.{Column}
-use Rattle.gz_bytes.specs.Fields.{bytes_at, number_at}
+use Rattle.gz_bytes.specs.Fields.{number_at}
 use Rattle.gz_bytes.proofs.Steps.{bind_ok, bind_again, told_ok, told_again, ok_is, not_refused, admitted}
-use Rattle.gz_bytes.proofs.Bytes.{IsBytes, Takes, bytes_takes, bytes_again}
+use Rattle.gz_bytes.proofs.Bytes.{IsBytes, Takes, magic_takes, magic_again}
 use Rattle.gz_bytes.proofs.Widths.{wide32, wide64, number_takes, number_again}
 use Rattle.gz_rowfmt.specs.declared.errors.RowError.{RowError}
 use Rattle.gz_rowfmt.specs.declared.errors.RowError.TheVariants as errors
@@ -60,19 +59,6 @@ stand_after (suc floor) (c ∷ cs) above rule (inr first) all =
 
 -- ---- the head of a record
 
-magic_takes : (bytes rest : List ℕ) → IsBytes bytes → magic_at bytes ≡ Ok rest → Takes bytes magic rest
-unfolding magic_at
-magic_takes bytes rest fits e =
-    let front = told_ok fault_of (bytes_at 4 0 bytes) _ rest e in
-    let took = bytes_takes 4 0 bytes front.0 fits front.1 in
-    let good = admitted (pointwise nat_eq front.0.0 magic) (errors.Magic 0) front.0.1 rest front.2 in
-    let same : front.0.0 ≡ magic = same_text front.0.0 magic (sym good.0) in
-    subst (λ (r : List ℕ). Takes bytes magic r) good.1 (subst (λ (t : List ℕ). Takes bytes t front.0.1) same took.0)
-
-magic_again : (rest : List ℕ) → magic_at (magic ++ rest) ≡ Ok rest
-unfolding magic_at
-magic_again rest = told_again fault_of (bytes_at 4 0 (magic ++ rest)) (magic, rest) (λ front. cond (pointwise nat_eq front.0 magic) (Ok front.1) (Err (errors.Magic 0))) (Ok rest) (bytes_again magic rest 4 0 refl) refl
-
 floor_takes : (bytes : List ℕ) (x : ℕ × List ℕ) → IsBytes bytes → floor_at bytes ≡ Ok x → Takes bytes (to_be_bytes w64 x.0) x.1 × (x.0 < 2 ^ 63)
 unfolding floor_at
 floor_takes bytes x fits e =
@@ -113,7 +99,7 @@ count_again floor cs rest h start =
 -- ---- rows
 
 pub row_takes : (bytes : List ℕ) (row : RowAt) → IsBytes bytes → row_in bytes ≡ Ok row → HasRecord row × (bytes ≡ spelling row)
-unfolding row_in
+unfolding row_in magic_at
 row_takes bytes row fits e =
     let start = bind_ok (magic_at bytes) _ row e in
     let floor = bind_ok (floor_at start.0) _ row start.2 in
@@ -121,7 +107,7 @@ row_takes bytes row fits e =
     let columns = bind_ok (columns_at count.0.0 (ltb 0 floor.0.0) floor.0.0 (length bytes) count.0.1) _ row count.2 in
     let made : RowAt = record { floor = floor.0.0; columns = columns.0.0 } in
     let ends = admitted (eqb (length columns.0.1) 0) (errors.Trailing (length bytes - length columns.0.1)) made row columns.2 in
-    let t0 = magic_takes bytes start.0 fits start.1 in
+    let t0 = magic_takes fault_of magic (errors.Magic 0) bytes start.0 fits start.1 in
     let t1 = floor_takes start.0 floor.0 t0.rest_fits floor.1 in
     let t2 = count_takes floor.0.0 floor.0.1 count.0 t1.0.rest_fits count.1 in
     let t3 = columns_take count.0.0 (ltb 0 floor.0.0) floor.0.0 (length bytes) count.0.1 columns.0 t2.0.rest_fits columns.1 in
@@ -144,12 +130,12 @@ row_takes bytes row fits e =
     )
 
 pub row_again : (row : RowAt) → HasRecord row → row_in (spelling row) ≡ Ok row
-unfolding row_in
+unfolding row_in magic_at
 row_again row has =
     let held = flat_map column_bytes row.columns in
     let all = stand_after row.floor row.columns has.is_row.rises has.is_row.columns has.is_row.starts has.columns_fit in
     let size = length (spelling row) in
-    bind_again (magic_at (spelling row)) (to_be_bytes w64 row.floor ++ columns_bytes row.columns) _ (Ok row) (magic_again (to_be_bytes w64 row.floor ++ columns_bytes row.columns))
+    bind_again (magic_at (spelling row)) (to_be_bytes w64 row.floor ++ columns_bytes row.columns) _ (Ok row) (magic_again fault_of magic (errors.Magic 0) (to_be_bytes w64 row.floor ++ columns_bytes row.columns))
     (bind_again (floor_at (to_be_bytes w64 row.floor ++ columns_bytes row.columns)) (row.floor, columns_bytes row.columns) _ (Ok row) (floor_again row.floor (columns_bytes row.columns) has.floor_fits)
     (bind_again (count_at row.floor (columns_bytes row.columns)) (length row.columns, held) _ (Ok row) (count_again row.floor row.columns held has.count_fits has.is_row.starts)
     (bind_again (columns_at (length row.columns) (ltb 0 row.floor) row.floor size held) (row.columns, []) _ (Ok row)

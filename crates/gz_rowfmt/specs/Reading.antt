@@ -1,6 +1,5 @@
 -- Reading a row record from left to right, with the first fault that is met and its place.
-use Rattle.std.specs.Prelude.{ℕ, zero, suc, ◌≡◌, ◌≢◌, ◌+◌, ◌-◌, ◌^◌, ◌||◌, ◌&&◌, ◌==◌, Bool, false, not, List, [], ◌∷◌, length as list_length, Some, None, Result, Ok, Err, nat_eq, nat_lt, nat_le, if◌then◌else◌}
-use Rattle.std.specs.Cmp.Lexicographic.{pointwise}
+use Rattle.std.specs.Prelude.{ℕ, zero, suc, ◌≡◌, ◌≢◌, ◌+◌, ◌-◌, ◌^◌, ◌||◌, ◌&&◌, ◌==◌, Bool, false, not, List, [], ◌∷◌, length as list_length, Some, None, Result, Ok, Err, nat_lt, nat_le, if◌then◌else◌}
 use Rattle.std.specs.Int.{w32, w64}
 use Rattle.gz_core.specs.Names.{BallotAt, fast, is_below, same_ballot}
 use Rattle.gz_core.specs.Rows.{RowAt}
@@ -12,7 +11,7 @@ use Rattle.gz_core.specs.declared.values.Value.TheVariants.{Tomb, Put}
 use Rattle.gz_bytes.specs.declared.faults.Fault.{Fault}
 use Rattle.gz_bytes.specs.declared.faults.Fault.TheVariants as faults
 use Rattle.gz_bytes.specs.Steps.{◌>>=◌, told}
-use Rattle.gz_bytes.specs.Fields.{bytes_at, byte_at, number_at, name_at, length_at, data_at, parity_at}
+use Rattle.gz_bytes.specs.Fields.{bytes_at, byte_at, after_magic, number_at, name_at, length_at, data_at, parity_at}
 use Rattle.gz_rowfmt.specs.declared.errors.RowError.{RowError}
 use Rattle.gz_rowfmt.specs.declared.errors.RowError.TheVariants as errors
 use Rattle.gz_rowfmt.specs.Spelling.{magic}
@@ -137,9 +136,7 @@ columns_at (suc n) raised before end bytes = do
 
 -- the bytes after the magic
 unfoldable pub magic_at : List ℕ → Result (List ℕ) RowError
-magic_at bytes = do
-  front ← field (bytes_at 4 0 bytes)
-  if pointwise nat_eq front.0 magic then Ok front.1 else Err (errors.Magic 0)
+magic_at bytes = after_magic fault_of magic (errors.Magic 0) bytes
 
 unfoldable pub floor_at : List ℕ → Result (ℕ × List ℕ) RowError
 floor_at bytes = do
