@@ -1,5 +1,5 @@
 -- A client whose call has begun stands for one more trace.
-use Rattle.std.proofs.Common.{◌≡◌, ℕ, zero, suc, ◌+◌, ◌<◌, ◌≤◌, ◌^◌, Bool, true, false, cond, List, [], ◌∷◌, ◌++◌, map, length, Option, Some, None, Result, IfOk, refl, sym, ap, ◌∙◌, subst, inl, arith}
+use Rattle.std.proofs.Common.{◌≡◌, ℕ, suc, ◌+◌, ◌<◌, ◌≤◌, ◌^◌, Bool, true, false, cond, List, [], ◌∷◌, ◌++◌, map, length, Option, Some, None, Result, IfOk, refl, sym, ap, ◌∙◌, subst, inl, arith}
 use Rattle.std.specs.Prelude.{not, slice_get, ◌||◌}
 use Rattle.std.proofs.lemmas.Bool.{false≢true, cond-false}
 use Rattle.std.proofs.lemmas.Option.{same_Some, none-some, slice_get_within, get_or_from_slice_get}
@@ -61,6 +61,7 @@ use Rattle.gz_client.proofs.Holding.{idle_over}
 use Rattle.gz_client.proofs.Live.{none_counted}
 use Rattle.gz_client.proofs.Puts.{puts_rows_sent, row_not_put}
 use Rattle.gz_client.proofs.Rules.{AreRows, keeps_rows}
+use Rattle.gz_client.proofs.Sends.{reads_length}
 use Rattle.gz_client.proofs.Sent.{about_wider}
 use Rattle.gz_client.proofs.Standing.{turned_holds}
 use Rattle.gz_client.proofs.StoringFirst.{reads_are_rows}
@@ -340,10 +341,6 @@ first_begun c w past run x records awaited first sizes order put used made ready
     }
 
 -- ---- a put, in either order
-
-reads_length : (key : List ℕ) (s n : ℕ) → length (reads_from key s n) ≡ n
-reads_length key s zero = refl
-reads_length key s (suc n) = ap suc (reads_length key (s + 1) n)
 
 -- what goes out before its fragments is a read of each site at most
 pub reads_few : (c : Config) (w : Caller) (past : List Trace) (old new : Run) (first : ℕ) (send : List Out) (order : Order) → IsConfig c → Ready c w past old [] → ReadsFirst c old new first send order → length send ≤ 16

@@ -11,7 +11,9 @@ use Rattle.gz_core.specs.History.{Asked, Action, GaveIn, Rested, Caller, Trace, 
 use Rattle.gz_round.specs.Rounds.{rounds_used}
 use Rattle.gz_round.specs.Sending.{AreAllowed}
 use Rattle.gz_round.specs.Sites.{as_heard, written_by}
+use Rattle.gz_round.specs.Standing.{AreAskedAgain}
 use Rattle.gz_round.proofs.Bounds.{sent_below}
+use Rattle.gz_client.specs.Sends.{IsOfRow}
 use Rattle.gz_client.specs.Traces.{Holds, HoldsRun, AreBelow, AreOver, Extends, IsClosed, IsAwaited as IsAwaitedBy, told_of}
 use Rattle.gz_client.specs.Turning.{HasTurnedBy, KeepsBlobRules, StandsOrEnds, TurnsBy}
 use Rattle.gz_client.specs.declared.client.Client.{Client}
@@ -19,6 +21,7 @@ use Rattle.gz_client.specs.declared.running.Running.{Running}
 use Rattle.gz_client.proofs.Fetching.{below_after}
 use Rattle.gz_client.proofs.Listed.{awaits_listed, below_ended, below_later, below_rested}
 use Rattle.gz_client.proofs.Rules.{keeps_gave_up, keeps_handed}
+use Rattle.gz_client.proofs.Sends.{sends_nothing}
 use Rattle.gz_client.proofs.Standing.{CanHold, allowed_of, turned_holds}
 
 -- ---- what a call is told
@@ -68,9 +71,13 @@ closed_low c w past closing first outs ms closed used allowed = by closed allowe
 -- a client that sends nothing turns, where what it keeps stands or the call ends by a cause
 pub turns_quietly : (old new : Client) (first : ℕ) (answer : Option Answer) (w : Caller) (past : List Trace) (ms : List Action)
     → new.config ≡ old.config → new.session ≡ old.session → new.calls ≡ old.calls → new.round ≡ rounds_used past ms → StandsOrEnds old.config w past new.running ms answer
-    → TurnsBy old new first (record { send = []; answer = answer }) w past ms
-turns_quietly old new first answer w past ms config session calls round stands =
-    λ rules below. ([], inl (inl refl), record { config_is = config; session_is = session; calls_are = calls; round_is = round; rules = rules; stands = stands })
+    → (IsOfRow ms → AreAskedAgain old.config ms) → TurnsBy old new first (record { send = []; answer = answer }) w past ms
+turns_quietly old new first answer w past ms config session calls round stands again = λ rules below. (
+  [],
+  inl (inl refl),
+  record { config_is = config; session_is = session; calls_are = calls; round_is = round; rules = rules; stands = stands },
+  sends_nothing old.config ms first answer again,
+)
 
 stands_allowed : (c : Config) (w : Caller) (past : List Trace) (running : Option Running) (ms : List Action) (answer : Option Answer) → StandsOrEnds c w past running ms answer → AreAllowed c w past ms
 stands_allowed c w past (Some running) ms None h = allowed_of c w past running ms h
@@ -120,4 +127,5 @@ extended old new n first o turn turns = λ next t ts a h awaited l.
         round_is = k.2.round_is;
         low = omega (arith, low, k.2.round_is);
       }) k.2,
+      k.3,
     )

@@ -286,7 +286,7 @@ gathering_told client key g awaited n next first o (Goes came) change turn t ts 
     subst (λ (u : Turn). TurnsBy client (changed client change) first u t.caller ts ms) (sym goes.1)
     (subst (λ (k : Change). TurnsBy client (changed client k) first (record { send = []; answer = None }) t.caller ts ms) (sym goes.0)
     (turns_quietly client (changed client (Keeps n came)) first None t.caller ts ms refl refl refl (told_round client next c.n o a t ts h)
-    (subst (λ (x : Option Running). StandsOrEnds c t.caller ts (option_map (kept_in n came) x) ms None) (sym e) more)))
+    (subst (λ (x : Option Running). StandsOrEnds c t.caller ts (option_map (kept_in n came) x) ms None) (sym e) more) (λ row. absurd (false≢true (sym (told_blob c.n o a (awaiting t.actions) r.blob) ∙ row)))))
 gathering_told client key g awaited n next first o (Ends answer) change turn t ts a e hears goes h waits =
     let c : Config = client.config in
     let ms : List Action = told_of c.n o a ∷ t.actions in
@@ -295,7 +295,7 @@ gathering_told client key g awaited n next first o (Ends answer) change turn t t
     subst (λ (u : Turn). TurnsBy client (changed client change) first u t.caller ts ms) (sym goes.1)
     (subst (λ (k : Change). TurnsBy client (changed client k) first (record { send = []; answer = Some answer }) t.caller ts ms) (sym goes.0)
     (λ rules below. turns_quietly client (changed client (Runs client.calls client.round None)) first (Some answer) t.caller ts ms refl refl refl (told_round client next c.n o a t ts h)
-    (rows.allowed, gathered_cause c t.caller ts key g answer awaited o a t.actions r.read r.blob r.stands rules (hears_of client key g awaited n (outcome_of o) (Ends answer) t ts a r hears)) rules below))
+    (rows.allowed, gathered_cause c t.caller ts key g answer awaited o a t.actions r.read r.blob r.stands rules (hears_of client key g awaited n (outcome_of o) (Ends answer) t ts a r hears)) (λ row. absurd (false≢true (sym (told_blob c.n o a (awaiting t.actions) r.blob) ∙ row))) rules below))
 
 hears_told : (client : Client) (n first : ℕ) (o : Option Reply) (heard : Heard) (change : Change) (turn : Turn) (running : Option Running) → client.running ≡ running → HearsIf running n (outcome_of o) (Some heard)
     → GoesOrEnds client n heard change turn → Extends client (changed client change) n first (told_of client.config.n o) turn

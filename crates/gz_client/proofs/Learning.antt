@@ -68,7 +68,7 @@ asking_told client run puts counts n next first o t ts a e any by h awaited =
     let stands : AsksForRows c t.caller ts run (counted n counts puts) (m ∷ t.actions) =
     subst (λ (j : ℕ). AsksForRows c t.caller ts run (counted j counts puts) (m ∷ t.actions)) awaited.number_is (tells_asking c t.caller ts run puts counts o a t.actions i count k.stands) in
     turns_quietly client (changed client (CountsAre n counts)) first None t.caller ts (m ∷ t.actions) refl refl refl (told_round client next c.n o a t ts h)
-    (subst (λ (r : Option Running). StandsOrEnds c t.caller ts (option_map (counted_in n counts) r) (m ∷ t.actions) None) (sym e) stands)
+    (subst (λ (r : Option Running). StandsOrEnds c t.caller ts (option_map (counted_in n counts) r) (m ∷ t.actions) None) (sym e) stands) (λ row. stands.runs.again)
 
 -- the counters of a running call have room
 pub counts_room : (client : Client) (running : Running) (puts : Puts) (n first : ℕ) → client.running ≡ Some running → ((w : Caller) (past : List Trace) (ms : List Action) → StandsFor client.config w past running ms → PutsStand client.config w puts ms)

@@ -16,7 +16,9 @@ pub mod LiveRequests
 mod Puts
 mod RowTold
 pub mod Rules
+mod Sends
 pub mod Sent
 mod Standing
 mod StoringFirst
+mod StoringLast
 mod Telling

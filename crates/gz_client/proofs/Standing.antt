@@ -117,6 +117,7 @@ gathers_work c w past key g awaited ms turn h =
     record {
       version = g.version;
       value = g.value;
+      rests = h.rows.rests;
       learnt = h.learnt;
       asked = λ (i : ℕ) (l : i < g.value.k + g.value.m). subst (λ k. (blob_now ms (blob_at k g.value i)).asked ≡ true) h.key_is (h.gathers.asked i l);
       few = subst (λ k. length (wholes k g.value ms) < g.value.k) h.key_is (subst (λ (ps : List Piece). length ps < g.value.k) h.gathers.pieces (few_whole g h.rules h.lacks));
@@ -126,7 +127,7 @@ gathers_work c w past key g awaited ms turn h =
 work_of : (c : Config) (w : Caller) (past : List Trace) (running : Running) (ms : List Action) → AreInTurn ms → StandsFor c w past running ms → HasWork c w past ms
 work_of c w past (Storing run puts) ms turn h = inl (record { put = h.put; order = h.order; unasked = blobs_unasked ms h.only; unsettled = h.unsettled })
 work_of c w past (Asking run puts) ms turn h = inr (inl (record { run = run; runs = h.runs; unfetched = puts_unfetched c w puts ms h.fragments; first = h.first }))
-work_of c w past (Placed version puts) ms turn h = inr (inr (inl (record { version = version; placed = h.placed; put = h.put; unsettled = h.unsettled })))
+work_of c w past (Placed version puts) ms turn h = inr (inr (inl (record { version = version; rests = h.rows.rests; placed = h.placed; put = h.put; unsettled = h.unsettled })))
 work_of c w past (Gathering key g awaited) ms turn h = inr (inr (inr (gathers_work c w past key g awaited ms turn h)))
 
 pub goes_on : (c : Config) (w : Caller) (past : List Trace) (running : Running) (ms : List Action) → AreInTurn ms → StandsFor c w past running ms → GoesOn c w past ms

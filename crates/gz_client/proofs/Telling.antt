@@ -175,6 +175,7 @@ tells_last c w past version puts counts o a ms i count h =
     let blob : is_about_rows m ≡ false = told_blob c.n o a (awaiting ms) i in
     let beside : IsBeside ms (m ∷ ms) = beside_blob m ms blob in
     record {
+      told = λ row. false≢true (sym blob ∙ row);
       rows = tells_rows c w past m ms blob h.rows;
       placed = record { chosen = chosen_beside c w ms (m ∷ ms) version beside h.placed.chosen; noticed = noticed_beside c w ms (m ∷ ms) version beside h.placed.noticed };
       put = h.put;

@@ -28,8 +28,8 @@ abbrev pub contending : List Action → Bool → Answer
 contending ms true = Unsure (UnsureContended (met ms))
 contending ms false = Contended (met ms)
 
--- a call that asked for a fragment goes on while fewer came whole than make the object and one is awaited; it ends with the bytes
--- once enough came whole, and as incomplete once none is awaited
+-- a call that asked for a fragment goes on while fewer came whole than make the object and one is awaited, and awaits no row; it
+-- ends with the bytes once enough came whole, and as incomplete once none is awaited
 abbrev pub EndsByPieces : Config → Caller → List Action → Option Answer → Type 0
 EndsByPieces c w ms None = GathersFragments c w ms
 EndsByPieces c w ms (Some (Bytes v name bytes)) = IsRead c w ms v name (GivesBytes w ms bytes)

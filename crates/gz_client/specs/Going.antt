@@ -15,6 +15,7 @@ use Rattle.gz_round.specs.Causes.{IsLearnt}
 use Rattle.gz_round.specs.Standing.{Runs, IsWaiting}
 use Rattle.gz_client.specs.Blobs.{is_put, has_asked, has_fetched, HasStoredFirst}
 use Rattle.gz_client.specs.Causes.{IsOpen, IsPlaced, IsUnsettled}
+use Rattle.gz_client.specs.Running.{IsResting}
 
 -- a put stores its fragments first: it asked no site for its row yet, and its counters don't say yet how it goes on
 pub record StoresFragments (c : Config) (w : Caller) (ms : List Action) : Type 0 where
@@ -30,18 +31,20 @@ pub record WorksOnRows (c : Config) (w : Caller) (past : List Trace) (ms : List 
   pub unfetched : has_fetched ms ≡ false
   pub first : HasStoredFirst c w ms
 
--- a put is chosen, and its counters don't say yet how it ends
+-- a put is chosen, its counters don't say yet how it ends, and it awaits no row
 pub record WaitsForFragments (c : Config) (w : Caller) (ms : List Action) : Type 0 where
   pub version : ℕ
+  pub rests : IsResting ms
   pub placed : IsPlaced c w ms version
   pub put : is_put w.call ≡ true
   pub unsettled : IsUnsettled c ms
 
 -- a call gathers the fragments of the value that it learnt: each was asked for, one is awaited, and fewer came whole than make
--- the object
+-- the object. It awaits no row.
 pub record GathersFragments (c : Config) (w : Caller) (ms : List Action) : Type 0 where
   pub version : ℕ
   pub value : PutData
+  pub rests : IsResting ms
   pub learnt : IsLearnt c w ms version (PutOf value)
   pub asked : (i : ℕ) → i < value.k + value.m → (blob_now ms (blob_at (key_of w.call) value i)).asked ≡ true
   pub few : length (wholes (key_of w.call) value ms) < value.k

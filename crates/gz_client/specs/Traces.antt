@@ -21,6 +21,7 @@ use Rattle.gz_client.specs.Causes.{HasCause}
 use Rattle.gz_client.specs.Going.{GoesOn}
 use Rattle.gz_client.specs.Openings.{IsOpening}
 use Rattle.gz_client.specs.Running.{StandsFor}
+use Rattle.gz_client.specs.Sends.{IsTurn}
 use Rattle.gz_client.specs.declared.client.Client.{Client}
 use Rattle.gz_client.specs.declared.running.Running.{Running}
 
@@ -152,11 +153,12 @@ BeginsAs old new first call own turn = (next : ℕ) (ts : List Trace) → Holds 
 abbrev pub Begins : Client → Client → ℕ → Call → Turn → Type 0
 Begins old new first call turn = (next : ℕ) (ts : List Trace) → Holds old next ts → next ≤ first → (own : Option Value) × IsBegun old new first call own turn ts
 
--- the client stands for the same traces, with one more action of the running call
+-- the client stands for the same traces, with one more action of the running call, at which it sent what it may
 abbrev pub Extends : Client → Client → ℕ → ℕ → (Asked → Action) → Turn → Type 0
 Extends old new n first action turn =
     (next : ℕ) (t : Trace) (ts : List Trace) (a : Asked) → Holds old next (t ∷ ts) → IsAwaited old.config t a n → next ≤ first →
     (closing : List Action) × IsClosed closing × Holds new (first + length turn.send) (turned first turn (action a) closing t ∷ ts)
+    × IsTurn old.config (action a ∷ t.actions) first turn closing
 
 -- what a call over n sites is told of a request: a reply, as it hears it, or none where it is given up
 abbrev pub told_of : ℕ → Option Reply → Asked → Action

@@ -33,6 +33,7 @@ use Rattle.gz_round.specs.Sites.{AreBlobs}
 use Rattle.gz_client.specs.Blobs.{is_put, has_asked, AreBlobsAllowed, AreStoredFirst, HasStoredFirst}
 use Rattle.gz_client.specs.Causes.{HasCause, IsPlaced}
 use Rattle.gz_client.specs.Running.{StandsFor, PutsStand, HasRows, SettlesBy}
+use Rattle.gz_client.specs.Sends.{IsOfRow, IsTurn}
 use Rattle.gz_client.specs.Traces.{IsClosed, AreBelow}
 use Rattle.gz_client.specs.declared.client.Client.{Client}
 use Rattle.gz_client.specs.declared.running.Puts.{Puts}
@@ -68,7 +69,7 @@ pub record HasTurnedBy (old new : Client) (w : Caller) (past : List Trace) (ms :
 abbrev pub TurnsBy : Client → Client → ℕ → Turn → Caller → List Trace → List Action → Type 0
 TurnsBy old new first turn w past ms =
     KeepsBlobRules old.config w ms → AreBelow first ms
-    → (closing : List Action) × IsClosed closing × HasTurnedBy old new w past (closing ++ sent_from first turn.send ms) turn.answer
+    → (closing : List Action) × IsClosed closing × HasTurnedBy old new w past (closing ++ sent_from first turn.send ms) turn.answer × IsTurn old.config ms first turn closing
 
 -- a put that stores its fragments first, whose counters changed
 pub record HasCountedFirst (c : Config) (w : Caller) (past : List Trace) (run : Run) (puts : Puts) (ms : List Action) : Type 0 where
@@ -80,8 +81,9 @@ pub record HasCountedFirst (c : Config) (w : Caller) (past : List Trace) (run : 
   pub only : AreBlobs ms
   pub fragments : PutsStand c w puts ms
 
--- a put that is chosen, whose counters changed
+-- a put that is chosen, whose counters changed at an event of no row request
 pub record HasCountedLast (c : Config) (w : Caller) (past : List Trace) (version : ℕ) (puts : Puts) (ms : List Action) : Type 0 where
+  pub told : IsOfRow ms → ⊥
   pub rows : HasRows c w past ms
   pub placed : IsPlaced c w ms version
   pub put : is_put w.call ≡ true
@@ -100,7 +102,8 @@ pub record HasFollowed (c : Config) (w : Caller) (past : List Trace) (run : Run)
 
 -- a client turns once its rows came to something, with which the event may have closed
 abbrev pub FollowsBy : Client → Client → ℕ → Turn → Caller → List Trace → List Action → List Action → Type 0
-FollowsBy old new first turn w past closed ms = (closing : List Action) × IsClosed closing × HasTurnedBy old new w past (closing ++ sent_from first turn.send ms) turn.answer
+FollowsBy old new first turn w past closed ms =
+    (closing : List Action) × IsClosed closing × HasTurnedBy old new w past (closing ++ sent_from first turn.send ms) turn.answer × IsTurn old.config ms first turn closing
 
 abbrev pub IsPutValue : Option Value → Type 0
 IsPutValue own = (x : PutData) × (own ≡ Some (PutOf x))

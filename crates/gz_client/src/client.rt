@@ -91,7 +91,8 @@ impl Client {
     }
 
     /// Notifies the client that request `n`, which it awaits, won't be answered. What it sends at this goes out
-    /// under the numbers from `first` on, in their order. Takes no memory where that is nothing and the call goes on.
+    /// under the numbers from `first` on, in their order. For a fragment's request this takes no memory where nothing is sent and the
+    /// call goes on; for a row's, what the call keeps is copied first.
     pub fn give_up(&mut self, alloc: Global, n: u32, first: u32) -> Result<Turn, AllocError>
         requires told { CanLearn self.old n first }
         requires first { first < 2 ^ 31 }

@@ -5,7 +5,7 @@ ghost use Rattle.gz_client.specs.Endings.{EndsExactly};
 /// for its row, and lost so many fragments that too few are left; a call was answered for want of sites exactly where too few were left
 /// and it was overtaken less often than it tries, and as contended exactly where it was overtaken as often as it
 /// tries; a call that had sent a vote for its own value is unsure in both cases. A call that asked for a fragment of the value that
-/// it learnt gathers on, or ends with that value's bytes, or as incomplete.
+/// it learnt gathers on, and awaits no row, or ends with that value's bytes, or as incomplete.
 pub fn ends_exactly()
     ensures { EndsExactly }
 {}

@@ -23,7 +23,7 @@ returns-then-has_enough-clause-ok c =
     let enough = subst (λ (p : Puts). client.config.k + client.config.f ≤ p.counts.stored) (sym c.in_ok-puts.ensures) (c.has_enough.ensures.0 c.if-has_enough.true) in
     subst (λ (t : Turn). TurnsBy client (changed client c.runs_on.result.0) c.args.first t w past ms) (sym c.runs_on.ensures.turn)
     (subst (λ (k : Change). TurnsBy client (changed client k) c.args.first (record { send = c.in_ok-send.send; answer = None }) w past ms) (sym c.runs_on.ensures.change)
-    (looks client c.args.run.now c.open.new.self c.in_ok-puts.puts c.args.first c.in_ok-send.send w past ms enough here (c.in_ok-send.ensures.runs w past ms ready h.only) (c.in_ok-send.ensures.reads w past ms ready h.only)))
+    (looks client c.args.run.now c.open.new.self c.in_ok-puts.puts c.args.first c.in_ok-send.send w past ms enough c.requires.config here (c.in_ok-send.ensures.runs w past ms ready h.only) (c.in_ok-send.ensures.reads w past ms ready h.only)))
 
 pub returns-then-has_lost_too_many-clause-ok : goal.returns-then-has_lost_too_many-clause-ok
 returns-then-has_lost_too_many-clause-ok c =

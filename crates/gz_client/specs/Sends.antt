@@ -1,0 +1,30 @@
+-- What a running call sends at an event, in what order, and what it doesn't leave out.
+use Rattle.std.specs.Prelude.{ℕ, true, false, ◌≡◌, ◌≤◌, ◌+◌, ◌⊎◌, List, [], ◌∷◌, ◌++◌}
+use Rattle.gz_config.specs.declared.Config.{Config}
+use Rattle.gz_core.specs.History.{Action, GaveIn, is_row_request, sent_from}
+use Rattle.gz_core.specs.declared.requests.Out.{Out}
+use Rattle.gz_core.specs.declared.requests.Turn.{Turn}
+use Rattle.gz_data.specs.Requests.{index_in}
+use Rattle.gz_round.specs.Sites.{is_about_rows}
+use Rattle.gz_round.specs.Standing.{AreAskedAgain}
+use Rattle.gz_round.specs.Starting.{AreRowRequests}
+
+-- requests for blobs alone, whose indices rise from one to the next, and none lies below this one
+abbrev pub AreBlobsRising : ℕ → List Out → Type 0
+AreBlobsRising i [] = Unit {0}
+AreBlobsRising i (out ∷ outs) = (is_row_request out.op ≡ false) × (i ≤ index_in out.op) × AreBlobsRising (index_in out.op + 1) outs
+
+-- the last thing that happened is a reply of a request for a row, or that one was given up
+abbrev pub IsOfRow : List Action → Type 0
+IsOfRow [] = ⊥
+IsOfRow (m ∷ ms) = is_about_rows m ≡ true
+
+-- after an event, with which these actions end, a call sends requests for rows and then for blobs. Where the event is of a row
+-- request, each site that is due to be read was asked again, or is out, also where the call ends; or all sites go out.
+pub record IsTurn (c : Config) (ms : List Action) (first : ℕ) (turn : Turn) (closing : List Action) : Type 0 where
+  pub rows : List Out
+  pub blobs : List Out
+  pub sends : turn.send ≡ rows ++ blobs
+  pub about_rows : AreRowRequests rows
+  pub about_blobs : AreBlobsRising 0 blobs
+  pub reads : IsOfRow ms → (closing ≡ GaveIn ∷ []) ⊎ AreAskedAgain c (sent_from first turn.send ms)
