@@ -13,6 +13,7 @@ use Rattle.gz_core.specs.declared.values.Value.{Value}
 use Rattle.gz_core.specs.History.{Asked, Action, Caller, Trace, begun, turned}
 use Rattle.gz_client.specs.Openings.{IsOpening}
 use Rattle.gz_client.specs.declared.client.Client.{Client}
+use Rattle.gz_client.specs.Sends.{IsTurn}
 use Rattle.gz_client.specs.Traces.{Holds, AllKeepRules, IsAwaited}
 use Rattle.gz_history.specs.declared.record.CallRec.{CallRec}
 use Rattle.gz_site.specs.Told.{Told}
@@ -204,6 +205,7 @@ told_turn told old new traces n r marked action m last c client turn effect fits
             traces = is;
             awaited = subst (λ k. IsAwaited k t a n) s.config_is f.1.1.1.1;
             closing = x.1;
+            sends = subst (λ k. IsTurn k (action a ∷ t.actions) first turn closing) s.config_is x.3;
             moves = record {
               sessions = ap length b.clients ∙ length-set old.clients.items (session - 1) after;
               crashed = λ k. ap (λ xs. crashed_in xs k) b.clients ∙ crashed_stays old.clients.items (session - 1) m after b.member refl k;

@@ -1,17 +1,17 @@
--- A reply reports a fault only where its site counted one.
+-- What a delivery leaves: a reply that reports a fault only where its site counted one, and the other sites as they were.
 use Rattle.std.proofs.Common.{◌≡◌, ℕ, ◌+◌, ◌-◌, ◌≤◌, List, [], ◌∷◌, ◌++◌, Bool, true, false, Some, None, length, map, ap, sym, ◌∙◌, subst, length-append, arith}
 use Rattle.std.specs.Prelude.{Option, is_none, if◌then◌else◌, slice_get, slice_set}
-use Rattle.std.proofs.lemmas.Option.{some_pair_parts}
+use Rattle.std.proofs.lemmas.Option.{same_Some, some_pair_parts}
 use Rattle.gz_core.specs.Causes.{Rose}
 use Rattle.gz_core.specs.declared.requests.Reply.{Reply}
 use Rattle.gz_core.specs.declared.requests.Reply.TheVariants as replies
-use Rattle.gz_site.specs.Many.{faults_at}
+use Rattle.gz_site.specs.Many.{faults_at, OthersStay}
 use Rattle.gz_site.specs.declared.sites.RowRead.{RowRead}
 use Rattle.gz_site.specs.declared.sites.RowRead.TheVariants as reads
 use Rattle.gz_site.specs.declared.sites.RowWrite.{RowWrite}
 use Rattle.gz_site.specs.declared.sites.RowWrite.TheVariants as writes
 use Rattle.gz_world.specs.States.{RequestAt, request_of, numbered, with_reply}
-use Rattle.gz_world.specs.Deliveries.{read_reply, write_reply, IsCounted, IsCountedFor, LeavesSites}
+use Rattle.gz_world.specs.Deliveries.{read_reply, write_reply, IsCounted, IsCountedFor, LeavesSites, LeavesOthers, LeavesOthersAt}
 use Rattle.gz_world.specs.Steps.{quiet}
 use Rattle.gz_world.specs.declared.events.Effect.{Effect}
 use Rattle.gz_world.specs.declared.events.Outcome.{Outcome}
@@ -96,3 +96,26 @@ counted_then faults old mid new n net sites h = λ r tick there last.
 -- a delivery that is done reaches a site
 pub delivery_reaches : (event : Event) (n : ℕ) (effect : Effect) (session : Option ℕ) → event ≡ events.Deliver n → effect ≡ quiet outcomes.Done session → LeavesSites event effect.outcome → ⊥
 delivery_reaches event n effect session e q l = subst (λ (o : Outcome). LeavesSites (events.Deliver n) o) (ap (λ (x : Effect). x.outcome) q) (subst (λ (ev : Event). LeavesSites ev effect.outcome) e l)
+
+-- ---- a delivery touches the site of its request alone
+
+pub others_of : {S : Type 0} (old new : World S) (n : ℕ) (r : RequestAt) → numbered (map request_of old.net.items) n ≡ Some r → OthersStay old.sites.items r.site new.sites.items → LeavesOthers old n new
+others_of old new n r there stay = λ q here i off.
+    stay i (λ e. off (e ∙ ap (λ (k : RequestAt). k.site) (same_Some r q (sym there ∙ here))))
+
+pub delivery_leaves : {S : Type 0} (old new : World S) (event : Event) (m : ℕ) → event ≡ events.Deliver m → LeavesOthers old m new → LeavesOthersAt old event new
+delivery_leaves old new event m is h = λ n e.
+    let both : events.Deliver m ≡ events.Deliver n = sym is ∙ e in
+    let same : m ≡ n = cc in
+    subst (λ k. LeavesOthers old k new) same h
+
+-- an event that delivers nothing
+pub other_leaves : {S : Type 0} (old new : World S) (event other : Event) → event ≡ other → is_delivery other ≡ false → LeavesOthersAt old event new
+other_leaves old new event other is none = λ n e.
+    let bad : true ≡ false = sym (ap is_delivery e) ∙ ap is_delivery is ∙ none in
+    cc
+
+-- what comes before and after, and leaves sites and requests alone
+pub leaves_between : {S : Type 0} (old start mid new : World S) (event : Event) → start.net ≡ old.net → start.sites ≡ old.sites → new.sites ≡ mid.sites → LeavesOthersAt start event mid → LeavesOthersAt old event new
+leaves_between old start mid new event net before after h = λ n e r there i off.
+    ap (λ v. slice_get v.items i) after ∙ h n e r (ap (λ v. numbered (map request_of v.items) n) net ∙ there) i off ∙ ap (λ v. slice_get v.items i) before

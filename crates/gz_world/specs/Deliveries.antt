@@ -68,6 +68,14 @@ LeavesSites (events.Reply n which) outcome = Unit {0}
 LeavesSites (events.GiveUp n) outcome = Unit {0}
 LeavesSites (events.Crash session) outcome = Unit {0}
 
+-- a delivery touches the site of its request alone
+abbrev pub LeavesOthers : {S : Type 0} → World S → ℕ → World S → Type 0
+LeavesOthers old n new = (r : RequestAt) → numbered (map request_of old.net.items) n ≡ Some r → OthersStay old.sites.items r.site new.sites.items
+
+-- the same of an event, where it is a delivery
+abbrev pub LeavesOthersAt : {S : Type 0} → World S → Event → World S → Type 0
+LeavesOthersAt old event new = (n : ℕ) → event ≡ events.Deliver n → LeavesOthers old n new
+
 -- no site's state has changed
 abbrev pub AreTheSame : {S : Type 0} → (S → Option Told) → List S → List S → Type 0
 AreTheSame told old new = (i : ℕ) → told_at told new i ≡ told_at told old i

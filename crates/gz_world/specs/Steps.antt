@@ -15,6 +15,7 @@ use Rattle.gz_round.specs.Sites.{as_heard, written_by}
 use Rattle.gz_round.specs.Starting.{IsWithin}
 use Rattle.gz_client.specs.Lowest.{IsLowestLive}
 use Rattle.gz_client.specs.Openings.{IsOpening}
+use Rattle.gz_client.specs.Sends.{IsTurn}
 use Rattle.gz_client.specs.Traces.{AllKeepRules, IsAwaited, IsClosed}
 use Rattle.gz_site.specs.Told.{Told, Tells}
 use Rattle.gz_site.specs.Steps.{ReadRowStep, WriteRowStep, PutBlobStep, DropBlobStep}
@@ -157,12 +158,13 @@ pub record TurnBy : Type 0 where
   pub turn : Turn
   pub closing : List Action
 
--- the running call of a session learns of a request of its own
+-- the running call of a session learns of a request of its own, and sends what it may at that
 pub record TakesTurn (old : State) (n : ℕ) (r : RequestAt) (action : Asked → Action) (by : TurnBy) (marked : RequestAt) (effect : Effect) (new : State) : Type 0 where
   pub request : numbered old.net n ≡ Some r
   pub traces : old.traces r.name.session ≡ by.trace ∷ by.earlier
   pub awaited : IsAwaited old.cfg by.trace by.asked n
   pub closing : IsClosed by.closing
+  pub sends : IsTurn old.cfg (action by.asked ∷ by.trace.actions) (next_of old) by.turn by.closing
   pub moves : SessionMoves old r.name.session (turned (next_of old) by.turn (action by.asked) by.closing by.trace ∷ by.earlier) new
   pub calls : CallEnds old.calls by.trace.caller.name (tick_of old) by.turn.answer new.calls
   pub net : new.net ≡ slice_set old.net (n - 1) marked ++ sent_requests by.trace.caller.name (tick_of old) by.turn.send

@@ -8,7 +8,7 @@ ghost use Rattle.gz_client.specs.Lowest.{IsLowestLive};
 ghost use Rattle.gz_client.specs.Traces.{live, IsLiveAtIn};
 ghost use Rattle.gz_world.specs.Bridge.{state_of};
 ghost use Rattle.gz_world.specs.Counting.{IsFull};
-ghost use Rattle.gz_world.specs.Deliveries.{IsCountedFor, LeavesSites};
+ghost use Rattle.gz_world.specs.Deliveries.{IsCountedFor, LeavesSites, LeavesOthersAt};
 ghost use Rattle.gz_world.specs.Fits.{FitsBy, Fits, IsFitting, IsBounded};
 ghost use Rattle.gz_world.specs.Refusals.{refusal_of};
 ghost use Rattle.gz_world.specs.Steps.{last_name, name_at, last_call, IsLowestOf, IsEntryOf};
@@ -123,6 +123,7 @@ impl<S: Site> World<S> {
         ensures journal { self.new.journal ≡ self.old.journal }
         ensures fault { IfOk result (λ effect. (n : ℕ) → event.now ≡ Event.Deliver n → IsCountedFor S.faults self.old n self.new) }
         ensures sites { IfOk result (λ effect. LeavesSites event.now effect.outcome → self.new.sites ≡ self.old.sites) }
+        ensures others { LeavesOthersAt self.old event.now self.new }
     {
         match event {
             Event::OpenSession => self.open_session(),
@@ -144,6 +145,7 @@ impl<S: Site> World<S> {
         ensures journal { self.new.journal ≡ self.old.journal }
         ensures fault { IfOk result (λ effect. (n : ℕ) → event.now ≡ Event.Deliver n → IsCountedFor S.faults self.old n self.new) }
         ensures sites { IfOk result (λ effect. LeavesSites event.now effect.outcome → self.new.sites ≡ self.old.sites) }
+        ensures others { LeavesOthersAt self.old event.now self.new }
     {
         match self.refusal(event) {
             Some(why) => Ok(quiet(Outcome::Skipped { why }, self.session_of(event))),
@@ -192,6 +194,7 @@ impl<S: Site> World<S> {
         ensures err { OnErr result (StaysBy S.told self.old self.new) }
         ensures fault { IfOk result (λ applied. (n : ℕ) → event ≡ Event.Deliver n → IsCountedFor S.faults self.old n self.new) }
         ensures sites { IfOk result (λ applied. LeavesSites event applied.outcome → self.new.sites ≡ self.old.sites) }
+        ensures others { LeavesOthersAt self.old event self.new }
     {
         self.journal.reserve(1)?;
         let effect = self.do_event(&event)?;
@@ -212,6 +215,9 @@ impl<S: Site> World<S> {
 
         // An event that is skipped, or that is no delivery, reaches no site, and so raises no site's count of faults.
         ensures sites { IfOk result (λ applied. LeavesSites event applied.outcome → self.new.sites ≡ self.old.sites) }
+
+        // A delivery touches the site of its request alone, whatever comes of it.
+        ensures others { LeavesOthersAt self.old event self.new }
 
         // Full comes exactly at the bounds, and leaves all as it was; want of memory comes first, once it came.
         ensures full { (result ≡ Err ApplyError.Full) ↔ ((self.old.spent ≡ false) × IsFull self.old) }

@@ -6,7 +6,7 @@ ghost use Rattle.gz_model.specs.declared.casts.Cast.{Cast};
 ghost use Rattle.gz_world.specs.Audit.{casts_of, with_casts, is_known};
 ghost use Rattle.gz_world.specs.States.{RequestAt, request_of, numbered, with_reply};
 ghost use Rattle.gz_world.specs.Steps.{Answers, IsReplyTo, casts_in, quiet};
-ghost use Rattle.gz_world.specs.Deliveries.{IsCounted, IsCountedFor, HasRoomAt, casts_written, blob_reply, read_reply, write_reply, AreTheSame, WasDelivered, IsSameTold};
+ghost use Rattle.gz_world.specs.Deliveries.{IsCounted, IsCountedFor, HasRoomAt, casts_written, blob_reply, read_reply, write_reply, AreTheSame, WasDelivered, IsSameTold, LeavesOthers};
 ghost use Rattle.gz_world.specs.Fits.{Fits, IsFitting};
 ghost use Rattle.gz_world.specs.Turns.{IsSmall};
 ghost use Rattle.gz_world.specs.Weights.{capped, reply_weight};
@@ -290,6 +290,7 @@ impl<S: Site> World<S> {
         ensures ok { IfOk result (λ effect. WasDelivered S.told self.old self.new n effect) }
         ensures err { OnErr result (IsSameTold S.told self.old self.new) }
         ensures fault { IfOk result (λ effect. IsCountedFor S.faults self.old n self.new) }
+        ensures others { LeavesOthers self.old n self.new }
     {
         let tick = self.next_tick();
         let at = n as usize - 1;

@@ -5,7 +5,7 @@ use Rattle.std.proofs.lemmas.Option.{slice_get-map}
 use Rattle.gz_world.specs.States.{request_of, with_reply}
 use Rattle.gz_world.specs.Steps.{quiet}
 use Rattle.gz_world.specs.declared.events.Outcome.TheVariants as outcomes
-use Rattle.gz_world.proofs.Faults.{fault_kept}
+use Rattle.gz_world.proofs.Faults.{fault_kept, others_of}
 use Rattle.gz_world.proofs.Members.{place_numbered, positive_by, within_by}
 use Rattle.gz_world.proofs.world.World.deliver.Goals as goal
 
@@ -75,3 +75,12 @@ returns-clause-fault g c =
     let kept = subst (λ xs. map request_of c.keep_at.new.net.items ≡ slice_set xs (c.args.n - 1) (with_reply c.next_tick-tick.result reply (request_of request))) c.make_room_at.ensures.same (c.keep_at.ensures (request_of request) mid) in
     fault_kept g.S.Site.faults c.args.self.now (record c.args.self.now { net = c.keep_at.new.net; sites = c.perform.new.sites }) c.args.n (request_of request) c.next_tick-tick.result reply
     (positive_by (map request_of c.args.self.now.net.items) c.args.n c.requires.there) old kept c.in_ok-reply.ensures.fault
+
+pub returns-clause-others : goal.returns-clause-others
+returns-clause-others g c =
+    let request = c.item_at-request.result.now in
+    let here : slice_get c.make_room_at.new.net.items (c.args.n - 1) ≡ Some request = subst (λ xs. slice_get xs (c.args.n - 1) ≡ Some request) c.as_slice.ensures.value c.item_at-request.ensures in
+    let mid : slice_get (map request_of c.make_room_at.new.net.items) (c.args.n - 1) ≡ Some (request_of request) = slice_get-map request_of c.make_room_at.new.net.items (c.args.n - 1) ∙ ap (option_map request_of) here in
+    let old : slice_get (map request_of c.args.self.now.net.items) (c.args.n - 1) ≡ Some (request_of request) = subst (λ xs. slice_get xs (c.args.n - 1) ≡ Some (request_of request)) c.make_room_at.ensures.same mid in
+    others_of c.args.self.now (record c.args.self.now { net = c.keep_at.new.net; sites = c.perform.new.sites }) c.args.n (request_of request)
+    (place_numbered (map request_of c.args.self.now.net.items) c.args.n (request_of request) (positive_by (map request_of c.args.self.now.net.items) c.args.n c.requires.there) old) c.perform.ensures.others

@@ -7,7 +7,7 @@ use Rattle.gz_world.specs.Turns.{IsSameWorld, Began, WasHanded, WasGivenUp}
 use Rattle.gz_world.specs.Deliveries.{IsSameTold, IsCountedFor, LeavesSites, WasDelivered, WasOpened}
 use Rattle.gz_world.specs.declared.events.Event.TheVariants as events
 use Rattle.gz_world.proofs.Results.{if_ok_map, if_ok_any, on_err_map}
-use Rattle.gz_world.proofs.Faults.{IsCountedAfter, delivery_counts, delivery_reaches, other_counts}
+use Rattle.gz_world.proofs.Faults.{IsCountedAfter, delivery_counts, delivery_reaches, delivery_leaves, other_counts, other_leaves}
 use Rattle.gz_world.proofs.Performing.{begin_acts, hand_acts, give_up_acts, deliver_acts, open_acts, crash_acts, stays_told, stays_same, both_keep, there_by, open_by, begin_ready, tell_ready, reply_ready}
 use Rattle.gz_world.proofs.world.World.happen.Goals as goal
 
@@ -55,6 +55,7 @@ returns-in-OpenSession g c =
       journal = both_keep c.open_session.result (λ effect. WasOpened old new effect) (IsSameWorld old new) (new.journal ≡ old.journal) c.open_session.ensures.ok c.open_session.ensures.err (λ effect h. h.1.rest.journal) (λ s. s.rest.journal);
       fault = if_ok_any c.open_session.result (λ effect. IsCountedAfter g.S.Site.faults old c.args.event.now new) (λ effect. other_counts g.S.Site.faults old new c.args.event.now events.OpenSession c.in-OpenSession.is refl);
       sites = if_ok_map c.open_session.result (λ effect. WasOpened old new effect) (λ effect. LeavesSites c.args.event.now effect.outcome → new.sites ≡ old.sites) (λ effect h l. h.1.rest.sites) c.open_session.ensures.ok;
+      others = other_leaves old new c.args.event.now events.OpenSession c.in-OpenSession.is refl;
     }
 
 pub returns-in-Begin : goal.returns-in-Begin
@@ -69,6 +70,7 @@ returns-in-Begin g c =
       journal = both_keep c.begin.result (λ effect. Began old new c.in-Begin.session c.in-Begin.call effect) (IsSameWorld old new) (new.journal ≡ old.journal) c.begin.ensures.ok c.begin.ensures.err (λ effect h. h.1.1.1.1.rest.journal) (λ s. s.rest.journal);
       fault = if_ok_any c.begin.result (λ effect. IsCountedAfter g.S.Site.faults old c.args.event.now new) (λ effect. other_counts g.S.Site.faults old new c.args.event.now (events.Begin c.in-Begin.session c.in-Begin.call) c.in-Begin.is refl);
       sites = if_ok_map c.begin.result (λ effect. Began old new c.in-Begin.session c.in-Begin.call effect) (λ effect. LeavesSites c.args.event.now effect.outcome → new.sites ≡ old.sites) (λ effect h l. h.1.1.1.1.rest.sites) c.begin.ensures.ok;
+      others = other_leaves old new c.args.event.now (events.Begin c.in-Begin.session c.in-Begin.call) c.in-Begin.is refl;
     }
 
 pub returns-in-Deliver : goal.returns-in-Deliver
@@ -84,6 +86,7 @@ returns-in-Deliver g c =
       fault = if_ok_map c.deliver.result (λ effect. IsCountedFor g.S.Site.faults old c.in-Deliver.n new) (λ effect. IsCountedAfter g.S.Site.faults old c.args.event.now new) (λ effect h. delivery_counts g.S.Site.faults old new c.args.event.now c.in-Deliver.n c.in-Deliver.is h) c.deliver.ensures.fault;
       sites = if_ok_map c.deliver.result (λ effect. WasDelivered told old new c.in-Deliver.n effect) (λ effect. LeavesSites c.args.event.now effect.outcome → new.sites ≡ old.sites)
           (λ effect h l. absurd (delivery_reaches c.args.event.now c.in-Deliver.n effect (Some h.0.name.session) c.in-Deliver.is h.1.1.effect_is l)) c.deliver.ensures.ok;
+      others = delivery_leaves old new c.args.event.now c.in-Deliver.n c.in-Deliver.is c.deliver.ensures.others;
     }
 
 pub returns-in-Reply : goal.returns-in-Reply
@@ -98,6 +101,7 @@ returns-in-Reply g c =
       journal = both_keep c.hand.result (λ effect. WasHanded old new c.in-Reply.n c.in-Reply.which effect) (IsSameWorld old new) (new.journal ≡ old.journal) c.hand.ensures.ok c.hand.ensures.err (λ effect h. h.1.1.1.1.1.1.1.1.rest.journal) (λ s. s.rest.journal);
       fault = if_ok_any c.hand.result (λ effect. IsCountedAfter g.S.Site.faults old c.args.event.now new) (λ effect. other_counts g.S.Site.faults old new c.args.event.now (events.Reply c.in-Reply.n c.in-Reply.which) c.in-Reply.is refl);
       sites = if_ok_map c.hand.result (λ effect. WasHanded old new c.in-Reply.n c.in-Reply.which effect) (λ effect. LeavesSites c.args.event.now effect.outcome → new.sites ≡ old.sites) (λ effect h l. h.1.1.1.1.1.1.1.1.rest.sites) c.hand.ensures.ok;
+      others = other_leaves old new c.args.event.now (events.Reply c.in-Reply.n c.in-Reply.which) c.in-Reply.is refl;
     }
 
 pub returns-in-GiveUp : goal.returns-in-GiveUp
@@ -112,6 +116,7 @@ returns-in-GiveUp g c =
       journal = both_keep c.give_up.result (λ effect. WasGivenUp old new c.in-GiveUp.n effect) (IsSameWorld old new) (new.journal ≡ old.journal) c.give_up.ensures.ok c.give_up.ensures.err (λ effect h. h.1.1.1.1.1.1.rest.journal) (λ s. s.rest.journal);
       fault = if_ok_any c.give_up.result (λ effect. IsCountedAfter g.S.Site.faults old c.args.event.now new) (λ effect. other_counts g.S.Site.faults old new c.args.event.now (events.GiveUp c.in-GiveUp.n) c.in-GiveUp.is refl);
       sites = if_ok_map c.give_up.result (λ effect. WasGivenUp old new c.in-GiveUp.n effect) (λ effect. LeavesSites c.args.event.now effect.outcome → new.sites ≡ old.sites) (λ effect h l. h.1.1.1.1.1.1.rest.sites) c.give_up.ensures.ok;
+      others = other_leaves old new c.args.event.now (events.GiveUp c.in-GiveUp.n) c.in-GiveUp.is refl;
     }
 
 pub returns-in-Crash : goal.returns-in-Crash
@@ -125,4 +130,5 @@ returns-in-Crash g c =
       journal = c.crash.ensures.1.rest.journal;
       fault = other_counts g.S.Site.faults old new c.args.event.now (events.Crash c.in-Crash.session) c.in-Crash.is refl;
       sites = λ l. c.crash.ensures.1.rest.sites;
+      others = other_leaves old new c.args.event.now (events.Crash c.in-Crash.session) c.in-Crash.is refl;
     }

@@ -4,7 +4,7 @@ use Rattle.gz_world.specs.Told.{StaysBy}
 use Rattle.gz_world.specs.declared.events.Outcome.{Outcome}
 use Rattle.gz_world.proofs.Results.{on_err_any}
 use Rattle.gz_world.proofs.Performing.{steps_of, stays_reserved, stays_then, fits_kept_by}
-use Rattle.gz_world.proofs.Faults.{counted_then}
+use Rattle.gz_world.proofs.Faults.{counted_then, leaves_between}
 use Rattle.gz_world.proofs.world.World.perform.Goals as goal
 
 pub returns-in_err-reserve-clause-err : goal.returns-in_err-reserve-clause-err
@@ -34,3 +34,6 @@ returns-clause-fault g c = λ n e. counted_then g.S.Site.faults c.args.self.now 
 
 pub returns-clause-sites : goal.returns-clause-sites
 returns-clause-sites g c = λ l. c.enter.ensures.sites ∙ c.in_ok-effect.ensures.sites (subst (λ (o : Outcome). LeavesSites c.args.event o) c.enter.ensures.outcome l)
+
+pub returns-clause-others : goal.returns-clause-others
+returns-clause-others g c = leaves_between c.args.self.now (record c.args.self.now { journal = c.reserve.new.self }) c.do_event.new.self c.enter.new.self c.args.event refl refl c.enter.ensures.sites c.do_event.ensures.others
