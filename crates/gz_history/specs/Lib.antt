@@ -1,5 +1,6 @@
 pub mod Answers
 pub mod Broken
+pub mod Index
 pub mod Legal
 pub mod Log
 pub mod Serial

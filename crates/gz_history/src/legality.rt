@@ -1,7 +1,8 @@
 //! Whether a history is legal, and where it first isn't.
-ghost use Rattle.std.specs.Prelude.{◌≡◌, ◌<◌, ◌≤◌, true, false, IfOk, IfErr, MatchOption, length, Contains};
+ghost use Rattle.std.specs.Prelude.{◌≡◌, ◌<◌, ◌≤◌, true, false, IfOk, IfErr, MatchOption, IfSome, ◌^◌, ◌+◌, option_map, length, Contains};
 ghost use Rattle.gz_history.specs.declared.record.CallRec.{CallRec as CallOf};
 ghost use Rattle.gz_history.specs.Answers.{shows, stands, latest_told, names, read_from, bytes_written, IsWrite, IsPut, IsDelete, Writes, MayTakeEffect, IsOfVersion, AnswersAsked};
+ghost use Rattle.gz_history.specs.Index.{AreKept, bound_at, bound_of};
 ghost use Rattle.gz_history.specs.Legal.{IsLegal, Agree, TakeEffectOnce, KeepOrder, IsBefore, IsBeforeEnd, IsSource, ReadsAWrite, ReturnWritten, KeepsAsked};
 ghost use Rattle.gz_history.specs.Broken.{IsHistory, Precedes, EndsLater, AllPrecede, IsFirstBroken, relation_of, clause_of, NameOneWrite, ShowOneVersion, OfOneObject, Broke, KeptWith, KeptBefore, BreaksWith, BreaksFirst, IsMissing, HaveSources, LacksSource, ReturnedUpTo, ReturnedBefore, ReturnsOther, ReturnsOtherFirst, KeptAsked, StraysFirst};
 
@@ -34,11 +35,45 @@ pub fn legal(calls: &[CallRec]) -> Result<(), Broken>
     ensures legal { IfOk result (λ _. IsLegal calls.now) }
     ensures broken { IfErr result (λ broken. IsFirstBroken calls.now broken) }
 {
-    each_two(Rule::Agreement, calls)?;
-    each_two(Rule::Once, calls)?;
-    each_two(Rule::Order, calls)?;
-    each_source(calls)?;
-    each_return(calls)?;
+    legal_from(
+        calls,
+        &Starts {
+            agreement: 0,
+            once: 0,
+            order: 0,
+            sources: 0,
+            values: 0,
+        },
+    )
+}
+
+/// For each rule but the last a number of first calls that are known to keep it.
+#[derive(Clone, Copy)]
+pub(crate) struct Starts {
+    /// So many calls agree with all later ones.
+    pub(crate) agreement: usize,
+    /// So many calls take effect once with all later ones.
+    pub(crate) once: usize,
+    /// So many calls keep the order with all later ones.
+    pub(crate) order: usize,
+    /// So many calls read what is in the history.
+    pub(crate) sources: usize,
+    /// So many calls return what was written.
+    pub(crate) values: usize,
+}
+
+/// The same as `legal`, where of each rule so many first calls are known to keep it. They are not tried again.
+pub(crate) fn legal_from(calls: &[CallRec], starts: &Starts) -> Result<(), Broken>
+    requires history { IsHistory calls.now }
+    requires kept { AreKept calls.now starts.now }
+    ensures legal { IfOk result (λ _. IsLegal calls.now) }
+    ensures broken { IfErr result (λ broken. IsFirstBroken calls.now broken) }
+{
+    each_two(Rule::Agreement, calls, starts.agreement)?;
+    each_two(Rule::Once, calls, starts.once)?;
+    each_two(Rule::Order, calls, starts.order)?;
+    each_source(calls, starts.sources)?;
+    each_return(calls, starts.values)?;
     each_asked(calls)
 }
 
@@ -120,12 +155,13 @@ impl Rule {
     }
 }
 
-/// Tries a rule on each two calls of one object.
-fn each_two(rule: Rule, calls: &[CallRec]) -> Result<(), Broken>
+/// Tries a rule on each two calls of one object, of which the first does not stand below a place.
+fn each_two(rule: Rule, calls: &[CallRec], start: usize) -> Result<(), Broken>
+    requires { KeptBefore (relation_of rule) calls.now start }
     ensures kept { IfOk result (λ _. KeptBefore (relation_of rule) calls.now (length calls.now)) }
     ensures broken { IfErr result (λ broken. BreaksFirst (relation_of rule) (clause_of rule) calls.now broken) }
 {
-    for i in 0..calls.len() {
+    for i in start..calls.len() {
         each_later(rule, calls, i)?;
     }
     Ok(())
@@ -218,7 +254,8 @@ pub fn named(a: &CallRec) -> Option<PutName>
 
 /// The version that the call's answer shows to exist, 0 where it says that there is none.
 pub fn shown(a: &CallRec) -> Option<u64>
-    ensures { result ≡ shows a.now.answer }
+    ensures same { result ≡ shows a.now.answer }
+    ensures bounded { IfSome result (λ version. version ≤ 2 ^ 63) }
 {
     match &a.answer {
         Some(
@@ -237,7 +274,8 @@ pub fn shown(a: &CallRec) -> Option<u64>
 
 /// The version that the call's answer shows as the latest one.
 fn standing(a: &CallRec) -> Option<u64>
-    ensures { result ≡ stands a.now.call a.now.answer }
+    ensures same { result ≡ stands a.now.call a.now.answer }
+    ensures bounded { IfSome result (λ version. version ≤ 2 ^ 63) }
 {
     match &a.call {
         Call::Put { .. } | Call::Delete { .. } | Call::Get { .. } => shown(a),
@@ -247,11 +285,23 @@ fn standing(a: &CallRec) -> Option<u64>
 
 /// The version that the answer calls the latest one, where the one that was asked for has not begun.
 fn told_latest(answer: &Option<Answer>) -> Option<u64>
-    ensures { result ≡ latest_told answer.now }
+    ensures same { result ≡ latest_told answer.now }
+    ensures bounded { IfSome result (λ version. version ≤ 2 ^ 63) }
 {
     match answer {
         Some(Answer::Unborn { latest }) => Some(latest.number()),
         _ => None,
+    }
+}
+
+/// The bound of the versions that calls which ended before this one began may show.
+pub(crate) fn bound(a: &CallRec) -> Option<u64>
+    ensures { result ≡ bound_of a.now }
+{
+    let version = standing(a)?;
+    match &a.call {
+        Call::Put { .. } | Call::Delete { .. } => Some(version),
+        Call::Get { .. } | Call::GetAt { .. } | Call::Collect { .. } => Some(version + 1),
     }
 }
 
@@ -276,12 +326,14 @@ fn is_write(call: &Call) -> bool
     }
 }
 
-/// Tries whether each call that is read from is in the history.
-fn each_source(calls: &[CallRec]) -> Result<(), Broken>
+/// Tries whether each call that is read from is in the history, of the reads that do not stand below a place.
+fn each_source(calls: &[CallRec], start: usize) -> Result<(), Broken>
+    requires { HaveSources calls.now start }
     ensures kept { IfOk result (λ _. HaveSources calls.now (length calls.now)) }
     ensures broken { IfErr result (λ broken. LacksSource calls.now broken) }
 {
-    for a in calls {
+    for i in start..calls.len() {
+        let a = &calls[i];
         if let Some(x) = missing_source(calls, a) {
             return Err(Broken {
                 clause: 4,
@@ -306,7 +358,7 @@ fn missing_source(calls: &[CallRec], a: &CallRec) -> Option<PutName>
 }
 
 /// The write that a read names.
-fn read(a: &CallRec) -> Option<PutName>
+pub(crate) fn read(a: &CallRec) -> Option<PutName>
     ensures { result ≡ read_from a.now.answer }
 {
     match &a.answer {
@@ -333,7 +385,7 @@ fn has_source(calls: &[CallRec], a: &CallRec, x: PutName) -> bool
 }
 
 /// Whether this is the write that a read names, where it could be read from.
-fn is_source(a: &CallRec, x: PutName, b: &CallRec) -> bool
+pub(crate) fn is_source(a: &CallRec, x: PutName, b: &CallRec) -> bool
     ensures yes { result ≡ true → IsSource a.now x b.now }
     ensures no { result ≡ false → IsSource a.now x b.now → ⊥ }
 {
@@ -376,12 +428,13 @@ fn is_delete(call: &Call) -> bool
     }
 }
 
-/// Tries whether each read returns the bytes of the put that it names.
-fn each_return(calls: &[CallRec]) -> Result<(), Broken>
+/// Tries whether each read that does not stand below a place returns the bytes of the put that it names.
+fn each_return(calls: &[CallRec], start: usize) -> Result<(), Broken>
+    requires { ReturnedBefore calls.now start }
     ensures kept { IfOk result (λ _. ReturnedBefore calls.now (length calls.now)) }
     ensures broken { IfErr result (λ broken. ReturnsOtherFirst calls.now broken) }
 {
-    for i in 0..calls.len() {
+    for i in start..calls.len() {
         returns_of(calls, i)?;
     }
     Ok(())
@@ -408,7 +461,7 @@ fn returns_of(calls: &[CallRec], i: usize) -> Result<(), Broken>
 }
 
 /// Whether two calls are of two objects or the first returns what the other wrote, if it names it.
-fn is_returned(a: &CallRec, b: &CallRec) -> bool
+pub(crate) fn is_returned(a: &CallRec, b: &CallRec) -> bool
     ensures kept { result ≡ true → OfOneObject ReturnWritten a.now b.now }
     ensures broken { result ≡ false → Broke ReturnWritten a.now b.now }
 {

@@ -58,7 +58,7 @@ fn naming_of(key: &Key, call: &CallRec) -> Option<(u64, PutName)>
     }
 }
 
-fn naming(call: &CallRec) -> Option<(u64, PutName)>
+pub(crate) fn naming(call: &CallRec) -> Option<(u64, PutName)>
     ensures { result ≡ naming call.now }
 {
     let version = shown(call)?;

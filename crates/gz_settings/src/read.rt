@@ -1,5 +1,6 @@
 //! A configuration is read from a text.
-ghost use Rattle.std.specs.Prelude.{◌≡◌, ◌⊎◌, option_map};
+ghost use Rattle.std.specs.Prelude.{◌≡◌, ◌⊎◌, IfOk, option_map};
+ghost use Rattle.gz_config.specs.Configurations.{IsConfig};
 ghost use Rattle.toml.specs.Data.{get_member};
 ghost use Rattle.toml.specs.View.{view, table_view};
 ghost use Rattle.gz_settings.specs.Keys.{key_text, first_unknown};
@@ -14,6 +15,7 @@ use toml::{Table, Value};
 /// The configuration of a text in TOML; a setting that is missing has its value of `Config::DEFAULT`.
 pub fn read_config(alloc: Global, bytes: &[u8]) -> Result<Config, ConfigText>
     ensures exact { (result ≡ Err ConfigText.NoMemory) ⊎ (result ≡ read_of bytes.now) }
+    ensures config { IfOk result IsConfig }
 {
     match toml::table_from_slice(alloc, bytes) {
         Ok(table) => config_of(alloc, &table),
@@ -24,7 +26,8 @@ pub fn read_config(alloc: Global, bytes: &[u8]) -> Result<Config, ConfigText>
 
 /// The configuration of a table, of which each key must be known.
 fn config_of(alloc: Global, table: &Table) -> Result<Config, ConfigText>
-    ensures { (result ≡ Err ConfigText.NoMemory) ⊎ (result ≡ config_of (table_view table.now)) }
+    ensures exact { (result ≡ Err ConfigText.NoMemory) ⊎ (result ≡ config_of (table_view table.now)) }
+    ensures config { IfOk result IsConfig }
 {
     match first_unknown(table) {
         Some(key) => Err(unknown(alloc, key)),
@@ -57,7 +60,8 @@ fn unknown(alloc: Global, key: &str) -> ConfigText
 
 /// The configuration, if it keeps the rules.
 fn checked(config: Result<Config, ConfigText>) -> Result<Config, ConfigText>
-    ensures { result ≡ checked config }
+    ensures exact { result ≡ checked config }
+    ensures config { IfOk result IsConfig }
 {
     let config = config?;
     match config.check() {

@@ -1,5 +1,5 @@
 use Rattle.gz_history.specs.Broken.{HaveSources}
 use Rattle.gz_history.proofs.legality.each_source.Given as goal
 
-abbrev pub invariant-loop-a : goal.invariant-loop-a
-invariant-loop-a l = HaveSources l.calls l.a-index
+abbrev pub invariant-loop-i : goal.invariant-loop-i
+invariant-loop-i l = HaveSources l.calls l.i
