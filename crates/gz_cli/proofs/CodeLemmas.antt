@@ -9,7 +9,7 @@ use Rattle.hex.specs.Hex.{decode_of, is_hex_digit}
 use Rattle.hex.specs.declared.error.FromHexError.{FromHexError}
 use Rattle.hex.specs.declared.error.FromHexError.TheVariants.{OutOfMemory}
 use Rattle.hex.proofs.HexLemmas.{decode_of-digits}
-use Rattle.gz_cli.specs.Words.{is_hex}
+use Rattle.gz_words.specs.Words.{is_hex}
 use Rattle.std.specs.declared.alloc.Global.{Global}
 use Rattle.std.proofs.lemmas.List.{append-nil, take_more, map-append, length-map, length-take}
 use Rattle.gz_cli.specs.Codes.{piece_line, lines_from}

@@ -1,6 +1,6 @@
 mod CodeLemmas
-mod LoadLemmas
 mod PlayLemmas
+mod ReplayLemmas
 mod RunLemmas
 mod TellLemmas
 mod TextLemmas

@@ -51,9 +51,11 @@ acts_tell old new event effect acts =
     ] acts
 
 -- one event
+pub step_config : (old new : State) (event : Event) → WorldStep old event new → new.cfg ≡ old.cfg
+step_config old new event step = step.1.1.1.1.cfg ∙ (acts_tell old step.1.0 event step.0 step.1.1.1.0).config
+
 pub step_tell : (old new : State) (event : Event) → WorldStep old event new → AllTell old → AllTell new
 step_tell old new event step tell =
     let mid = step.1.0 in
-    let records = step.1.1.1.1 in
     let k = acts_tell old mid event step.0 step.1.1.1.0 in
-    λ i l. stay_tell mid new records.sites i (k.sites i (tell i (subst (λ (c : Config). i < c.n) (records.cfg ∙ k.config) l)))
+    λ i l. stay_tell mid new step.1.1.1.1.sites i (k.sites i (tell i (subst (λ (c : Config). i < c.n) (step_config old new event step) l)))

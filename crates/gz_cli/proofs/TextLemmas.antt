@@ -7,12 +7,13 @@ use Rattle.gz_text.specs.declared.faults.Fault.TheVariants as faults
 use Rattle.gz_text.specs.Faults.{told_number}
 use Rattle.gz_lines.specs.Schedule.{readings, IsFirstFault, IsFaultTold, Reads}
 use Rattle.gz_lines.proofs.CutLemmas.{length_readings}
-use Rattle.gz_cli.specs.Runs.{Files, Counts, HasBytes, LoadCause, text_status}
+use Rattle.gz_cli.specs.Inputs.{Files, HasBytes}
+use Rattle.gz_cli.specs.Causes.{Counts, LoadCause, text_status}
 
-own-number : (bytes : List ℕ) (line told : ℕ) → length bytes ≤ 65536 → line ≤ length (readings bytes) → told ≡ told_number line → line ≡ told
+own-number : (bytes : List ℕ) (line told : ℕ) → length bytes ≤ 67108864 → line ≤ length (readings bytes) → told ≡ told_number line → line ≡ told
 own-number bytes line told small within is = let few = length_readings bytes in omega (arith, few, is)
 
-first-fault : (bytes : List ℕ) (told : ℕ) (fault : Fault) → length bytes ≤ 65536 → IsFaultTold (readings bytes) told fault → IsFirstFault (readings bytes) told fault
+first-fault : (bytes : List ℕ) (told : ℕ) (fault : Fault) → length bytes ≤ 67108864 → IsFaultTold (readings bytes) told fault → IsFirstFault (readings bytes) told fault
 first-fault bytes told fault small h =
     let within = h.2.within in
     subst (λ (n : ℕ). IsFirstFault (readings bytes) n fault) (own-number bytes h.0 told small within h.1) h.2

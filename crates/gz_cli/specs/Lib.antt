@@ -1,5 +1,6 @@
+pub mod Causes
 pub mod Codes
+pub mod Inputs
 pub mod Runs
 pub mod Statuses
-pub mod Words
 pub mod Worlds

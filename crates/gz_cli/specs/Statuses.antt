@@ -1,7 +1,7 @@
 -- The number with which the program ends.
 use Rattle.std.specs.Prelude.{ℕ}
 use Rattle.gz_cli.specs.declared.status.Status.{Status}
-use Rattle.gz_cli.specs.declared.status.Status.TheVariants.{Done, Usage, ShelfFault, NoFile, FileTooLarge, BadText, TooLong, Full, SinkFault, NoMemory}
+use Rattle.gz_cli.specs.declared.status.Status.TheVariants.{Done, Usage, ShelfFault, NoFile, FileTooLarge, BadConfig, BadText, TooLong, Full, SinkFault, NoMemory}
 
 -- the program's exit status, by how a run ends
 abbrev pub exit_number : Status → ℕ
@@ -10,6 +10,7 @@ exit_number Usage = 2
 exit_number (ShelfFault name) = 3
 exit_number (NoFile name) = 4
 exit_number (FileTooLarge name) = 5
+exit_number (BadConfig why) = 6
 exit_number (BadText line why) = 7
 exit_number (TooLong line) = 8
 exit_number (Full events held) = 9

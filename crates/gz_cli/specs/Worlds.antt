@@ -1,7 +1,6 @@
 -- The world that a run of a schedule opens, plays and leaves.
 use Rattle.std.specs.Prelude.{ℕ, ◌≡◌, ◌≤◌, ◌<◌, ◌⊎◌, Bool, true, false, List, length, count_by, Option, Some, IsSome}
 use Rattle.gz_config.specs.declared.Config.{Config}
-use Rattle.gz_config.specs.declared.Order.TheVariants.{Parallel}
 use Rattle.gz_core.specs.History.{Trace}
 use Rattle.gz_site.specs.Told.{Told}
 use Rattle.gz_site.specs.Many.{told_at}
@@ -24,18 +23,14 @@ use Rattle.gz_world.specs.declared.events.Outcome.{Outcome}
 use Rattle.gz_world.specs.declared.events.Outcome.TheVariants as outcomes
 use Rattle.gz_world.specs.declared.world.World.{World}
 
--- the configuration of a run: three sites, of which one may be lost
-abbrev pub default : Config
-default = record { n = 3; qc = 2; qf = 3; k = 2; m = 1; f = 0; tries = 8; order = Parallel }
-
 -- there are at least sixteen sites, and each that tells its state holds nothing
 pub record AreFresh {S : Type 0} (told : S → Option Told) (sites : List S) : Type 0 where
   pub enough : 16 ≤ length sites
   pub empty : AreEmpty told sites
 
 -- each site that the configuration uses tells its state
-abbrev pub AllTellAt : {S : Type 0} → (S → Option Told) → List S → Type 0
-AllTellAt told sites = (i : ℕ) → i < 3 → IsSome (told_at told sites i)
+abbrev pub AllTellAt : {S : Type 0} → (S → Option Told) → List S → Config → Type 0
+AllTellAt told sites cfg = (i : ℕ) → i < cfg.n → IsSome (told_at told sites i)
 
 -- whether the event of an entry was skipped
 abbrev pub was_skipped : Outcome → Bool
@@ -53,21 +48,21 @@ log_of_world w = log_of w.calls.items (length w.journal.items) (count_by is_skip
 abbrev pub PlaysSome : List Line → State → State → Type 0
 PlaysSome lines old new = Plays lines old new ⊎ ((error : ApplyError) × PlaysInPart error lines old new)
 
--- the world was opened over these sites, in which nothing had happened, and was changed so
-pub record IsPlayed {S : Type 0} (told : S → Option Told) (sites : List S) (Change : State → State → Type 0) (w : World S) : Type 0 where
+-- the world was opened over these sites under this configuration, nothing had happened in it, and it was changed so
+pub record IsPlayed {S : Type 0} (cfg : Config) (told : S → Option Told) (sites : List S) (Change : State → State → Type 0) (w : World S) : Type 0 where
   pub start : State
   pub opening : IsOpening start
-  pub config : start.cfg ≡ default
+  pub config : start.cfg ≡ cfg
   pub sites_are : start.sites ≡ told_at told sites
   pub traces : ℕ → List Trace
   pub fits : Fits traces w
   pub changes : Change start (state_of told traces w)
 
 -- such a world is left, and this holds of it
-pub record Leaves {S : Type 0} (told : S → Option Told) (sites : List S) (Change : State → State → Type 0) (left : Option (World S)) (Holds : World S → Type 0) : Type 0 where
+pub record Leaves {S : Type 0} (cfg : Config) (told : S → Option Told) (sites : List S) (Change : State → State → Type 0) (left : Option (World S)) (Holds : World S → Type 0) : Type 0 where
   pub world : World S
   pub is_left : left ≡ Some world
-  pub played : IsPlayed told sites Change world
+  pub played : IsPlayed cfg told sites Change world
   pub holds : Holds world
 
 -- the world takes no more events, and these are the events of its journal and the bytes that it holds

@@ -1,5 +1,5 @@
-//! What the program does: it replays a schedule in a world of sites and writes the log of its calls, or cuts bytes into the
-//! pieces of a code. The program itself is the crate `giza`.
+//! What the program does: it reads a configuration and replays a schedule in a world of sites, and writes the log of its calls, or
+//! it cuts bytes into the pieces of a code. The program itself is the crate `giza`.
 #![tactic(auto)]
 
 pub mod bench;
@@ -10,7 +10,6 @@ mod pieces;
 mod replay;
 pub mod run;
 pub mod status;
-mod words;
 
 pub use bench::Bench;
 pub use edge::{FileShelf, StdSink};

@@ -1,7 +1,8 @@
 //! What a run writes.
 ghost use Rattle.std.specs.Prelude.{◌≡◌};
 ghost use Rattle.gz_site.specs.Files.{IsSomePart};
-ghost use Rattle.gz_cli.specs.Runs.{Whole, WriteCause, sink_status};
+ghost use Rattle.gz_cli.specs.Causes.{WriteCause, sink_status};
+ghost use Rattle.gz_cli.specs.Runs.{Whole};
 
 use crate::status::Status;
 use gz_site::{Sink, SinkError, write_all};

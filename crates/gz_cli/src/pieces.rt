@@ -5,8 +5,9 @@ ghost use Rattle.gz_site.specs.Files.{IsSomePart};
 ghost use Rattle.hex.specs.Hex.{decode_of};
 ghost use Rattle.gz_history.specs.Log.{bytes_text};
 ghost use Rattle.gz_cli.specs.Codes.{piece_line, lines_from, IsCodeText, Codes};
-ghost use Rattle.gz_cli.specs.Runs.{WriteCause, Whole};
-ghost use Rattle.gz_cli.specs.Words.{is_hex};
+ghost use Rattle.gz_cli.specs.Causes.{WriteCause};
+ghost use Rattle.gz_cli.specs.Runs.{Whole};
+ghost use Rattle.gz_words.specs.Words.{is_hex};
 
 use crate::output::write;
 use crate::status::Status;

@@ -1,5 +1,6 @@
 //! A schedule is played over a world that is opened for it, and the log of the world is written.
 ghost use Rattle.std.specs.Prelude.{◌≡◌, ◌≤◌, ◌⊎◌, ℕ, length, All, count_by, IfSome, None};
+ghost use Rattle.gz_config.specs.Configurations.{IsConfig};
 ghost use Rattle.gz_site.specs.Files.{IsSomePart};
 ghost use Rattle.gz_history.specs.Legal.{IsLegal};
 ghost use Rattle.gz_script.specs.Plays.{Plays, PlaysInPart, ChangesBy};
@@ -7,8 +8,9 @@ ghost use Rattle.gz_lines.specs.Schedule.{IsBoundedLine};
 ghost use Rattle.gz_world.specs.Fits.{IsFitting};
 ghost use Rattle.gz_world.specs.Opening.{AreEmpty, IsOpened};
 ghost use Rattle.gz_world.specs.Told.{IsReachedBy};
-ghost use Rattle.gz_cli.specs.Runs.{PlayCause, HasPlayed, Whole, WriteCause};
-ghost use Rattle.gz_cli.specs.Worlds.{default, AreFresh, AllTellAt, PlaysSome, Leaves, IsFilled, log_of_world, was_skipped, is_skipped, AgreesBy};
+ghost use Rattle.gz_cli.specs.Causes.{PlayCause, HasPlayed, WriteCause};
+ghost use Rattle.gz_cli.specs.Runs.{Whole};
+ghost use Rattle.gz_cli.specs.Worlds.{AreFresh, AllTellAt, PlaysSome, Leaves, IsFilled, log_of_world, was_skipped, is_skipped, AgreesBy};
 
 use crate::bench::Bench;
 use crate::output::write;
@@ -21,38 +23,41 @@ use gz_world::{ApplyError, Entry, Outcome, World};
 use std::alloc::Global;
 use std::mem;
 
-/// Opens a world over the sites, plays the lines in it, and writes its log.
+/// Opens a world over the sites under this configuration, plays the lines in it, and writes its log.
 pub fn replay_lines<O: Sink, S: Site>(
     alloc: Global,
+    config: Config,
     lines: &[Line],
     out: &mut O,
     bench: &mut Bench<S>,
 ) -> Status
+    requires config { IsConfig config }
     requires fresh { AreFresh S.told bench.old.sites.items }
     requires bounded { All IsBoundedLine lines.now }
     ensures cause { PlayCause (O.faults out.old) (O.faults out.new) result }
-    ensures done { result ≡ Status.Done → Leaves S.told bench.old.sites.items (Plays lines.now) bench.new.world (λ w. Whole (O.written out.old) (log_of_world w) (O.written out.new)) }
-    ensures unwritten { result ≡ Status.SinkFault → Leaves S.told bench.old.sites.items (Plays lines.now) bench.new.world (λ w. IsSomePart (O.written out.old) (log_of_world w) (O.written out.new)) }
-    ensures full { (events held : ℕ) → result ≡ Status.Full events held → Leaves S.told bench.old.sites.items (PlaysInPart ApplyError.Full lines.now) bench.new.world (IsFilled events held) × (O.written out.new ≡ O.written out.old) }
-    ensures memory { result ≡ Status.NoMemory → (Leaves S.told bench.old.sites.items (PlaysInPart ApplyError.NoMemory lines.now) bench.new.world (λ w. O.written out.new ≡ O.written out.old) ⊎ Leaves S.told bench.old.sites.items (Plays lines.now) bench.new.world (λ w. IsSomePart (O.written out.old) (log_of_world w) (O.written out.new))) }
+    ensures done { result ≡ Status.Done → Leaves config S.told bench.old.sites.items (Plays lines.now) bench.new.world (λ w. Whole (O.written out.old) (log_of_world w) (O.written out.new)) }
+    ensures unwritten { result ≡ Status.SinkFault → Leaves config S.told bench.old.sites.items (Plays lines.now) bench.new.world (λ w. IsSomePart (O.written out.old) (log_of_world w) (O.written out.new)) }
+    ensures full { (events held : ℕ) → result ≡ Status.Full events held → Leaves config S.told bench.old.sites.items (PlaysInPart ApplyError.Full lines.now) bench.new.world (IsFilled events held) × (O.written out.new ≡ O.written out.old) }
+    ensures memory { result ≡ Status.NoMemory → (Leaves config S.told bench.old.sites.items (PlaysInPart ApplyError.NoMemory lines.now) bench.new.world (λ w. O.written out.new ≡ O.written out.old) ⊎ Leaves config S.told bench.old.sites.items (Plays lines.now) bench.new.world (λ w. IsSomePart (O.written out.old) (log_of_world w) (O.written out.new))) }
     ensures reached { IfSome bench.new.world (λ w. IsReachedBy S.told w) }
-    ensures legal { AllTellAt S.told bench.old.sites.items → IfSome bench.new.world (λ w. IsLegal w.calls.items) }
-    ensures agreed { AllTellAt S.told bench.old.sites.items → IfSome bench.new.world (λ w. AgreesBy S.told w) }
+    ensures legal { IfSome bench.new.world (λ w. AllTellAt S.told bench.old.sites.items w.cfg → IsLegal w.calls.items) }
+    ensures agreed { IfSome bench.new.world (λ w. AllTellAt S.told bench.old.sites.items w.cfg → AgreesBy S.told w) }
 {
-    let mut world = open(alloc, bench);
+    let mut world = open(alloc, config, bench);
     let status = play_and_write(alloc, lines, out, &mut world);
     bench.world = Some(world);
     status
 }
 
 /// A world over the sites of the bench, of which there are enough.
-fn open<S: Site>(alloc: Global, bench: &mut Bench<S>) -> World<S>
-    requires { AreFresh S.told bench.old.sites.items }
-    ensures opened { IsOpened default bench.old.sites.items result }
+fn open<S: Site>(alloc: Global, config: Config, bench: &mut Bench<S>) -> World<S>
+    requires config { IsConfig config }
+    requires fresh { AreFresh S.told bench.old.sites.items }
+    ensures opened { IsOpened config bench.old.sites.items result }
     ensures fits { IsFitting result }
 {
     let sites = mem::replace(&mut bench.sites, Vec::new(alloc));
-    match World::open(alloc, Config::DEFAULT, sites) {
+    match World::open(alloc, config, sites) {
         Ok(world) => world,
         Err(_) => unreachable!(),
     }

@@ -3,6 +3,7 @@ ghost use Rattle.std.specs.Prelude.{◌≡◌};
 ghost use Rattle.gz_cli.specs.Statuses.{exit_number};
 
 use gz_core::{Why, Word};
+use gz_settings::ConfigText;
 use std::fmt;
 
 /// How a run ends, with its number and its text.
@@ -13,8 +14,10 @@ pub enum Status {
     /// The shelf failed.
     ShelfFault { name: Word },
     NoFile { name: Word },
-    /// The file has more than 65,536 bytes.
+    /// The file has more than 67,108,864 bytes.
     FileTooLarge { name: Word },
+    /// The text of the configuration gives none.
+    BadConfig { why: ConfigText },
     /// The first line of the schedule with a fault, counted from 1.
     BadText { line: u32, why: Why },
     /// That line has more bytes than an object may have.
@@ -34,6 +37,7 @@ impl Drop for Status {
             Status::ShelfFault { name: _ } => {},
             Status::NoFile { name: _ } => {},
             Status::FileTooLarge { name: _ } => {},
+            Status::BadConfig { why: _ } => {},
             Status::BadText { line: _, why: _ } => {},
             Status::TooLong { line: _ } => {},
             Status::Full { events: _, held: _ } => {},
@@ -54,6 +58,7 @@ impl Status {
             Status::ShelfFault { .. } => 3,
             Status::NoFile { .. } => 4,
             Status::FileTooLarge { .. } => 5,
+            Status::BadConfig { .. } => 6,
             Status::BadText { .. } => 7,
             Status::TooLong { .. } => 8,
             Status::Full { .. } => 9,
@@ -80,6 +85,7 @@ impl fmt::Display for Status {
                 let name = name.as_str();
                 write!(f, "file too large {name}")
             }
+            Status::BadConfig { why } => write!(f, "config: {why}"),
             Status::BadText { line, why } => {
                 let why = word(*why);
                 write!(f, "line {line}: {why}")

@@ -13,15 +13,20 @@ use std::test::Fail;
 
 const PUT_GET: &str = "session\nput 1 a x:0102\nsettle 1\nget 1 a\nsettle 1\n";
 
+/// The log of `PUT_GET` at five sites.
+const FIVE_SITES_LOG: &str =
+    "1.1 put a 0102 2 30 ok 1\n1.2 get a - 31 45 bytes 1 1.1 0102\nend 2 45 0\n";
+
 const PUT_GET_LOG: &str =
     "1.1 put a 0102 2 20 ok 1\n1.2 get a - 21 31 bytes 1 1.1 0102\nend 2 31 0\n";
 
-/// The words of a run, the text of its one file `s`, the calls of the shelf and of the sink that fail (counted from 1, 0 for none), and the
-/// number and the text of its status and what it writes.
+/// The words of a run, the texts of its files `s` and `c`, the calls of the shelf and of the sink that fail (counted from 1, 0 for none), and
+/// the number and the text of its status and what it writes.
 #[derive(Clone, Copy)]
 struct Case<'a> {
     words: &'a [&'a str],
     text: &'a [u8],
+    config: &'a [u8],
     shelf_fails: u32,
     sink_fails: u32,
     number: u8,
@@ -34,11 +39,21 @@ fn played<'a>(text: &'a [u8], number: u8, status: &'a str, log: &'a str) -> Case
     Case {
         words: &["replay", "s"],
         text,
+        config: b"",
         shelf_fails: 0,
         sink_fails: 0,
         number,
         status,
         log,
+    }
+}
+
+/// The replay of `PUT_GET` under a configuration, in which nothing fails.
+fn configured<'a>(config: &'a [u8], number: u8, status: &'a str, log: &'a str) -> Case<'a> {
+    Case {
+        words: &["replay", "s", "c"],
+        config,
+        ..played(PUT_GET.as_bytes(), number, status, log)
     }
 }
 
@@ -63,16 +78,18 @@ fn words_of(alloc: Global, texts: &[&str]) -> Result<Vec<Word>, AllocError> {
     Ok(words)
 }
 
-/// The one file `s`.
-fn files_of(alloc: Global, text: &[u8]) -> Result<BTreeMap<String, Vec<u8>>, AllocError> {
+/// The files `s` and `c`.
+fn files_of(alloc: Global, case: &Case) -> Result<BTreeMap<String, Vec<u8>>, AllocError> {
     let mut files = BTreeMap::new(alloc);
-    let name = String::from_str(alloc, "s")?;
-    files.insert(name, Vec::from_slice(alloc, text)?)?;
+    let schedule = String::from_str(alloc, "s")?;
+    files.insert(schedule, Vec::from_slice(alloc, case.text)?)?;
+    let config = String::from_str(alloc, "c")?;
+    files.insert(config, Vec::from_slice(alloc, case.config)?)?;
     Ok(files)
 }
 
 fn shelf_of(alloc: Global, case: &Case) -> Result<MemShelf, AllocError> {
-    let files = files_of(alloc, case.text)?;
+    let files = files_of(alloc, case)?;
     Ok(MemShelf::new(files, failing(alloc, case.shelf_fails)?))
 }
 
@@ -103,7 +120,7 @@ fn holds(alloc: Global, case: &Case) -> Result<bool, AllocError> {
 }
 
 /// Schedules, each with the status and the log of its replay.
-static SCHEDULES: [(&str, u8, &str, &str); 21] = [
+static SCHEDULES: [(&str, u8, &str, &str); 25] = [
     (PUT_GET, 0, "done", PUT_GET_LOG),
     (
         "session\nget 1 a\nsettle 1\n",
@@ -113,6 +130,12 @@ static SCHEDULES: [(&str, u8, &str, &str); 21] = [
     ),
     ("", 0, "done", "end 0 0 0\n"),
     ("# none\n  \r\nsettle 9\nsession", 0, "done", "end 0 1 0\n"),
+    (
+        "session\nput 1 a x:\nsettle 1\nget 1 a\nsettle 1\n",
+        0,
+        "done",
+        "1.1 put a - 2 20 ok 1\n1.2 get a - 21 31 bytes 1 1.1 -\nend 2 31 0\n",
+    ),
     (
         "session\nsession\nput 2 b x:\nsettle 2\nput 1 b x:Ff\n\nsettle 1\nget 2 b\nsettle 2\n",
         0,
@@ -144,10 +167,10 @@ static SCHEDULES: [(&str, u8, &str, &str); 21] = [
         "1.1 put a 0102 2 6 noquorum look 1\nend 1 6 0\n",
     ),
     (
-        "session\nput 1 a x:0102\ntake 1\ntake 2\ndeliver 7\ndeliver 8\ngiveup 7\ngiveup 8\n",
+        "session\nput 1 a x:0102\ntake 1\ntake 2\ndeliver 4\ndeliver 5\ndeliver 7\ndeliver 8\ngiveup 7\ngiveup 8\nget 1 a\nsettle 1\n",
         0,
         "done",
-        "1.1 put a 0102 2 10 unsure noquorum fast 0\nend 1 10 0\n",
+        "1.1 put a 0102 2 12 unsure noquorum fast 0\n1.2 get a - 13 33 bytes 1 1.1 0102\nend 2 33 0\n",
     ),
     (
         "session\nput 1 a x:0102\nsettle 1 without 2\n",
@@ -156,10 +179,16 @@ static SCHEDULES: [(&str, u8, &str, &str); 21] = [
         "1.1 put a 0102 2 24 ok 1\nend 1 24 0\n",
     ),
     (
-        "session\nput 1 a x:0102\ntake 1\ntake 2\ntake 3\ndeliver 4\ndeliver 5\ndeliver 7\ncrash 1\nsession\nget 2 a\nsettle 2\n",
+        "session\nput 1 a x:0102\ntake 1\ntake 2\ntake 3\ndeliver 4\ndeliver 5\ndeliver 7\ndeliver 8\ncrash 1\nsession\nget 2 a\nsettle 2\n",
         0,
         "done",
-        "1.1 put a 0102 2 - open\n2.1 get a - 14 34 bytes 1 1.1 0102\nend 2 34 0\n",
+        "1.1 put a 0102 2 - open\n2.1 get a - 15 35 bytes 1 1.1 0102\nend 2 35 0\n",
+    ),
+    (
+        "session\nput 1 a x:01\nsettle 1\ndrain 1\nput 1 a x:02\ntake 13\ntake 14\ndeliver 16\ndeliver 17\ndeliver 19\ncrash 1\nsession\nget 2 a\nsettle 2 without 0\nget 2 a\nsettle 2\n",
+        0,
+        "done",
+        "1.1 put a 01 2 20 ok 1\n1.2 put a 02 24 - open\n2.1 get a - 34 44 bytes 1 1.1 01\n2.2 get a - 45 65 bytes 2 1.2 02\nend 4 65 0\n",
     ),
     (
         "session\nput 1 a x:01\nsettle 1\ndelete 1 a\nsettle 1\nget 1 a\nsettle 1\n",
@@ -186,6 +215,18 @@ static SCHEDULES: [(&str, u8, &str, &str); 21] = [
         "1.1 put a 01 2 20 ok 1\n1.2 put a 02 21 - open\n2.1 get a - 30 40 bytes 1 1.1 01\n2.2 get a - 44 64 bytes 2 1.2 02\nend 4 64 0\n",
     ),
     (
+        "session\nput 1 a x:01\nsettle 1\nput 1 a x:0102\ngiveup 17\ngiveup 18\nsettle 1\nget 1 a\nsettle 1\n",
+        0,
+        "done",
+        "1.1 put a 01 2 20 ok 1\n1.2 put a 0102 21 37 thin 2 1\n1.3 get a - 38 50 incomplete 2 1.2 WMM\nend 3 50 0\n",
+    ),
+    (
+        "session\nput 1 a x:0102\nsettle 1\nget 1 a\ntake 13\ntake 14\ntake 15\ngiveup 16\ngiveup 17\nsettle 1\nget 1 a\nsettle 1 without 0\nget 1 a\nsettle 1\n",
+        0,
+        "done",
+        "1.1 put a 0102 2 20 ok 1\n1.2 get a - 21 31 incomplete 1 1.1 GGW\n1.3 get a - 32 50 bytes 1 1.1 0102\n1.4 get a - 51 61 bytes 1 1.1 0102\nend 4 61 0\n",
+    ),
+    (
         "session\nput 1 a x:0102\ntake 1\ntake 2\ntake 3\ndeliver 4\ndeliver 5\ndeliver 7\ncrash 1\nsession\nget 2 a\nsettle 2\nget 2 a\nsettle 2\n",
         0,
         "done",
@@ -207,7 +248,7 @@ static FAILURES: [(u32, u32, u8, &str, &str); 5] = [
 ];
 
 /// Words with no schedule, a call of the sink that fails, or none, and what comes of it.
-static WORDS: [(&[&str], u32, u8, &str, &str); 29] = [
+static WORDS: [(&[&str], u32, u8, &str, &str); 32] = [
     (
         &["code", "2", "1", "0102"],
         0,
@@ -264,7 +305,10 @@ static WORDS: [(&[&str], u32, u8, &str, &str); 29] = [
     (&["replay"], 0, 2, "usage", ""),
     (&["replay", "-x"], 0, 2, "usage", ""),
     (&["play", "s"], 0, 2, "usage", ""),
-    (&["replay", "s", "s"], 0, 2, "usage", ""),
+    (&["replay", "s", "s"], 0, 0, "done", "end 0 0 0\n"),
+    (&["replay", "s", "c", "c"], 0, 2, "usage", ""),
+    (&["replay", "s", "-c"], 0, 2, "usage", ""),
+    (&["replay", "--", "s"], 0, 2, "usage", ""),
     (&["code", "0", "1", "00"], 0, 2, "usage", ""),
     (&["code", "2", "1", "123"], 0, 2, "usage", ""),
     (&["code", "2", "255", "00"], 0, 2, "usage", ""),
@@ -328,15 +372,146 @@ fn comment_ends(
     holds(alloc, &played(&comment, number, status, log))
 }
 
+/// Whether a configuration that is a comment of so many bytes ends so.
+fn comment_configures(
+    alloc: Global,
+    length: usize,
+    number: u8,
+    status: &str,
+    log: &str,
+) -> Result<bool, AllocError> {
+    let comment = vec![in alloc; b'#'; length]?;
+    holds(alloc, &configured(&comment, number, status, log))
+}
+
 #[test]
-fn each_status_of_a_file(rt: HostRuntime) -> Result<(), Fail> {
-    let none = Case {
-        words: &["replay", "none"],
-        ..played(b"", 4, "no file none", "")
+fn files_have_a_limit(rt: HostRuntime) -> Result<(), Fail> {
+    assert!(rt; comment_ends(rt.alloc(), 67_108_865, 5, "file too large s", "")?);
+    assert!(rt; comment_ends(rt.alloc(), 67_108_864, 0, "done", "end 0 0 0\n")?);
+    assert!(rt; comment_configures(rt.alloc(), 67_108_865, 5, "file too large c", "")?);
+    assert!(rt; comment_configures(rt.alloc(), 67_108_864, 0, "done", PUT_GET_LOG)?);
+    Ok(())
+}
+
+/// Words that name a file that isn't there, and what comes of it.
+static ABSENT: [(&[&str], &str); 4] = [
+    (&["replay", "none"], "no file none"),
+    (&["replay", "none", "c"], "no file none"),
+    (&["replay", "s", "nil"], "no file nil"),
+    (&["replay", "none", "nil"], "no file nil"),
+];
+
+#[test]
+fn a_file_is_not_there(rt: HostRuntime) -> Result<(), Fail> {
+    for (words, status) in &ABSENT {
+        let case = Case {
+            words,
+            ..played(b"", 4, status, "")
+        };
+        assert!(rt; holds(rt.alloc(), &case)?);
+    }
+    Ok(())
+}
+
+const FIVE_SITES: &str = "n = 5\nqc = 3\nqf = 4\nk = 3\nm = 2\nf = 1\norder = \"parallel\"\n";
+
+/// Configurations, each with the status and the log of the replay of `PUT_GET` under it.
+static CONFIGS: [(&str, u8, &str, &str); 14] = [
+    ("", 0, "done", PUT_GET_LOG),
+    ("tries = 1000\n", 0, "done", PUT_GET_LOG),
+    ("n = = 3\n", 6, "config: toml", ""),
+    ("sites = 3\n", 6, "config: unknown sites", ""),
+    (
+        "zones = 1\nn = \"3\"\nsites = 3\n",
+        6,
+        "config: unknown sites",
+        "",
+    ),
+    ("n = \"3\"\n", 6, "config: kind n", ""),
+    ("n = 17\n", 6, "config: sites", ""),
+    ("n = 3\nqc = 1\nqf = 3\n", 6, "config: classic quorum", ""),
+    ("n = 7\nqc = 4\nqf = 5\n", 6, "config: fast quorum", ""),
+    ("m = 2\n", 6, "config: pieces", ""),
+    ("f = 2\n", 6, "config: spare", ""),
+    ("tries = 0\n", 6, "config: tries", ""),
+    ("tries = 65536\n", 6, "config: kind tries", ""),
+    (FIVE_SITES, 0, "done", FIVE_SITES_LOG),
+];
+
+#[test]
+fn configurations(rt: HostRuntime) -> Result<(), Fail> {
+    for (config, number, status, log) in &CONFIGS {
+        let case = configured(config.as_bytes(), *number, status, log);
+        assert!(rt; holds(rt.alloc(), &case)?);
+    }
+    Ok(())
+}
+
+/// Schedules with configurations, and the logs of their replays: an ordinary use of five sites; two puts that race there; a call that tries
+/// once; a put that stores first; and a get that gives in without a vote.
+static UNDER: [(&str, &str, &str); 5] = [
+    (
+        "session\nput 1 docs/readme x:68656c6c6f2c2067697a61\nsettle 1\nget 1 docs/readme\nsettle 1\n",
+        "n = 5\nqc = 3\nqf = 4\nk = 3\nm = 2\nf = 1\norder = \"parallel\"\n",
+        "1.1 put docs/readme 68656c6c6f2c2067697a61 2 30 ok 1\n1.2 get docs/readme - 31 45 bytes 1 1.1 68656c6c6f2c2067697a61\nend 2 45 0\n",
+    ),
+    (
+        "session\nsession\nput 1 a x:01\nput 2 a x:02\ntake 1\ntake 2\ntake 3\ntake 12\ntake 13\ntake 11\ndeliver 21\ndeliver 22\nsettle 1\nsettle 2\n",
+        "n = 5\nqc = 3\nqf = 4\n",
+        "1.1 put a 01 3 50 ok 1\n2.1 put a 02 4 82 ok 2\nend 2 82 0\n",
+    ),
+    (
+        "session\nput 1 a x:0102\ntake 1\ntake 2\ndeliver 7\ndeliver 7\nreply 7 2\n",
+        "tries = 1\n",
+        "1.1 put a 0102 2 9 unsure contended 1\nend 1 9 0\n",
+    ),
+    (
+        "session\nput 1 a x:0102\nsettle 1 without 1,2\n",
+        "order = \"blobs-first\"\n",
+        "1.1 put a 0102 2 6 short 1\nend 1 6 0\n",
+    ),
+    (
+        "session\nput 1 a x:0102\ntake 1\ntake 2\ntake 3\ndeliver 4\ndeliver 5\ndeliver 7\ndeliver 8\ncrash 1\nsession\nget 2 a\ntake 10\ntake 11\ntake 12\ndeliver 13\ndeliver 13\nreply 13 2\n",
+        "tries = 1\n",
+        "1.1 put a 0102 2 - open\n2.1 get a - 15 24 contended 1\nend 2 24 0\n",
+    ),
+];
+
+#[test]
+fn replays_under_configurations(rt: HostRuntime) -> Result<(), Fail> {
+    for (text, config, log) in &UNDER {
+        let case = Case {
+            text: text.as_bytes(),
+            ..configured(config.as_bytes(), 0, "done", log)
+        };
+        assert!(rt; holds(rt.alloc(), &case)?);
+    }
+    Ok(())
+}
+
+/// A refused configuration comes before a schedule that can't be read, and a file of a configuration before its text.
+#[test]
+fn the_configuration_comes_first(rt: HostRuntime) -> Result<(), Fail> {
+    let refused = Case {
+        text: b"pat 1 a\n",
+        ..configured(b"n = 17\n", 6, "config: sites", "")
     };
-    assert!(rt; holds(rt.alloc(), &none)?);
-    assert!(rt; comment_ends(rt.alloc(), 65_537, 5, "file too large s", "")?);
-    assert!(rt; comment_ends(rt.alloc(), 65_536, 0, "done", "end 0 0 0\n")?);
+    assert!(rt; holds(rt.alloc(), &refused)?);
+    let absent = Case {
+        words: &["replay", "none", "c"],
+        ..configured(b"n = 17\n", 6, "config: sites", "")
+    };
+    assert!(rt; holds(rt.alloc(), &absent)?);
+    let unread = Case {
+        shelf_fails: 1,
+        ..configured(b"n = 17\n", 3, "cannot read c", "")
+    };
+    assert!(rt; holds(rt.alloc(), &unread)?);
+    let second = Case {
+        shelf_fails: 2,
+        ..configured(b"", 3, "cannot read s", "")
+    };
+    assert!(rt; holds(rt.alloc(), &second)?);
     Ok(())
 }
 

@@ -1,17 +1,16 @@
-use Rattle.std.proofs.Common.{rules, List, ℕ, Err, subst}
+use Rattle.std.proofs.Common.{List, ℕ, Err, subst}
 use Rattle.gz_lines.specs.Schedule.{readings, Reads}
-use Rattle.gz_cli.specs.Runs.{Counts, HasBytes}
+use Rattle.gz_cli.specs.Causes.{Counts}
 use Rattle.gz_cli.proofs.TextLemmas.{text-cause}
-use Rattle.gz_cli.proofs.load.load.Goals as goal
+use Rattle.gz_cli.proofs.load.lines.Goals as goal
 
 pub returns-in-Ok-clause-cause : goal.returns-in-Ok-clause-cause
 returns-in-Ok-clause-cause g c =
     let F = g.F.Shelf in
     let before = c.args.shelf.now in
-    let after = c.read.new.self in
+    let after = c.read.new.shelf in
     let bytes = c.in-Ok.bytes.items in
     let old : Counts = record { faults = F.faults before; absences = F.absences before; excesses = F.excesses before; sink = 0 } in
     let new : Counts = record { faults = F.faults after; absences = F.absences after; excesses = F.excesses after; sink = 0 } in
-    let has : HasBytes (F.files before) c.args.name.now bytes = search rules in
     let reads : Reads (readings bytes) (Err c.in-Err-read_schedule.error) = subst (λ (b : List ℕ). Reads (readings b) (Err c.in-Err-read_schedule.error)) c.as_slice.ensures.value c.in-Err-read_schedule.ensures.exact in
-    rw c.bad_text.ensures (text-cause (F.files before) c.args.name.now bytes old new c.in-Err-read_schedule.error has reads)
+    rw c.bad_text.ensures (text-cause (F.files before) c.args.name.now bytes old new c.in-Err-read_schedule.error c.in-Ok.ensures.bytes reads)
