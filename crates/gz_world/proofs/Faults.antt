@@ -11,7 +11,7 @@ use Rattle.gz_site.specs.declared.sites.RowRead.TheVariants as reads
 use Rattle.gz_site.specs.declared.sites.RowWrite.{RowWrite}
 use Rattle.gz_site.specs.declared.sites.RowWrite.TheVariants as writes
 use Rattle.gz_world.specs.States.{RequestAt, request_of, numbered, with_reply}
-use Rattle.gz_world.specs.Deliveries.{read_reply, write_reply, IsCounted, IsCountedFor, LeavesSites, LeavesOthers, LeavesOthersAt}
+use Rattle.gz_world.specs.Deliveries.{read_reply, write_reply, IsCounted, IsCountedFor, LeavesSites, LeavesOthers, LeavesOthersAt, is_delivery}
 use Rattle.gz_world.specs.Steps.{quiet}
 use Rattle.gz_world.specs.declared.events.Effect.{Effect}
 use Rattle.gz_world.specs.declared.events.Outcome.{Outcome}
@@ -66,14 +66,6 @@ delivery_counts faults old new event m is h = λ n e.
     let both : events.Deliver m ≡ events.Deliver n = sym is ∙ e in
     let same : m ≡ n = cc in
     subst (λ k. IsCountedFor faults old k new) same h
-
-abbrev pub is_delivery : Event → Bool
-is_delivery events.OpenSession = false
-is_delivery (events.Begin session call) = false
-is_delivery (events.Deliver n) = true
-is_delivery (events.Reply n which) = false
-is_delivery (events.GiveUp n) = false
-is_delivery (events.Crash session) = false
 
 -- an event that delivers nothing
 pub other_counts : {S : Type 0} (faults : S → ℕ) (old new : World S) (event other : Event) → event ≡ other → is_delivery other ≡ false → IsCountedAfter faults old event new

@@ -4,6 +4,7 @@ pub mod CastOrder
 pub mod Elements
 pub mod Faults
 pub mod Finishing
+pub mod Idle
 pub mod Lists
 pub mod Members
 pub mod Moving

@@ -1,5 +1,5 @@
 -- The other events, as the program makes them: over the world's own lists.
-use Rattle.std.specs.Prelude.{ℕ, ◌≡◌, ◌≤◌, ◌<◌, ◌+◌, ◌-◌, vec_len, vec_capacity, ◌++◌, ◌∷◌, [], true, false, List, length, map, Option, Some, None, Vec, slice_get, slice_set}
+use Rattle.std.specs.Prelude.{ℕ, ◌≡◌, ◌≢◌, ◌≤◌, ◌<◌, ◌+◌, ◌-◌, Bool, vec_len, vec_capacity, ◌++◌, ◌∷◌, [], true, false, List, length, map, Option, Some, None, Vec, slice_get, slice_set}
 use Rattle.std.specs.declared.alloc.Global.{Global}
 use Rattle.gz_core.specs.declared.requests.Reply.{Reply}
 use Rattle.gz_core.specs.declared.requests.Reply.TheVariants as replies
@@ -75,6 +75,41 @@ LeavesOthers old n new = (r : RequestAt) → numbered (map request_of old.net.it
 -- the same of an event, where it is a delivery
 abbrev pub LeavesOthersAt : {S : Type 0} → World S → Event → World S → Type 0
 LeavesOthersAt old event new = (n : ℕ) → event ≡ events.Deliver n → LeavesOthers old n new
+
+-- the request with this number is another session's
+abbrev pub IsOfAnother : {S : Type 0} → World S → ℕ → ℕ → Type 0
+IsOfAnother old n session = (r : RequestAt) → numbered (map request_of old.net.items) n ≡ Some r → r.name.session ≢ session
+
+-- an event that is none of a session's: it opens or names another one, or is about another one's request, or it is a delivery
+abbrev pub IsNoneOf : {S : Type 0} → World S → Event → ℕ → Type 0
+IsNoneOf old events.OpenSession session = session ≤ length old.clients.items
+IsNoneOf old (events.Begin named call) session = named ≢ session
+IsNoneOf old (events.Deliver n) session = Unit {0}
+IsNoneOf old (events.Reply n which) session = IsOfAnother old n session
+IsNoneOf old (events.GiveUp n) session = IsOfAnother old n session
+IsNoneOf old (events.Crash named) session = named ≢ session
+
+-- an event leaves a session idle that is none of the session's, or is skipped
+abbrev pub IsIdleAt : {S : Type 0} → World S → Event → Outcome → ℕ → Type 0
+IsIdleAt old event outcomes.Done session = IsNoneOf old event session
+IsIdleAt old event (outcomes.Skipped why) session = Unit {0}
+
+-- the clients of sessions that an event leaves idle are as they were
+abbrev pub LeavesClients : {S : Type 0} → World S → Event → Outcome → World S → Type 0
+LeavesClients old event outcome new = (session : ℕ) → IsIdleAt old event outcome session → numbered new.clients.items session ≡ numbered old.clients.items session
+
+abbrev pub is_delivery : Event → Bool
+is_delivery events.OpenSession = false
+is_delivery (events.Begin session call) = false
+is_delivery (events.Deliver n) = true
+is_delivery (events.Reply n which) = false
+is_delivery (events.GiveUp n) = false
+is_delivery (events.Crash session) = false
+
+-- the clients are as they were, and so are the sites where the event is no delivery
+pub record LeavesAll {S : Type 0} (old : World S) (event : Event) (new : World S) : Type 0 where
+  pub clients : new.clients.items ≡ old.clients.items
+  pub sites : is_delivery event ≡ false → new.sites ≡ old.sites
 
 -- no site's state has changed
 abbrev pub AreTheSame : {S : Type 0} → (S → Option Told) → List S → List S → Type 0

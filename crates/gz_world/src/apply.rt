@@ -8,7 +8,7 @@ ghost use Rattle.gz_client.specs.Lowest.{IsLowestLive};
 ghost use Rattle.gz_client.specs.Traces.{live, IsLiveAtIn};
 ghost use Rattle.gz_world.specs.Bridge.{state_of};
 ghost use Rattle.gz_world.specs.Counting.{IsFull};
-ghost use Rattle.gz_world.specs.Deliveries.{IsCountedFor, LeavesSites, LeavesOthersAt};
+ghost use Rattle.gz_world.specs.Deliveries.{IsCountedFor, LeavesSites, LeavesOthersAt, LeavesClients, LeavesAll};
 ghost use Rattle.gz_world.specs.Fits.{FitsBy, Fits, IsFitting, IsBounded};
 ghost use Rattle.gz_world.specs.Refusals.{refusal_of};
 ghost use Rattle.gz_world.specs.Steps.{last_name, name_at, last_call, IsLowestOf, IsEntryOf};
@@ -124,6 +124,8 @@ impl<S: Site> World<S> {
         ensures fault { IfOk result (λ effect. (n : ℕ) → event.now ≡ Event.Deliver n → IsCountedFor S.faults self.old n self.new) }
         ensures sites { IfOk result (λ effect. LeavesSites event.now effect.outcome → self.new.sites ≡ self.old.sites) }
         ensures others { LeavesOthersAt self.old event.now self.new }
+        ensures idle { IfOk result (λ effect. LeavesClients self.old event.now effect.outcome self.new) }
+        ensures kept { OnErr result (LeavesAll self.old event.now self.new) }
     {
         match event {
             Event::OpenSession => self.open_session(),
@@ -146,6 +148,8 @@ impl<S: Site> World<S> {
         ensures fault { IfOk result (λ effect. (n : ℕ) → event.now ≡ Event.Deliver n → IsCountedFor S.faults self.old n self.new) }
         ensures sites { IfOk result (λ effect. LeavesSites event.now effect.outcome → self.new.sites ≡ self.old.sites) }
         ensures others { LeavesOthersAt self.old event.now self.new }
+        ensures idle { IfOk result (λ effect. LeavesClients self.old event.now effect.outcome self.new) }
+        ensures kept { OnErr result (LeavesAll self.old event.now self.new) }
     {
         match self.refusal(event) {
             Some(why) => Ok(quiet(Outcome::Skipped { why }, self.session_of(event))),
@@ -160,6 +164,7 @@ impl<S: Site> World<S> {
         ensures told { (entry : Entry) × (RecordedBy S.told self.old event effect self.new entry × IsReported (length self.new.journal.items) entry effect result) }
         ensures net { self.new.net ≡ self.old.net }
         ensures sites { self.new.sites ≡ self.old.sites }
+        ensures clients { self.new.clients ≡ self.old.clients }
         ensures outcome { result.outcome ≡ effect.outcome }
     {
         let tick = self.next_tick();
@@ -195,6 +200,8 @@ impl<S: Site> World<S> {
         ensures fault { IfOk result (λ applied. (n : ℕ) → event ≡ Event.Deliver n → IsCountedFor S.faults self.old n self.new) }
         ensures sites { IfOk result (λ applied. LeavesSites event applied.outcome → self.new.sites ≡ self.old.sites) }
         ensures others { LeavesOthersAt self.old event self.new }
+        ensures idle { IfOk result (λ applied. LeavesClients self.old event applied.outcome self.new) }
+        ensures kept { OnErr result (LeavesAll self.old event self.new) }
     {
         self.journal.reserve(1)?;
         let effect = self.do_event(&event)?;
@@ -218,6 +225,12 @@ impl<S: Site> World<S> {
 
         // A delivery touches the site of its request alone, whatever comes of it.
         ensures others { LeavesOthersAt self.old event self.new }
+
+        // The client of a session is as it was, unless the event is one of the session's and is done.
+        ensures idle { IfOk result (λ applied. LeavesClients self.old event applied.outcome self.new) }
+
+        // Where an event isn't taken, for want of memory or room, no client has changed, and no site but that of a delivery was reached.
+        ensures kept { OnErr result (LeavesAll self.old event self.new) }
 
         // Full comes exactly at the bounds, and leaves all as it was; want of memory comes first, once it came.
         ensures full { (result ≡ Err ApplyError.Full) ↔ ((self.old.spent ≡ false) × IsFull self.old) }

@@ -28,7 +28,9 @@ returns-in-Some g c = record {
   fault = skipped_counts g.S.Site.told g.S.Site.faults c.args.self.now c.requires.fits.0 c.args.event.now c.in-Some.why (sym c.in-Some.is ∙ c.refusal.ensures c.requires.fits.0 c.requires.fits.1);
   sites = λ l. refl;
   others = λ n e r there i off. refl;
+  idle = λ session idle. refl;
+  kept = tt;
 }
 
 pub returns-in-None : goal.returns-in-None
-returns-in-None g c = record { acts = c.happen.ensures.acts; err = c.happen.ensures.err; journal = c.happen.ensures.journal; fault = c.happen.ensures.fault; sites = c.happen.ensures.sites; others = c.happen.ensures.others }
+returns-in-None g c = record { acts = c.happen.ensures.acts; err = c.happen.ensures.err; journal = c.happen.ensures.journal; fault = c.happen.ensures.fault; sites = c.happen.ensures.sites; others = c.happen.ensures.others; idle = c.happen.ensures.idle; kept = c.happen.ensures.kept }

@@ -4,8 +4,9 @@ use Rattle.gz_world.specs.Bridge.{state_of}
 use Rattle.gz_world.specs.Refusals.{refusal_of}
 use Rattle.gz_world.specs.Told.{ActsBy, StaysBy}
 use Rattle.gz_world.specs.Turns.{IsSameWorld, Began, WasHanded, WasGivenUp}
-use Rattle.gz_world.specs.Deliveries.{IsSameTold, IsCountedFor, LeavesSites, WasDelivered, WasOpened}
+use Rattle.gz_world.specs.Deliveries.{IsSameTold, IsCountedFor, LeavesSites, LeavesClients, LeavesAll, WasDelivered, WasOpened}
 use Rattle.gz_world.specs.declared.events.Event.TheVariants as events
+use Rattle.gz_world.proofs.Idle.{open_idle, begin_idle, deliver_idle, hand_idle, give_up_idle, crash_idle, is_no_delivery}
 use Rattle.gz_world.proofs.Results.{if_ok_map, if_ok_any, on_err_map}
 use Rattle.gz_world.proofs.Faults.{IsCountedAfter, delivery_counts, delivery_reaches, delivery_leaves, other_counts, other_leaves}
 use Rattle.gz_world.proofs.Performing.{begin_acts, hand_acts, give_up_acts, deliver_acts, open_acts, crash_acts, stays_told, stays_same, both_keep, there_by, open_by, begin_ready, tell_ready, reply_ready}
@@ -56,6 +57,8 @@ returns-in-OpenSession g c =
       fault = if_ok_any c.open_session.result (λ effect. IsCountedAfter g.S.Site.faults old c.args.event.now new) (λ effect. other_counts g.S.Site.faults old new c.args.event.now events.OpenSession c.in-OpenSession.is refl);
       sites = if_ok_map c.open_session.result (λ effect. WasOpened old new effect) (λ effect. LeavesSites c.args.event.now effect.outcome → new.sites ≡ old.sites) (λ effect h l. h.1.rest.sites) c.open_session.ensures.ok;
       others = other_leaves old new c.args.event.now events.OpenSession c.in-OpenSession.is refl;
+      idle = if_ok_map c.open_session.result (λ effect. WasOpened old new effect) (λ effect. LeavesClients old c.args.event.now effect.outcome new) (λ effect h. open_idle old new c.args.event.now effect c.in-OpenSession.is h) c.open_session.ensures.ok;
+      kept = on_err_map c.open_session.result (IsSameWorld old new) (LeavesAll old c.args.event.now new) (λ s. record { clients = s.clients; sites = λ none. s.rest.sites }) c.open_session.ensures.err;
     }
 
 pub returns-in-Begin : goal.returns-in-Begin
@@ -71,6 +74,8 @@ returns-in-Begin g c =
       fault = if_ok_any c.begin.result (λ effect. IsCountedAfter g.S.Site.faults old c.args.event.now new) (λ effect. other_counts g.S.Site.faults old new c.args.event.now (events.Begin c.in-Begin.session c.in-Begin.call) c.in-Begin.is refl);
       sites = if_ok_map c.begin.result (λ effect. Began old new c.in-Begin.session c.in-Begin.call effect) (λ effect. LeavesSites c.args.event.now effect.outcome → new.sites ≡ old.sites) (λ effect h l. h.1.1.1.1.rest.sites) c.begin.ensures.ok;
       others = other_leaves old new c.args.event.now (events.Begin c.in-Begin.session c.in-Begin.call) c.in-Begin.is refl;
+      idle = if_ok_map c.begin.result (λ effect. Began old new c.in-Begin.session c.in-Begin.call effect) (λ effect. LeavesClients old c.args.event.now effect.outcome new) (λ effect h. begin_idle old new c.args.event.now c.in-Begin.session c.in-Begin.call effect c.in-Begin.is h) c.begin.ensures.ok;
+      kept = on_err_map c.begin.result (IsSameWorld old new) (LeavesAll old c.args.event.now new) (λ s. record { clients = s.clients; sites = λ none. s.rest.sites }) c.begin.ensures.err;
     }
 
 pub returns-in-Deliver : goal.returns-in-Deliver
@@ -87,6 +92,8 @@ returns-in-Deliver g c =
       sites = if_ok_map c.deliver.result (λ effect. WasDelivered told old new c.in-Deliver.n effect) (λ effect. LeavesSites c.args.event.now effect.outcome → new.sites ≡ old.sites)
           (λ effect h l. absurd (delivery_reaches c.args.event.now c.in-Deliver.n effect (Some h.0.name.session) c.in-Deliver.is h.1.1.effect_is l)) c.deliver.ensures.ok;
       others = delivery_leaves old new c.args.event.now c.in-Deliver.n c.in-Deliver.is c.deliver.ensures.others;
+      idle = if_ok_map c.deliver.result (λ effect. WasDelivered told old new c.in-Deliver.n effect) (λ effect. LeavesClients old c.args.event.now effect.outcome new) (λ effect h. deliver_idle told old new c.args.event.now c.in-Deliver.n effect c.in-Deliver.is h) c.deliver.ensures.ok;
+      kept = on_err_map c.deliver.result (IsSameTold told old new) (LeavesAll old c.args.event.now new) (λ s. record { clients = s.clients; sites = λ none. absurd (is_no_delivery c.args.event.now c.in-Deliver.n c.in-Deliver.is none) }) c.deliver.ensures.err;
     }
 
 pub returns-in-Reply : goal.returns-in-Reply
@@ -102,6 +109,8 @@ returns-in-Reply g c =
       fault = if_ok_any c.hand.result (λ effect. IsCountedAfter g.S.Site.faults old c.args.event.now new) (λ effect. other_counts g.S.Site.faults old new c.args.event.now (events.Reply c.in-Reply.n c.in-Reply.which) c.in-Reply.is refl);
       sites = if_ok_map c.hand.result (λ effect. WasHanded old new c.in-Reply.n c.in-Reply.which effect) (λ effect. LeavesSites c.args.event.now effect.outcome → new.sites ≡ old.sites) (λ effect h l. h.1.1.1.1.1.1.1.1.rest.sites) c.hand.ensures.ok;
       others = other_leaves old new c.args.event.now (events.Reply c.in-Reply.n c.in-Reply.which) c.in-Reply.is refl;
+      idle = if_ok_map c.hand.result (λ effect. WasHanded old new c.in-Reply.n c.in-Reply.which effect) (λ effect. LeavesClients old c.args.event.now effect.outcome new) (λ effect h. hand_idle old new c.requires.fits.0 c.args.event.now c.in-Reply.n c.in-Reply.which effect c.requires.fits.1 c.in-Reply.is h) c.hand.ensures.ok;
+      kept = on_err_map c.hand.result (IsSameWorld old new) (LeavesAll old c.args.event.now new) (λ s. record { clients = s.clients; sites = λ none. s.rest.sites }) c.hand.ensures.err;
     }
 
 pub returns-in-GiveUp : goal.returns-in-GiveUp
@@ -117,6 +126,8 @@ returns-in-GiveUp g c =
       fault = if_ok_any c.give_up.result (λ effect. IsCountedAfter g.S.Site.faults old c.args.event.now new) (λ effect. other_counts g.S.Site.faults old new c.args.event.now (events.GiveUp c.in-GiveUp.n) c.in-GiveUp.is refl);
       sites = if_ok_map c.give_up.result (λ effect. WasGivenUp old new c.in-GiveUp.n effect) (λ effect. LeavesSites c.args.event.now effect.outcome → new.sites ≡ old.sites) (λ effect h l. h.1.1.1.1.1.1.rest.sites) c.give_up.ensures.ok;
       others = other_leaves old new c.args.event.now (events.GiveUp c.in-GiveUp.n) c.in-GiveUp.is refl;
+      idle = if_ok_map c.give_up.result (λ effect. WasGivenUp old new c.in-GiveUp.n effect) (λ effect. LeavesClients old c.args.event.now effect.outcome new) (λ effect h. give_up_idle old new c.requires.fits.0 c.args.event.now c.in-GiveUp.n effect c.requires.fits.1 c.in-GiveUp.is h) c.give_up.ensures.ok;
+      kept = on_err_map c.give_up.result (IsSameWorld old new) (LeavesAll old c.args.event.now new) (λ s. record { clients = s.clients; sites = λ none. s.rest.sites }) c.give_up.ensures.err;
     }
 
 pub returns-in-Crash : goal.returns-in-Crash
@@ -131,4 +142,6 @@ returns-in-Crash g c =
       fault = other_counts g.S.Site.faults old new c.args.event.now (events.Crash c.in-Crash.session) c.in-Crash.is refl;
       sites = λ l. c.crash.ensures.1.rest.sites;
       others = other_leaves old new c.args.event.now (events.Crash c.in-Crash.session) c.in-Crash.is refl;
+      idle = crash_idle old new c.args.event.now c.in-Crash.session c.crash.result c.in-Crash.is c.crash.ensures;
+      kept = tt;
     }

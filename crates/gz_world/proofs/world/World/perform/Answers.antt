@@ -1,7 +1,8 @@
 use Rattle.std.proofs.Common.{refl, subst, ◌∙◌}
-use Rattle.gz_world.specs.Deliveries.{LeavesSites}
+use Rattle.gz_world.specs.Deliveries.{LeavesSites, LeavesAll}
 use Rattle.gz_world.specs.Told.{StaysBy}
 use Rattle.gz_world.specs.declared.events.Outcome.{Outcome}
+use Rattle.gz_world.proofs.Idle.{clients_between}
 use Rattle.gz_world.proofs.Results.{on_err_any}
 use Rattle.gz_world.proofs.Performing.{steps_of, stays_reserved, stays_then, fits_kept_by}
 use Rattle.gz_world.proofs.Faults.{counted_then, leaves_between}
@@ -37,3 +38,16 @@ returns-clause-sites g c = λ l. c.enter.ensures.sites ∙ c.in_ok-effect.ensure
 
 pub returns-clause-others : goal.returns-clause-others
 returns-clause-others g c = leaves_between c.args.self.now (record c.args.self.now { journal = c.reserve.new.self }) c.do_event.new.self c.enter.new.self c.args.event refl refl c.enter.ensures.sites c.do_event.ensures.others
+
+pub returns-clause-idle : goal.returns-clause-idle
+returns-clause-idle g c =
+    clients_between c.args.self.now (record c.args.self.now { journal = c.reserve.new.self }) c.do_event.new.self c.enter.new.self c.args.event c.in_ok-effect.effect.outcome c.enter.result.outcome refl refl c.enter.ensures.clients c.enter.ensures.outcome c.in_ok-effect.ensures.idle
+
+pub returns-in_err-reserve-clause-kept : goal.returns-in_err-reserve-clause-kept
+returns-in_err-reserve-clause-kept g c =
+    let v = record c.args.self.now { journal = c.reserve.new.self } in
+    on_err_any c.from_residual.result (LeavesAll c.args.self.now c.args.event v) (record { clients = refl; sites = λ none. refl })
+
+pub returns-in_err-effect-clause-kept : goal.returns-in_err-effect-clause-kept
+returns-in_err-effect-clause-kept g c =
+    on_err_any c.from_residual-in_err-effect.result (LeavesAll c.args.self.now c.args.event c.do_event.new.self) (record { clients = c.in_err-effect.ensures.kept.clients; sites = c.in_err-effect.ensures.kept.sites })
