@@ -69,7 +69,7 @@ known s reached tells = record {
   blobs = blobs_sent s reached tells;
 }
 
-fits_256 : (c : Config) → IsConfig c → c.k + c.m ≤ 256
+pub fits_256 : (c : Config) → IsConfig c → c.k + c.m ≤ 256
 fits_256 c config = let pieces = config.pieces in let sites = config.sites in omega (arith, pieces, sites)
 
 -- two calls of one name are one

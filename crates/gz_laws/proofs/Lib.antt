@@ -5,6 +5,7 @@ pub mod Asking
 pub mod Beginning
 pub mod BlobSites
 pub mod BlobSteps
+pub mod BlobsKept
 pub mod BlobsSent
 pub mod Bounding
 pub mod ByPieces

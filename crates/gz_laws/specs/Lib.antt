@@ -8,6 +8,7 @@ pub mod Exchanged
 pub mod Given
 pub mod Going
 pub mod Heard
+pub mod Kept
 pub mod Listed
 pub mod Overtaken
 pub mod Pieces

@@ -3,8 +3,11 @@
 ghost use Rattle.gz_world.specs.States.{State};
 ghost use Rattle.std.specs.Prelude.{List, ℕ};
 ghost use Rattle.gz_world.specs.Reached.{IsReached, AllTell};
+ghost use Rattle.gz_world.specs.Steps.{WorldStep};
+ghost use Rattle.gz_world.specs.declared.events.Event.{Event};
 ghost use Rattle.gz_laws.specs.Blobs.{AreBlobsSent};
 ghost use Rattle.gz_laws.specs.Given.{AreGivenBack};
+ghost use Rattle.gz_laws.specs.Kept.{AreBlobsKept, BlobsStay};
 ghost use Rattle.gz_laws.specs.Pieces.{AreByPieces};
 ghost use Rattle.gz_laws.specs.Serial.{IsOneRegister};
 
@@ -13,6 +16,15 @@ ghost use Rattle.gz_laws.specs.Serial.{IsOneRegister};
 /// the one that such a request sent to this site under its name, or has another digest.
 pub fn blobs_are_sent()
     ensures { (s : State) → IsReached s → AllTell s → AreBlobsSent s }
+{}
+
+/// What a site replied to have stored, in a world that is reached and whose sites tell what they hold, lies there with the bytes that were
+/// sent, unless a request to drop it was performed at this site since. And whatever lies at a site, be it that the site replied that it
+/// failed to store it, stays there through an event, but where the event performs a request that stores bytes in its place, or drops it. No
+/// call of a world sends a request to drop anything yet.
+pub fn blobs_are_kept()
+    ensures stored { (s : State) → IsReached s → AllTell s → AreBlobsKept s }
+    ensures stay { (old new : State) (event : Event) → WorldStep old event new → BlobsStay old event new }
 {}
 
 /// In a world that is reached and whose sites tell what they hold, the bytes that a call answers are those that the put which it
