@@ -29,6 +29,7 @@ pub mod Keys
 pub mod LastRows
 pub mod Legality
 pub mod Listing
+pub mod LogFits
 pub mod Nets
 pub mod OneRegister
 pub mod Ordered
@@ -52,6 +53,7 @@ pub mod SendBounds
 pub mod Sending
 pub mod Serializing
 pub mod Standing
+pub mod Tallies
 pub mod Traces
 pub mod Values
 pub mod Valuing

@@ -10,6 +10,7 @@ pub mod Going
 pub mod Heard
 pub mod Kept
 pub mod Listed
+pub mod Logged
 pub mod Overtaken
 pub mod Pieces
 pub mod Placed
