@@ -1,5 +1,5 @@
 -- The calls of a world can be told by a log: each is within the bounds that a log has.
-use Rattle.std.proofs.Common.{◌≡◌, ℕ, zero, suc, ◌+◌, ◌≤◌, ◌<◌, ◌^◌, ◌*◌, ◌⊎◌, inl, inr, List, [], ◌∷◌, Bool, Some, None, true, false, length, refl, ap, sym, ◌∙◌, subst, arith}
+use Rattle.std.proofs.Common.{◌≡◌, ℕ, suc, ◌+◌, ◌≤◌, ◌*◌, inl, inr, List, [], ◌∷◌, Bool, Some, None, true, false, length, refl, ap, sym, ◌∙◌, subst, arith}
 use Rattle.std.proofs.lemmas.Bool.{or_cases}
 use Rattle.std.proofs.lemmas.List.Elements.{All-cons, All-nil}
 use Rattle.std.specs.List.{All}
@@ -7,33 +7,29 @@ use Rattle.std.specs.Prelude.{Option, if◌then◌else◌, is_some, slice_get}
 use Rattle.gz_config.specs.declared.Config.{Config}
 use Rattle.gz_core.proofs.Ballots.{name_means}
 use Rattle.gz_core.proofs.Counting.{count_most}
-use Rattle.gz_core.specs.Calls.{key_of}
-use Rattle.gz_core.specs.Configurations.{IsConfig}
 use Rattle.gz_core.specs.Names.{Name, same_name}
 use Rattle.gz_core.specs.Puts.{PutData}
 use Rattle.gz_core.specs.declared.calls.Answer.{Answer}
-use Rattle.gz_core.specs.declared.calls.Answer.TheVariants.{Ok, Thin, Short, Bytes, Incomplete, Gone, Absent, Unborn, Collected, Swept, Held, NoQuorum, Contended, Unsure}
+use Rattle.gz_core.specs.declared.calls.Answer.TheVariants.{Ok, Thin, Short, Bytes, Incomplete, Gone, Absent, NoQuorum, Contended, Unsure}
 use Rattle.gz_core.specs.declared.calls.UnsureWhy.{UnsureWhy}
 use Rattle.gz_core.specs.declared.calls.UnsureWhy.TheVariants.{NoQuorum as UnsureNoQuorum, Contended as UnsureContended, Trimmed as UnsureTrimmed}
 use Rattle.gz_core.specs.declared.calls.Call.{Call}
 use Rattle.gz_core.specs.declared.calls.Call.TheVariants.{Put, Delete, Get, GetAt, Collect}
 use Rattle.gz_core.specs.declared.fates.Fate.{Fate}
 use Rattle.gz_core.specs.declared.requests.Op.{Op}
-use Rattle.gz_core.specs.declared.requests.Op.TheVariants.{ReadRow, WriteRow, PutBlob, GetBlob, DropBlob}
+use Rattle.gz_core.specs.declared.requests.Op.TheVariants.{ReadRow, WriteRow}
 use Rattle.gz_core.specs.declared.requests.RowStep.{RowStep}
 use Rattle.gz_core.specs.declared.requests.RowStep.TheVariants.{FastVote, Promise, ClassicVote, Decide, Trim}
 use Rattle.gz_core.specs.declared.values.Value.{Value}
 use Rattle.gz_core.specs.declared.values.Value.TheVariants.{Put as PutOf, Tomb}
 use Rattle.gz_core.specs.Values.{name_of}
-use Rattle.gz_core.specs.History.{Asked, Action, Sent, Handed, GaveUp, Rested, GaveIn, Caller, Trace, is_row_request}
-use Rattle.gz_data.specs.Blobs.{stores, is_stored, is_put_blob, stored}
-use Rattle.gz_data.specs.Own.{IsOwn}
-use Rattle.gz_round.specs.Causes.{IsLearnt, IsValueHeard, IsCutOff, IsOvertaken, EndsBy, UnsureCause}
+use Rattle.gz_core.specs.History.{Action, Sent, Handed, GaveUp, Rested, GaveIn, Trace, is_row_request}
+use Rattle.gz_data.specs.Blobs.{stores, stored}
+use Rattle.gz_round.specs.Causes.{IsLearnt, IsValueHeard, UnsureCause}
 use Rattle.gz_round.specs.Counting.{known_count}
-use Rattle.gz_round.specs.Rounds.{IsValueKnown}
 use Rattle.gz_round.specs.Sending.{AreAllowed, MayAsk, MayMake}
 use Rattle.gz_round.specs.Shown.{IsShown}
-use Rattle.gz_round.specs.Sent.{of_step, of_sent, passes_sent, vote_by, voted, met, overtakes}
+use Rattle.gz_round.specs.Sent.{of_step, passes_sent, vote_by, voted, met, overtakes}
 use Rattle.gz_round.specs.Sites.{SiteNow, site_now, known as known_row}
 use Rattle.gz_round.specs.Starting.{IsWithin}
 use Rattle.gz_client.specs.Blobs.{is_put}
@@ -47,12 +43,12 @@ use Rattle.gz_logs.specs.declared.kinds.Kind.{Kind}
 use Rattle.gz_logs.specs.declared.kinds.Kind.TheVariants as kinds
 use Rattle.gz_logs.specs.declared.kinds.Told.TheVariants as told
 use Rattle.gz_world.specs.Reached.{IsReached, AllTell}
-use Rattle.gz_world.specs.States.{RequestAt, State}
+use Rattle.gz_world.specs.States.{State}
 use Rattle.gz_laws.specs.Bounded.{IsRowWithin, EachRow}
 use Rattle.gz_laws.specs.Carried.{ActionsCarried, TracesCarried}
 use Rattle.gz_laws.specs.Each.{EachTrace}
 use Rattle.gz_laws.specs.Given.{GivesBack, AreGivenBack}
-use Rattle.gz_laws.specs.Listed.{IsTraceOf, IsAmong, AreCallsListed}
+use Rattle.gz_laws.specs.Listed.{IsTraceOf, IsAmong}
 use Rattle.gz_laws.specs.Logged.{IsTyped, AreTyped}
 use Rattle.gz_laws.specs.Placed.{ArePlaced}
 use Rattle.gz_laws.specs.Valued.{IsGiven}

@@ -1,7 +1,7 @@
 -- A world has no more calls and sessions than events, and no call was told of more replies and give-ups.
-use Rattle.std.proofs.Common.{◌≡◌, ◌≢◌, ℕ, zero, suc, ◌+◌, ◌-◌, ◌≤◌, ◌⊎◌, inl, inr, List, [], ◌∷◌, ◌++◌, Bool, Some, None, true, false, length, refl, ap, sym, ◌∙◌, subst, arith, length-append, length-set}
+use Rattle.std.proofs.Common.{◌≡◌, ℕ, ◌+◌, ◌≤◌, inl, inr, List, [], ◌∷◌, ◌++◌, Bool, Some, None, true, false, length, refl, ap, sym, ◌∙◌, subst, arith, length-append, length-set}
 use Rattle.std.proofs.lemmas.Bool.{cases_eq, cases_Bool, and_parts, leb-true}
-use Rattle.std.specs.Prelude.{Option, MatchOption, ◌&&◌, not, nat_le, if◌then◌else◌}
+use Rattle.std.specs.Prelude.{Option, MatchOption, not, nat_le, if◌then◌else◌}
 use Rattle.gz_config.specs.declared.Config.{Config}
 use Rattle.gz_core.specs.declared.calls.Call.{Call}
 use Rattle.gz_core.specs.declared.requests.Out.{Out}
@@ -10,7 +10,7 @@ use Rattle.gz_client.specs.Traces.{IsClosed}
 use Rattle.gz_world.specs.Reached.{IsOpening, IsReached, opened, stepped}
 use Rattle.gz_world.specs.Refusals.{refusal_of, is_open, or_next_skip}
 use Rattle.gz_world.specs.States.{State, next_of, with_handed, with_given_up, tick_of}
-use Rattle.gz_world.specs.Steps.{SessionMoves, BeginsBy, TurnBy, TakesTurn, HasEffect, Does, Skips, WorldStep, answered, hears}
+use Rattle.gz_world.specs.Steps.{SessionMoves, TurnBy, TakesTurn, HasEffect, Does, Skips, answered, hears}
 use Rattle.gz_world.specs.States.{RequestAt}
 use Rattle.gz_world.specs.declared.events.Effect.{Effect}
 use Rattle.gz_world.specs.declared.events.Entry.{Entry}

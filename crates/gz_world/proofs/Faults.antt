@@ -1,5 +1,5 @@
 -- What a delivery leaves: a reply that reports a fault only where its site counted one, and the other sites as they were.
-use Rattle.std.proofs.Common.{◌≡◌, ℕ, ◌+◌, ◌-◌, ◌≤◌, List, [], ◌∷◌, ◌++◌, Bool, true, false, Some, None, length, map, ap, sym, ◌∙◌, subst, length-append, arith}
+use Rattle.std.proofs.Common.{◌≡◌, ℕ, ◌+◌, ◌-◌, ◌≤◌, List, [], ◌∷◌, ◌++◌, true, false, Some, None, length, map, ap, sym, ◌∙◌, subst, length-append, arith}
 use Rattle.std.specs.Prelude.{Option, is_none, if◌then◌else◌, slice_get, slice_set}
 use Rattle.std.proofs.lemmas.Option.{same_Some, some_pair_parts}
 use Rattle.gz_core.specs.Causes.{Rose}

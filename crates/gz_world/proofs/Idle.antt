@@ -1,6 +1,6 @@
 -- The clients of sessions that an event leaves idle are as they were.
-use Rattle.std.proofs.Common.{◌≡◌, ◌≢◌, ℕ, zero, suc, ◌+◌, ◌-◌, ◌≤◌, ◌<◌, List, [], ◌∷◌, ◌++◌, Some, None, length, map, refl, ap, sym, ◌∙◌, subst, arith}
-use Rattle.std.specs.Prelude.{Option, true, false, slice_get, slice_set}
+use Rattle.std.proofs.Common.{◌≡◌, ◌≢◌, ℕ, zero, suc, ◌-◌, ◌≤◌, List, [], ◌∷◌, ◌++◌, None, length, map, refl, ap, sym, ◌∙◌, subst, arith}
+use Rattle.std.specs.Prelude.{Option, true, false, slice_set}
 use Rattle.gz_core.specs.History.{Trace, Asked, Action}
 use Rattle.gz_core.specs.declared.requests.Turn.{Turn}
 use Rattle.gz_client.specs.declared.client.Client.{Client}
