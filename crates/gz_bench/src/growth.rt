@@ -1,8 +1,7 @@
 //! Calls on many objects or on one, played over three sites in memory.
 ghost use Rattle.std.specs.Prelude.{◌≡◌, ◌<◌, ◌≤◌, IfOk, All};
 ghost use Rattle.gz_core.specs.Configurations.{IsConfig};
-ghost use Rattle.gz_lines.specs.Schedule.{IsBoundedLine};
-ghost use Rattle.gz_round.specs.Starting.{IsWithin};
+ghost use Rattle.gz_lines.specs.Schedule.{IsBoundedCall, IsBoundedLine};
 ghost use Rattle.gz_world.specs.Fits.{IsFitting};
 
 use anyhow::{Result, bail, ensure};
@@ -116,7 +115,7 @@ fn key_of(alloc: Global, object: u32) -> Result<Key> {
 
 /// The call with a number, counted from 0.
 fn call_of(alloc: Global, load: Load, i: u32) -> Result<Call>
-    ensures { IfOk result (λ call. IsWithin call) }
+    ensures { IfOk result (λ call. IsBoundedCall call) }
 {
     match load {
         Load::Rewrites => put_of(alloc, 0),
@@ -127,7 +126,7 @@ fn call_of(alloc: Global, load: Load, i: u32) -> Result<Call>
 
 /// A put of eight bytes.
 fn put_of(alloc: Global, object: u32) -> Result<Call>
-    ensures { IfOk result (λ call. IsWithin call) }
+    ensures { IfOk result (λ call. IsBoundedCall call) }
 {
     let key = key_of(alloc, object)?;
     let bytes = Items::from_slice(alloc, &[1, 2, 3, 4, 5, 6, 7, 8])?;
@@ -135,7 +134,7 @@ fn put_of(alloc: Global, object: u32) -> Result<Call>
 }
 
 fn get_of(alloc: Global, object: u32) -> Result<Call>
-    ensures { IfOk result (λ call. IsWithin call) }
+    ensures { IfOk result (λ call. IsBoundedCall call) }
 {
     let key = key_of(alloc, object)?;
     Ok(Call::Get { key })
@@ -143,7 +142,7 @@ fn get_of(alloc: Global, object: u32) -> Result<Call>
 
 /// The line that begins a call.
 pub fn begin(call: Call) -> Line
-    requires { IsWithin call }
+    requires { IsBoundedCall call }
     ensures { IsBoundedLine result }
 {
     Line::Begin {

@@ -2,7 +2,7 @@
 //! coding, and copies of what is kept twice.
 ghost use Rattle.std.specs.Prelude.{◌≡◌, ◌≤◌, ◌+◌, IfOk, All, length};
 ghost use Rattle.gz_core.specs.Configurations.{IsConfig};
-ghost use Rattle.gz_round.specs.Starting.{IsWithin};
+ghost use Rattle.gz_lines.specs.Schedule.{IsBoundedCall};
 
 use crate::growth::{begin, open_with, settle, time_of_play};
 use crate::work::Piece;
@@ -100,7 +100,7 @@ fn time_calls(rt: &HostRuntime, config: Config, object: &[u8]) -> Result<(u128, 
 
 /// The put of the object.
 fn put_of(alloc: Global, object: &[u8]) -> Result<Call>
-    ensures { IfOk result (λ call. IsWithin call) }
+    ensures { IfOk result (λ call. IsBoundedCall call) }
 {
     ensure!(
         object.len() <= 1_048_576,

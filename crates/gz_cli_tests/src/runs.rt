@@ -120,7 +120,7 @@ fn holds(alloc: Global, case: &Case) -> Result<bool, AllocError> {
 }
 
 /// Schedules, each with the status and the log of its replay.
-static SCHEDULES: [(&str, u8, &str, &str); 25] = [
+static SCHEDULES: [(&str, u8, &str, &str); 26] = [
     (PUT_GET, 0, "done", PUT_GET_LOG),
     (
         "session\nget 1 a\nsettle 1\n",
@@ -232,7 +232,13 @@ static SCHEDULES: [(&str, u8, &str, &str); 25] = [
         "done",
         "1.1 put a 0102 2 - open\n2.1 get a - 14 34 bytes 1 1.1 0102\n2.2 get a - 35 43 bytes 1 1.1 0102\nend 3 43 0\n",
     ),
-    ("session\ngetat 1 a 1\n", 7, "line 2: unbuilt", ""),
+    (
+        "session\nput 1 a x:0102\nsettle 1\nput 1 a x:03\nsettle 1\ndelete 1 a\nsettle 1\ngetat 1 a 1\nsettle 1\ngetat 1 a 3\nsettle 1\ngetat 1 a 4\nsettle 1\ngetat 1 b 1\nsettle 1\n",
+        0,
+        "done",
+        "1.1 put a 0102 2 20 ok 1\n1.2 put a 03 21 39 ok 2\n1.3 delete a - 40 52 ok 3\n1.4 getat a 1 53 63 bytes 1 1.1 0102\n1.5 getat a 3 64 70 gone 3 1.3\n1.6 getat a 4 71 77 unborn 3\n1.7 getat b 1 78 82 unborn 0\nend 7 82 0\n",
+    ),
+    ("session\nlose 0 a 1.1 0\n", 7, "line 2: unbuilt", ""),
     ("session\npat 1 a\n", 7, "line 2: word", ""),
     ("session\nput 0 a x:01\nsettle 1\n", 7, "line 2: number", ""),
     ("put 1 a g:0:1048577\n", 8, "line 1: too long", ""),

@@ -18,7 +18,7 @@ use Rattle.gz_core.specs.Puts.{PutData}
 use Rattle.gz_core.specs.Rows.{empty_row}
 use Rattle.gz_core.specs.Values.{name_of}
 use Rattle.gz_core.specs.declared.calls.Call.{Call}
-use Rattle.gz_core.specs.declared.calls.Call.TheVariants.{Put}
+use Rattle.gz_core.specs.declared.calls.Call.TheVariants.{Put, Get, GetAt}
 use Rattle.gz_core.specs.declared.requests.Op.{Op}
 use Rattle.gz_core.specs.declared.requests.Op.TheVariants.{WriteRow, PutBlob}
 use Rattle.gz_core.specs.declared.requests.Out.{Out}
@@ -40,6 +40,9 @@ use Rattle.gz_round.specs.Following.{Ready}
 use Rattle.gz_round.specs.Rounds.{top_rounds, rounds_used}
 use Rattle.gz_round.specs.Standing.{IsNamed, Runs as RunsOn}
 use Rattle.gz_round.specs.Starting.{reads_from}
+use Rattle.gz_round.specs.Targets.{target_of}
+use Rattle.gz_round.specs.declared.run.Target.{Target}
+use Rattle.gz_round.specs.declared.run.Target.TheVariants.{Latest, At}
 use Rattle.gz_round.proofs.Beside.{AreBlobOuts, IsBeside, beside_sent, blobs_sent, runs_sent, ready_sent, rounds_beside, going_beside}
 use Rattle.gz_round.proofs.Bounds.{turned_below}
 use Rattle.gz_round.proofs.Turns.{over_sent}
@@ -375,15 +378,28 @@ put_begun c w past old new x records awaited first send sends BlobsFirst sizes o
       stores_records c w x records made,
     )
 
+-- a call that asks for this version of an object
+abbrev pub call_for : Target → List ℕ → Call
+call_for Latest key = Get key
+call_for (At version) key = GetAt key version
+
+pub call_key : (target : Target) (key : List ℕ) → key_of (call_for target key) ≡ key
+call_key Latest key = refl
+call_key (At version) key = refl
+
+pub call_target : (target : Target) (key : List ℕ) → target_of (call_for target key) ≡ target
+call_target Latest key = refl
+call_target (At version) key = refl
+
 -- a put's value has its name
 pub put_named : (c : Config) (name : Name) (key object : List ℕ) (own : Option Value) → IsOwn c name (Put key object) own → IsNamed name own
 put_named c name key object own h = λ (x : Value) (e : own ≡ Some x).
     ap name_of (same_Some x (PutOf h.0) (sym e ∙ h.1)) ∙ ap (λ (put : PutData). put.name) h.2.2
 
 -- a call that stores no fragments begins as any such call does
-pub begins_any : {E : Type 0} (client : Client) (first : ℕ) (call : Call) (key : List ℕ) (name : Name) (own : Option Value) (result : Result (Change × Turn) E) → key_of call ≡ key → is_put call ≡ false → IsOwn client.config name call own
-    → IfOk result (λ after. (any : Call) → key_of any ≡ key → is_put any ≡ false → IsOwn client.config name any own → BeginsAs client (changed client after.0) first any own after.1)
+pub begins_any : {E : Type 0} (client : Client) (first : ℕ) (call : Call) (key : List ℕ) (name : Name) (target : Target) (own : Option Value) (result : Result (Change × Turn) E) → key_of call ≡ key → target_of call ≡ target → is_put call ≡ false → IsOwn client.config name call own
+    → IfOk result (λ after. (any : Call) → key_of any ≡ key → target_of any ≡ target → is_put any ≡ false → IsOwn client.config name any own → BeginsAs client (changed client after.0) first any own after.1)
     → IfOk result (λ after. Begins client (changed client after.0) first call after.1)
-begins_any client first call key name own result same no_put is h =
-    IfOk-weaker result (λ after. (any : Call) → key_of any ≡ key → is_put any ≡ false → IsOwn client.config name any own → BeginsAs client (changed client after.0) first any own after.1)
-    (λ after. Begins client (changed client after.0) first call after.1) (λ after b. λ (next : ℕ) (ts : List Trace) k l. (own, b call same no_put is next ts k l)) h
+begins_any client first call key name target own result same asks no_put is h =
+    IfOk-weaker result (λ after. (any : Call) → key_of any ≡ key → target_of any ≡ target → is_put any ≡ false → IsOwn client.config name any own → BeginsAs client (changed client after.0) first any own after.1)
+    (λ after. Begins client (changed client after.0) first call after.1) (λ after b. λ (next : ℕ) (ts : List Trace) k l. (own, b call same asks no_put is next ts k l)) h

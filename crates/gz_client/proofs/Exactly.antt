@@ -4,7 +4,7 @@ use Rattle.std.specs.Prelude.{◌||◌}
 use Rattle.std.proofs.lemmas.Bool.{false≢true}
 use Rattle.std.proofs.lemmas.Option.{same_Some, none-some}
 use Rattle.gz_core.specs.declared.calls.Answer.{Answer}
-use Rattle.gz_core.specs.declared.calls.Answer.TheVariants.{Ok, Thin, Short, Bytes, Incomplete, Gone, Absent, NoQuorum, Contended, Unsure}
+use Rattle.gz_core.specs.declared.calls.Answer.TheVariants.{Ok, Thin, Short, Bytes, Incomplete, Gone, Absent, Unborn, Collected, NoQuorum, Contended, Unsure}
 use Rattle.gz_core.specs.declared.calls.UnsureWhy.{UnsureWhy}
 use Rattle.gz_core.specs.declared.calls.UnsureWhy.TheVariants.{NoQuorum as UnsureNoQuorum, Contended as UnsureContended, Trimmed as UnsureTrimmed}
 use Rattle.gz_config.specs.declared.Config.{Config}
@@ -89,14 +89,14 @@ data Ending (c : Config) (w : Caller) (ms : List Action) (answer : Option Answer
 going : (c : Config) (w : Caller) (ms : List Action) (answer : Answer) → IsOpen c w ms → is_lack answer ≡ false → is_contended answer ≡ false → is_short answer ≡ false → Ending c w ms (Some answer)
 going c w ms answer h l k s = goes h.going.few h.going.enough h.can (not_lacking c ms answer l) (not_contending ms answer k) (not_short answer s)
 
-unsure_ending : (c : Config) (w : Caller) (ms : List Action) (why : UnsureWhy) → (CannotStore c w ms → ⊥) → voted w.name ms ≡ true → UnsureCause c ms why → Ending c w ms (Some (Unsure why))
+unsure_ending : (c : Config) (w : Caller) (ms : List Action) (why : UnsureWhy) → (CannotStore c w ms → ⊥) → voted w.name ms ≡ true → UnsureCause c w ms why → Ending c w ms (Some (Unsure why))
 unfolding is_lack is_contended is_short
 unsure_ending c w ms (UnsureNoQuorum phase heard) can v h = lacks h.few h.lost can
     (ap (λ p. Some (Unsure (UnsureNoQuorum p heard))) h.phase_is ∙ (ap (λ n. Some (Unsure (UnsureNoQuorum (phase_of ms) n))) h.heard_is ∙ ap (λ b. Some (lacking c ms b)) (sym v)))
     (not_contending ms (Unsure (UnsureNoQuorum phase heard)) refl) (not_short (Unsure (UnsureNoQuorum phase heard)) refl)
 unsure_ending c w ms (UnsureContended m) can v h = contends h.0 can (ap (λ n. Some (Unsure (UnsureContended n))) h.1 ∙ ap (λ b. Some (contending ms b)) (sym v))
     (not_lacking c ms (Unsure (UnsureContended m)) refl) (not_short (Unsure (UnsureContended m)) refl)
-unsure_ending c w ms (UnsureTrimmed floor) can v h = absurd h
+unsure_ending c w ms (UnsureTrimmed floor) can v h = going c w ms (Unsure (UnsureTrimmed floor)) (record { going = h.0; can = can }) refl refl refl
 
 ending_of : (c : Config) (w : Caller) (ms : List Action) (answer : Answer) → HasCause c w ms answer → Ending c w ms (Some answer)
 unfolding is_lack is_contended is_short
@@ -107,6 +107,8 @@ ending_of c w ms (Bytes v x bytes) h = going c w ms (Bytes v x bytes) h.0 refl r
 ending_of c w ms (Incomplete v x fates) h = going c w ms (Incomplete v x fates) h.0 refl refl refl
 ending_of c w ms (Gone v x) h = going c w ms (Gone v x) h.0 refl refl refl
 ending_of c w ms Absent h = going c w ms Absent h.0 refl refl refl
+ending_of c w ms (Unborn latest) h = going c w ms (Unborn latest) h.0 refl refl refl
+ending_of c w ms (Collected floor) h = going c w ms (Collected floor) h.0 refl refl refl
 ending_of c w ms (NoQuorum phase heard) h = lacks h.1.1.few h.1.1.lost h.0
     (ap (λ p. Some (NoQuorum p heard)) h.1.1.phase_is ∙ (ap (λ n. Some (NoQuorum (phase_of ms) n)) h.1.1.heard_is ∙ ap (λ b. Some (lacking c ms b)) (sym h.1.0)))
     (not_contending ms (NoQuorum phase heard) refl) (not_short (NoQuorum phase heard) refl)
@@ -196,6 +198,8 @@ pieces_end c w ms (Bytes v x bytes) f h = h.1
 pieces_end c w ms (Incomplete v x fates) f h = h.1
 pieces_end c w ms (Gone v x) f h = not_unfetched c w ms f h.2
 pieces_end c w ms Absent f h = not_unfetched c w ms f h.2
+pieces_end c w ms (Unborn latest) f h = not_unfetched c w ms f h.2
+pieces_end c w ms (Collected floor) f h = not_unfetched c w ms f h.2
 pieces_end c w ms (NoQuorum phase heard) f h = not_unfetched c w ms f h.2
 pieces_end c w ms (Contended m) f h = not_unfetched c w ms f h.2
 pieces_end c w ms (Unsure why) f h = not_unfetched c w ms f h.2

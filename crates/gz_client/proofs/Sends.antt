@@ -1,5 +1,5 @@
 -- What a call sends at an event: nothing, requests for rows, or these and then the reads of fragments.
-use Rattle.std.proofs.Common.{◌≡◌, ℕ, zero, suc, ◌+◌, ◌≤◌, true, List, [], ◌∷◌, ◌++◌, length, Option, refl, sym, ◌∙◌, subst, inl, inr, ◌⊎◌, arith}
+use Rattle.std.proofs.Common.{◌≡◌, ℕ, zero, suc, ◌+◌, ◌≤◌, true, List, [], ◌∷◌, ◌++◌, length, Option, None, refl, sym, ◌∙◌, subst, inl, inr, ◌⊎◌, arith}
 use Rattle.std.proofs.lemmas.Bool.{false≢true}
 use Rattle.std.proofs.lemmas.List.{append-nil}
 use Rattle.std.proofs.lemmas.List.Elements.{All-nil, All-cons}
@@ -9,21 +9,23 @@ use Rattle.gz_core.specs.declared.calls.Answer.{Answer}
 use Rattle.gz_core.specs.declared.fragments.FragRef.{FragRef}
 use Rattle.gz_core.specs.declared.requests.Op.TheVariants.{ReadRow}
 use Rattle.gz_core.specs.declared.requests.Out.{Out}
-use Rattle.gz_core.specs.History.{Action, GaveIn, IsClosing, is_row_request, sent_from}
+use Rattle.gz_core.specs.History.{Action, GaveIn, Rested, IsClosing, is_row_request, sent_from}
 use Rattle.gz_data.specs.Requests.{gets_from}
 use Rattle.gz_round.specs.Sites.{AreBlobs}
 use Rattle.gz_round.specs.Standing.{AreAskedAgain}
-use Rattle.gz_round.specs.Starting.{AreForRows, AreRowRequests, reads_from}
-use Rattle.gz_client.specs.Sends.{AreBlobsRising, IsOfRow, IsTurn}
+use Rattle.gz_round.specs.Starting.{AreForRows, SitesRise, AreRowRequests, MakeNoStep, reads_from}
+use Rattle.gz_round.proofs.Passes.{none_requested, none_stepless}
+use Rattle.gz_client.specs.Sends.{AreBlobsRising, IsDone, IsOfRow, IsTurn}
 
 -- ---- what is sent
-
-none_sent : AreRowRequests []
-none_sent = record { rows = All-nil (λ (out : Out). is_row_request out.op ≡ true); few = omega arith }
 
 reads_for_rows : (key : List ℕ) (s n : ℕ) → AreForRows (reads_from key s n)
 reads_for_rows key s zero = All-nil (λ (out : Out). is_row_request out.op ≡ true)
 reads_for_rows key s (suc n) = All-cons (λ (out : Out). is_row_request out.op ≡ true) (record { site = s; op = ReadRow key; awaited = true }) (reads_from key (s + 1) n) refl (reads_for_rows key (s + 1) n)
+
+reads_rising : (key : List ℕ) (s n : ℕ) → SitesRise s (reads_from key s n)
+reads_rising key s zero = tt
+reads_rising key s (suc n) = (omega arith, reads_rising key (s + 1) n)
 
 pub reads_length : (key : List ℕ) (s n : ℕ) → length (reads_from key s n) ≡ n
 reads_length key s zero = refl
@@ -31,7 +33,7 @@ reads_length key s (suc n) = let rest = reads_length key (s + 1) n in omega arit
 
 -- the reads with which a call begins to ask sites
 pub reads_sent : (key : List ℕ) (n : ℕ) → n ≤ 16 → AreRowRequests (reads_from key 0 n)
-reads_sent key n few = let long = reads_length key 0 n in record { rows = reads_for_rows key 0 n; few = omega arith }
+reads_sent key n few = let long = reads_length key 0 n in record { rows = reads_for_rows key 0 n; rising = reads_rising key 0 n; few = omega arith }
 
 -- the reads of a value's fragments
 pub gets_rising : (name : Name) (key : List ℕ) (i : ℕ) (fragments : List FragRef) → AreBlobsRising i (gets_from name key i fragments)
@@ -51,34 +53,43 @@ again_or_out c closing ms (inr gave) h = inl gave
 
 -- ---- the turn
 
+-- a call that goes on isn't done with its rows
+pub goes_undone : (closing : List Action) → IsClosing closing → IsDone None closing → ⊥
+goes_undone closing h (inl some) = some refl
+goes_undone closing (inl none) (inr rested) = let bad : [] ≡ Rested ∷ [] = sym none ∙ rested in cc
+goes_undone closing (inr gave) (inr rested) = let bad : GaveIn ∷ [] ≡ Rested ∷ [] = sym gave ∙ rested in cc
+
 pub sends_nothing : (c : Config) (ms : List Action) (first : ℕ) (answer : Option Answer) → (IsOfRow ms → AreAskedAgain c ms) → IsTurn c ms first (record { send = []; answer = answer }) []
 sends_nothing c ms first answer again = record {
   rows = [];
   blobs = [];
   sends = refl;
-  about_rows = none_sent;
+  about_rows = none_requested;
   about_blobs = tt;
+  ends = λ done. none_stepless;
   reads = λ e. inr (again e);
 }
 
-pub sends_rows : (c : Config) (ms : List Action) (first : ℕ) (send : List Out) (answer : Option Answer) (closing : List Action) → AreRowRequests send
+pub sends_rows : (c : Config) (ms : List Action) (first : ℕ) (send : List Out) (answer : Option Answer) (closing : List Action) → AreRowRequests send → (IsDone answer closing → MakeNoStep send)
     → ((closing ≡ GaveIn ∷ []) ⊎ AreAskedAgain c (sent_from first send ms)) → IsTurn c ms first (record { send = send; answer = answer }) closing
-sends_rows c ms first send answer closing sent again = record {
+sends_rows c ms first send answer closing sent stepless again = record {
   rows = send;
   blobs = [];
   sends = sym (append-nil send);
   about_rows = sent;
   about_blobs = tt;
+  ends = stepless;
   reads = λ e. again;
 }
 
-pub sends_gets : (c : Config) (ms : List Action) (first : ℕ) (send sends blobs : List Out) (answer : Option Answer) (closing : List Action) → AreRowRequests send → sends ≡ send ++ blobs → AreBlobsRising 0 blobs
+pub sends_gets : (c : Config) (ms : List Action) (first : ℕ) (send sends blobs : List Out) (answer : Option Answer) (closing : List Action) → AreRowRequests send → MakeNoStep send → sends ≡ send ++ blobs → AreBlobsRising 0 blobs
     → AreAskedAgain c (sent_from first sends ms) → IsTurn c ms first (record { send = sends; answer = answer }) closing
-sends_gets c ms first send sends blobs answer closing sent both rising again = record {
+sends_gets c ms first send sends blobs answer closing sent stepless both rising again = record {
   rows = send;
   blobs = blobs;
   sends = both;
   about_rows = sent;
   about_blobs = rising;
+  ends = λ done. stepless;
   reads = λ e. inr again;
 }

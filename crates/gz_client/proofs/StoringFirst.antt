@@ -25,7 +25,7 @@ use Rattle.gz_client.specs.declared.running.Running.TheVariants.{Storing, Asking
 use Rattle.gz_client.proofs.Extending.{turns_quietly}
 use Rattle.gz_client.proofs.Puts.{puts_rows_sent}
 use Rattle.gz_client.proofs.Rules.{AreRows, first_sent, keeps_rows}
-use Rattle.gz_client.proofs.Sends.{blobs_no_row, reads_sent, sends_rows}
+use Rattle.gz_client.proofs.Sends.{blobs_no_row, goes_undone, reads_sent, sends_rows}
 use Rattle.gz_client.proofs.Sent.{blobs_unasked}
 
 below_if : (a b : ℕ) → (b ≤ a → ⊥) → a < b
@@ -93,5 +93,5 @@ looks client run later puts first send w past ms enough config h runs reads = λ
         rules = keeps_rows c w first send ms rows stored below rules;
         stands = record { runs = runs; fragments = puts_rows_sent c w puts first send ms rows h.fragments; first = first_sent c w first send ms stored };
       },
-      sends_rows c ms first send None [] (subst AreRowRequests (sym reads) (reads_sent (key_of w.call) c.n (omega (arith, config.sites)))) (inr runs.again),
+      sends_rows c ms first send None [] (subst AreRowRequests (sym reads) (reads_sent (key_of w.call) c.n (omega (arith, config.sites)))) (λ done. absurd (goes_undone [] (inl refl) done)) (inr runs.again),
     )

@@ -14,7 +14,7 @@ use Rattle.gz_core.specs.declared.calls.Answer.TheVariants.{Ok, Thin, Short, Byt
 use Rattle.gz_data.specs.Blobs.{stored, lost, wholes}
 use Rattle.gz_data.specs.Gathered.{IsLacking}
 use Rattle.gz_data.specs.Whole.{IsRebuilt}
-use Rattle.gz_round.specs.Causes.{EndsBy, IsChosenOwn, IsLearnt, IsAbsent}
+use Rattle.gz_round.specs.Causes.{EndsBy, IsChosenOwn, IsLearnt, IsAbsent, IsUnborn, IsCollected}
 use Rattle.gz_round.specs.Counting.{IsGoing, IsNoticed}
 use Rattle.gz_client.specs.Blobs.{is_put, has_asked, has_fetched}
 
@@ -71,7 +71,7 @@ GivesFates w ms fates x = IsLacking (key_of w.call) x ms fates × (without_rows 
 abbrev pub IsUnfetched : List Action → Type 0
 IsUnfetched ms = has_fetched ms ≡ false
 
--- when each answer comes. No call of this store reads an old version or collects one yet.
+-- when each answer comes. No call of this store collects versions yet.
 abbrev pub HasCause : Config → Caller → List Action → Answer → Type 0
 HasCause c w ms (Ok v) = IsOpen c w ms × IsPlaced c w ms v × HasStored c w ms
 HasCause c w ms (Thin v told) = IsOpen c w ms × IsPlaced c w ms v × IsThin c w ms told
@@ -80,8 +80,8 @@ HasCause c w ms (Bytes v name bytes) = IsOpen c w ms × IsRead c w ms v name (Gi
 HasCause c w ms (Incomplete v name fates) = IsOpen c w ms × IsRead c w ms v name (GivesFates w ms fates)
 HasCause c w ms (Gone v name) = IsOpen c w ms × IsLearnt c w ms v (Tomb name) × IsUnfetched ms
 HasCause c w ms Absent = IsOpen c w ms × IsAbsent c w ms × IsUnfetched ms
-HasCause c w ms (Unborn latest) = ⊥
-HasCause c w ms (Collected floor) = ⊥
+HasCause c w ms (Unborn latest) = IsOpen c w ms × IsUnborn c w ms latest × IsUnfetched ms
+HasCause c w ms (Collected floor) = IsOpen c w ms × IsCollected c w ms floor × IsUnfetched ms
 HasCause c w ms (Swept floor dropped) = ⊥
 HasCause c w ms (Held why) = ⊥
 HasCause c w ms (NoQuorum phase heard) = (CannotStore c w ms → ⊥) × EndsBy c w ms (NoQuorum phase heard) × IsUnfetched ms

@@ -9,9 +9,12 @@ pub enum Answered {
     Bytes(u64, (u32, u32), u64),
     Gone(u64, (u32, u32)),
     Absent,
+    Unborn(u64),
+    Collected(u64),
     NoQuorum(u32),
     UnsureNoQuorum(u32),
     UnsureContended(u32),
+    UnsureTrimmed(u64),
     Otherwise,
 }
 
@@ -35,6 +38,7 @@ fn unsure(why: &UnsureWhy) -> Answered {
             heard,
         } => Answered::UnsureNoQuorum(*heard),
         UnsureWhy::Contended { met } => Answered::UnsureContended(*met),
+        UnsureWhy::Trimmed { floor } => Answered::UnsureTrimmed(floor.number()),
         _ => Answered::Otherwise,
     }
 }
@@ -52,6 +56,8 @@ pub fn answered_of(answer: &Option<Answer>) -> Answered {
         ) => Answered::Bytes(version.number(), name_of(name), number_of(bytes.as_slice())),
         Some(Answer::Gone { version, name }) => Answered::Gone(version.number(), name_of(name)),
         Some(Answer::Absent) => Answered::Absent,
+        Some(Answer::Unborn { latest }) => Answered::Unborn(latest.number()),
+        Some(Answer::Collected { floor }) => Answered::Collected(floor.number()),
         Some(
             Answer::NoQuorum {
                 phase: Phase::Look,

@@ -7,7 +7,7 @@ ghost use Rattle.gz_client_tests.specs.Holding.{IsHeld};
 use crate::answers::Answered;
 use crate::network::{Move, Network, Stuck, Told};
 use gz_client::Client;
-use gz_core::{Call, Config, Items, Key, Reply, Session, Turn};
+use gz_core::{Call, Config, Items, Key, Reply, Session, Turn, Version};
 use std::alloc::Global;
 
 /// A client, how many calls it began, the number of its next request, and the sites.
@@ -25,6 +25,7 @@ pub enum Kind {
     Put,
     Delete,
     Get,
+    GetAt(u64),
 }
 
 impl Driver {
@@ -160,5 +161,12 @@ fn call_of(alloc: Global, kind: Kind) -> Result<Call, Stuck>
         },
         Kind::Delete => Ok(Call::Delete { key }),
         Kind::Get => Ok(Call::Get { key }),
+        Kind::GetAt(number) => {
+            if number == 0 || number > 9 {
+                return Err(Stuck("no version"));
+            }
+            let version = Version(number);
+            Ok(Call::GetAt { key, version })
+        },
     }
 }

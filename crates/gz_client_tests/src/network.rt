@@ -2,7 +2,7 @@
 ghost use Rattle.std.specs.Prelude.{◌+◌, ◌<◌, ◌≤◌, ◌≡◌, length, IfOk};
 
 use crate::answers::{Answered, answered_of};
-use gz_accept::{fast_vote, promise};
+use gz_accept::{fast_vote, promise, trim};
 use gz_core::{
     Ballot, BlobName, Config, Etag, Items, Key, Op, Out, PutName, PutValue, Reply, Row, Session,
     Turn, Value, Version,
@@ -21,7 +21,7 @@ impl From<AllocError> for Stuck {
 }
 
 /// What happens next: a request is delivered to its site, a reply of one is handed to the client, both, the client
-/// learns that one failed, one is given up, or another session votes or promises a ballot at a site.
+/// learns that one failed, one is given up, or another session votes, promises a ballot, or collects at a site.
 #[derive(Clone, Copy)]
 pub enum Move {
     Deliver(u32),
@@ -31,6 +31,7 @@ pub enum Move {
     GiveUp(u32),
     Vote(usize),
     Promise(usize),
+    Collect(usize),
 }
 
 /// What the client learns of a request: a reply, or that none comes.
@@ -128,6 +129,7 @@ impl Network {
             },
             Move::Vote(site) => self.vote(alloc, site)?,
             Move::Promise(site) => self.promise(site)?,
+            Move::Collect(site) => self.collect(alloc, site)?,
         }
         Ok(None)
     }
@@ -192,6 +194,25 @@ impl Network {
             Some(stored) => Ok(promise_in(stored)?),
         }
     }
+
+    /// Has another session's collection, which keeps its delete at version 2 alone, reach a site.
+    fn collect(&mut self, alloc: Global, site: usize) -> Result<(), Stuck> {
+        if site >= self.sites.len() {
+            return Err(Stuck("no site"));
+        }
+        let etag = tag_after(tag_of(&self.sites[site].row));
+        let row = collected_row(alloc)?;
+        self.sites[site].row = Some(Stored { etag, row });
+        Ok(())
+    }
+}
+
+/// The name of the delete of that session that comes after it.
+fn name_of_deletion() -> PutName {
+    PutName {
+        session: Session(2),
+        seq: 2,
+    }
 }
 
 /// The name of the first put of another session, which votes for the byte 7.
@@ -234,6 +255,16 @@ fn voted_row(alloc: Global, put: &PutValue) -> Result<Row, AllocError> {
     let value = Value::Put(put.clone()?);
     let mut row = Row::empty(alloc);
     fast_vote(&mut row, Version(1), &value)?;
+    Ok(row)
+}
+
+/// A row whose version 1 was collected, and whose version 2 is a delete.
+fn collected_row(alloc: Global) -> Result<Row, AllocError> {
+    let value = Value::Tomb {
+        name: name_of_deletion(),
+    };
+    let mut row = Row::empty(alloc);
+    trim(&mut row, Version(1), &value)?;
     Ok(row)
 }
 

@@ -3,7 +3,7 @@ ghost use Rattle.gz_client_tests.specs.Holding.{IsHeld};
 
 use crate::answers::Answered;
 use crate::driver::{Driver, Kind};
-use crate::network::Move::{self, Deliver, Fail, GiveUp, Promise, Reply, Take, Vote};
+use crate::network::Move::{self, Collect, Deliver, Fail, GiveUp, Promise, Reply, Take, Vote};
 use crate::network::Stuck;
 use gz_client::Client;
 use std::alloc::Global;
@@ -23,6 +23,9 @@ struct Scene {
 const OWN: (u32, u32) = (1, 1);
 
 const OTHER: (u32, u32) = (2, 1);
+
+/// The delete of the other session.
+const DELETION: (u32, u32) = (2, 2);
 
 /// Puts that are chosen, puts that end without being known to be chosen, a get of nothing, and gets of a version that isn't
 /// known to be chosen: each of these prepares a classic ballot, and votes there for the value of another's put.
@@ -283,6 +286,74 @@ const SCENES: &'static [Scene] = &[
         ],
         answered: Answered::Bytes(1, OTHER, 7),
         sent: 17,
+    },
+    Scene {
+        about: "its vote met a collection, and what became of it isn't known any more",
+        kind: Kind::Put,
+        tries: 8,
+        moves: &[
+            Take(4),
+            Take(5),
+            Take(1),
+            Take(2),
+            Collect(0),
+            Take(7),
+            Take(9),
+        ],
+        answered: Answered::UnsureTrimmed(1),
+        sent: 9,
+    },
+    Scene {
+        about: "past a collection that it met before it voted, at the version after the one that was kept",
+        kind: Kind::Put,
+        tries: 8,
+        moves: &[
+            Vote(0),
+            Vote(1),
+            Collect(2),
+            Take(4),
+            Take(5),
+            Take(1),
+            Take(2),
+            Take(3),
+            Take(7),
+            Take(8),
+            Take(9),
+        ],
+        answered: Answered::Ok(3),
+        sent: 12,
+    },
+    Scene {
+        about: "a version that was collected",
+        kind: Kind::GetAt(1),
+        tries: 8,
+        moves: &[Collect(0), Take(1), Take(2)],
+        answered: Answered::Collected(1),
+        sent: 3,
+    },
+    Scene {
+        about: "the version that a collection kept",
+        kind: Kind::GetAt(2),
+        tries: 8,
+        moves: &[Collect(0), Take(2), Take(1)],
+        answered: Answered::Gone(2, DELETION),
+        sent: 3,
+    },
+    Scene {
+        about: "a version above the latest one",
+        kind: Kind::GetAt(3),
+        tries: 8,
+        moves: &[Collect(0), Take(2), Take(1)],
+        answered: Answered::Unborn(2),
+        sent: 3,
+    },
+    Scene {
+        about: "a version of nothing",
+        kind: Kind::GetAt(1),
+        tries: 8,
+        moves: &[Take(3), Take(1)],
+        answered: Answered::Unborn(0),
+        sent: 3,
     },
 ];
 

@@ -9,26 +9,26 @@ use Rattle.gz_data.specs.Own.{IsOwn}
 use Rattle.gz_core.specs.Rows.{RowAt}
 use Rattle.gz_core.specs.Slots.{Act, act_of}
 use Rattle.gz_core.specs.declared.calls.Answer.{Answer}
-use Rattle.gz_core.specs.declared.calls.Answer.TheVariants.{Ok, Thin, Short, Bytes, Incomplete, Gone, Absent, Unborn, NoQuorum, Contended, Unsure}
+use Rattle.gz_core.specs.declared.calls.Answer.TheVariants.{Ok, Thin, Short, Bytes, Incomplete, Gone, Absent, Unborn, Collected, NoQuorum, Contended, Unsure}
 use Rattle.gz_client.specs.Causes.{IsPlaced}
 use Rattle.gz_core.specs.declared.calls.Call.{Call}
 use Rattle.gz_config.specs.declared.Config.{Config}
-use Rattle.gz_core.specs.declared.values.Value.{Value}
-use Rattle.gz_core.specs.declared.values.Value.TheVariants.{Tomb, Put as PutOf}
 use Rattle.gz_core.specs.declared.requests.RowStep.{RowStep}
 use Rattle.gz_core.specs.declared.requests.RowStep.TheVariants.{FastVote, Promise, ClassicVote, Decide, Trim}
 use Rattle.gz_core.specs.declared.requests.Op.{Op}
 use Rattle.gz_core.specs.declared.requests.Op.TheVariants.{WriteRow}
 use Rattle.gz_pick.specs.Looks.{row_top}
 use Rattle.gz_core.specs.History.{Action, Sent, Handed, GaveUp, Rested, GaveIn, Caller, Trace}
-use Rattle.gz_core.specs.declared.calls.Call.TheVariants.{GetAt, Collect}
+use Rattle.gz_core.specs.declared.calls.Call.TheVariants.{Put, Delete, Get, GetAt, Collect}
 use Rattle.gz_round.specs.Sites.{SiteNow, site_now}
-use Rattle.gz_round.specs.Causes.{is_blank, IsLearnt}
-use Rattle.gz_round.specs.Shown.{heard_at, IsShown}
+use Rattle.gz_round.specs.Causes.{is_blank}
+use Rattle.gz_round.specs.Shown.{heard_at, IsShown, IsCurrent}
 use Rattle.gz_round.specs.Sending.{AreAllowed, MayMake}
+use Rattle.gz_round.specs.Targets.{target_of, IsAskedFor}
+use Rattle.gz_round.specs.declared.run.Target.TheVariants.{At}
 use Rattle.gz_laws.proofs.Asking.{MayAskRow, row_asked}
 use Rattle.gz_client.specs.Traces.{IsAnswered, AllKeepRules}
-use Rattle.gz_history.specs.Answers.{shows, stands, names, IsWrite, latest_told}
+use Rattle.gz_history.specs.Answers.{shows, stands, IsWrite, latest_told}
 use Rattle.gz_history.specs.Legal.{IsBefore}
 use Rattle.gz_history.specs.declared.record.CallRec.{CallRec}
 use Rattle.gz_ledger.specs.Histories.{RowSeen, Write, IsIn, IsShownByRows, IsCurrentByRows, VotesFor}
@@ -43,24 +43,13 @@ use Rattle.gz_laws.specs.Placed.{ArePlaced}
 use Rattle.gz_laws.specs.Runs.{IsSentBy, IsShownAt, IsRun}
 use Rattle.gz_world.specs.States.{State}
 use Rattle.gz_laws.proofs.Currents.{current_heard}
-use Rattle.gz_laws.proofs.RunAnswers.{call_trace, trace_shown, IsTold, same_version}
+use Rattle.gz_laws.proofs.RunAnswers.{call_trace, trace_shown, same_version}
 use Rattle.gz_laws.proofs.RunSends.{heard_in_rows}
 use Rattle.gz_laws.proofs.Owning.{own_of, no_write}
 
 -- the run of an object agrees
 pub agreed : (key : List ℕ) (s : State) (ds : List Transition) → ArePlaced s → IsRun key s ds → IsAgreed s.cfg (ledger_of (after_transitions unused ds))
 agreed key s ds placed run = store_agreed s.cfg unused ds placed.config.quorums run.transitions
-
-pub same_name_of : (o : Option Name) (x y : Name) → o ≡ Some x → o ≡ Some y → x ≡ y
-same_name_of o x y e h = let k : Some x ≡ Some y = sym e ∙ h in cc
-
-pub no_name_of : (o : Option Name) (x : Name) → o ≡ None → o ≡ Some x → ⊥
-no_name_of o x e h = let k : None ≡ Some x = sym e ∙ h in cc
-
--- an answer that shows a version and names a call says that the call's value is shown there
-pub named_shown : (c : Config) (ds : List Transition) (a : CallRec) (v : ℕ) (x : Name) → IsTold c ds a v → names a.name a.answer ≡ Some x → IsShownByRows c (seen_after unused ds) v x
-named_shown c ds a v x (inl k) named = absurd (no_name_of (names a.name a.answer) x k.1 named)
-named_shown c ds a v x (inr k) named = subst (IsShownByRows c (seen_after unused ds) v) (same_name_of (names a.name a.answer) k.0 x k.1.1 named) k.1.0
 
 -- votes are cast at versions from 1 on
 step_positive : (c : Config) (w : Caller) (past : List Trace) (ms : List Action) (step : RowStep) (v : ℕ) (x : Name) → MayMake c w past ms step → VotesFor (act_of step) v x → 1 ≤ v
@@ -122,7 +111,7 @@ latest_shown : (answer : Option Answer) (w : ℕ) → latest_told answer ≡ Som
 latest_shown (Some (Unborn latest)) w h = h
 latest_shown answer w h = cc
 
-stands_shows : (call : Call) (answer : Option Answer) (w : ℕ) → stands call answer ≡ Some w → shows answer ≡ Some w
+pub stands_shows : (call : Call) (answer : Option Answer) (w : ℕ) → stands call answer ≡ Some w → shows answer ≡ Some w
 stands_shows (GetAt key version) answer w h = latest_shown answer w h
 stands_shows (Collect key keep) answer w h = latest_shown answer w h
 stands_shows call answer w h = h
@@ -131,12 +120,28 @@ stands_shows call answer w h = h
 abbrev IsPlacedAbove : Call → ℕ → ℕ → Type 0
 IsPlacedAbove call v w = (v ≤ w) × (IsWrite call → v < w)
 
--- what a call learnt is at the version that it shows, or above
-learnt_above : (c : Config) (t : Trace) (early late : List Transition) (v w u : ℕ) (x : Value) → HasQuorums c → IsOwn c t.caller.name t.caller.call t.caller.own → AreTransitions c unused (late ++ early) → ActionsStand (after_transitions unused (late ++ early)) t.actions → ((e : RowSeen) → IsIn e (heard_of t.actions) → IsIn e (late_rows unused late early))
-    → IsShownAt c early v → IsLearnt c t.caller t.actions u x → u ≡ w → IsPlacedAbove t.caller.call v w
-learnt_above c t early late v w u x q value are stands heard shown learnt at =
-    let fresh = current_heard c (after_transitions unused (late ++ early)) t.actions w (λ r. nat_le (row_top r) w) stands (λ r k. le_means (row_top r) w k) (subst (λ k. c.qc ≤ heard_at c (λ r. nat_le (row_top r) k) t.actions) at learnt.current) in
-    (read_above c early late v w q are shown (current_more c (heard_of t.actions) (late_rows unused late early) w heard fresh), λ k. absurd (no_write c t.caller.name t.caller.call (own_of c t.caller None value learnt.reads) k))
+-- a call that writes nothing stands at the version where rows that it heard are current, or above
+current_above : (c : Config) (t : Trace) (early late : List Transition) (v w u : ℕ) → HasQuorums c → IsOwn c t.caller.name t.caller.call t.caller.own → AreTransitions c unused (late ++ early) → ActionsStand (after_transitions unused (late ++ early)) t.actions → ((e : RowSeen) → IsIn e (heard_of t.actions) → IsIn e (late_rows unused late early))
+    → IsShownAt c early v → t.caller.own ≡ None → IsCurrent c t.actions u → u ≡ w → IsPlacedAbove t.caller.call v w
+current_above c t early late v w u q value are stands heard shown reads current at =
+    let fresh = current_heard c (after_transitions unused (late ++ early)) t.actions w (λ r. nat_le (row_top r) w) stands (λ r k. le_means (row_top r) w k) (subst (λ k. c.qc ≤ heard_at c (λ r. nat_le (row_top r) k) t.actions) at current) in
+    (read_above c early late v w q are shown (current_more c (heard_of t.actions) (late_rows unused late early) w heard fresh), λ k. absurd (no_write c t.caller.name t.caller.call (own_of c t.caller None value reads) k))
+
+-- what a call reads as the latest version is current
+current_read : (c : Config) (call : Call) (answer : Option Answer) (ms : List Action) (u w : ℕ) → latest_told answer ≡ None → stands call answer ≡ Some w → IsAskedFor c (target_of call) ms u → IsCurrent c ms u
+current_read c (Put key bytes) answer ms u w old e h = h
+current_read c (Delete key) answer ms u w old e h = h
+current_read c (Get key) answer ms u w old e h = h
+current_read c (GetAt key version) answer ms u w old e h = let bad : None ≡ Some w = sym old ∙ e in cc
+current_read c (Collect key keep) answer ms u w old e h = let bad : None ≡ Some w = sym old ∙ e in cc
+
+-- a version that was collected is asked for by its number, and stands for no latest one
+none_collected : (call : Call) (version floor w : ℕ) → target_of call ≡ At version → stands call (Some (Collected floor)) ≡ Some w → ⊥
+none_collected (GetAt key version) asked floor w e h = cc
+none_collected (Put key bytes) asked floor w e h = cc
+none_collected (Delete key) asked floor w e h = cc
+none_collected (Get key) asked floor w e h = cc
+none_collected (Collect key keep) asked floor w e h = cc
 
 -- a call whose own value is chosen stands above it
 placed_above : (c : Config) (t : Trace) (early late : List Transition) (v w u : ℕ) → HasQuorums c → AreTransitions c unused (late ++ early) → ((q : Write) → IsIn q (sent_after unused early) → q.call ≡ t.caller.name → ⊥) → AreCurrentTransitions c unused t.caller.name late early
@@ -148,23 +153,28 @@ placed_above c t early late v w u q are unsent current stands positive shown pla
 
 answer_above : (c : Config) (past : List Trace) (t : Trace) (early late : List Transition) (v w : ℕ) (answer : Option Answer) → HasQuorums c → IsOwn c t.caller.name t.caller.call t.caller.own → AreTransitions c unused (late ++ early) → ((q : Write) → IsIn q (sent_after unused early) → q.call ≡ t.caller.name → ⊥) → AreCurrentTransitions c unused t.caller.name late early
     → ActionsStand (after_transitions unused (late ++ early)) t.actions → ((e : RowSeen) → IsIn e (heard_of t.actions) → IsIn e (late_rows unused late early)) → ((x : Name) → IsShownByRows c (seen_after unused (late ++ early)) w x → 1 ≤ w)
-    → IsShownAt c early v → IsAnswered c past t answer → shows answer ≡ Some w → IsPlacedAbove t.caller.call v w
-answer_above c past t early late v w None q value are unsent current stands heard positive shown h e = cc
-answer_above c past t early late v w (Some (Ok u)) q value are unsent current stands heard positive shown h e = placed_above c t early late v w u q are unsent current stands positive shown h.1 (same_version u w e)
-answer_above c past t early late v w (Some (Thin u told)) q value are unsent current stands heard positive shown h e = placed_above c t early late v w u q are unsent current stands positive shown h.1 (same_version u w e)
-answer_above c past t early late v w (Some (Short told)) q value are unsent current stands heard positive shown h e = cc
-answer_above c past t early late v w (Some (Bytes u y bytes)) q value are unsent current stands heard positive shown h e = learnt_above c t early late v w u (PutOf h.1.0) q value are stands heard shown h.1.2 (same_version u w e)
-answer_above c past t early late v w (Some (Incomplete u y fates)) q value are unsent current stands heard positive shown h e = learnt_above c t early late v w u (PutOf h.1.0) q value are stands heard shown h.1.2 (same_version u w e)
-answer_above c past t early late v w (Some (Gone u y)) q value are unsent current stands heard positive shown h e = learnt_above c t early late v w u (Tomb y) q value are stands heard shown h.1 (same_version u w e)
-answer_above c past t early late v w (Some Absent) q value are unsent current stands heard positive shown h e =
+    → IsShownAt c early v → IsAnswered c past t answer → stands t.caller.call answer ≡ Some w → shows answer ≡ Some w → IsPlacedAbove t.caller.call v w
+answer_above c past t early late v w None q value are unsent current kept heard positive shown h latest e = cc
+answer_above c past t early late v w (Some (Ok u)) q value are unsent current kept heard positive shown h latest e = placed_above c t early late v w u q are unsent current kept positive shown h.1 (same_version u w e)
+answer_above c past t early late v w (Some (Thin u told)) q value are unsent current kept heard positive shown h latest e = placed_above c t early late v w u q are unsent current kept positive shown h.1 (same_version u w e)
+answer_above c past t early late v w (Some (Short told)) q value are unsent current kept heard positive shown h latest e = cc
+answer_above c past t early late v w (Some (Bytes u y bytes)) q value are unsent current kept heard positive shown h latest e =
+    current_above c t early late v w u q value are kept heard shown h.1.2.reads (current_read c t.caller.call (Some (Bytes u y bytes)) t.actions u w refl latest h.1.2.asked) (same_version u w e)
+answer_above c past t early late v w (Some (Incomplete u y fates)) q value are unsent current kept heard positive shown h latest e =
+    current_above c t early late v w u q value are kept heard shown h.1.2.reads (current_read c t.caller.call (Some (Incomplete u y fates)) t.actions u w refl latest h.1.2.asked) (same_version u w e)
+answer_above c past t early late v w (Some (Gone u y)) q value are unsent current kept heard positive shown h latest e =
+    current_above c t early late v w u q value are kept heard shown h.1.reads (current_read c t.caller.call (Some (Gone u y)) t.actions u w refl latest h.1.asked) (same_version u w e)
+answer_above c past t early late v w (Some Absent) q value are unsent current kept heard positive shown h latest e =
     let at = same_version 0 w e in
-    let fresh = current_heard c (after_transitions unused (late ++ early)) t.actions 0 is_blank stands blank_low h.1.1 in
+    let fresh = current_heard c (after_transitions unused (late ++ early)) t.actions 0 is_blank kept blank_low h.1.blank in
     let low = read_above c early late v 0 q are shown (current_more c (heard_of t.actions) (late_rows unused late early) 0 heard fresh) in
-    (omega (arith, low, at), λ k. absurd (no_write c t.caller.name t.caller.call (own_of c t.caller None value h.1.0) k))
-answer_above c past t early late v w (Some (NoQuorum phase n)) q value are unsent current stands heard positive shown h e = cc
-answer_above c past t early late v w (Some (Contended met)) q value are unsent current stands heard positive shown h e = cc
-answer_above c past t early late v w (Some (Unsure why)) q value are unsent current stands heard positive shown h e = cc
-answer_above c past t early late v w (Some answer) q value are unsent current stands heard positive shown h e = absurd h
+    (omega (arith, low, at), λ k. absurd (no_write c t.caller.name t.caller.call (own_of c t.caller None value h.1.reads) k))
+answer_above c past t early late v w (Some (Unborn u)) q value are unsent current kept heard positive shown h latest e = current_above c t early late v w u q value are kept heard shown h.1.reads h.1.current (same_version u w e)
+answer_above c past t early late v w (Some (Collected floor)) q value are unsent current kept heard positive shown h latest e = absurd (none_collected t.caller.call h.1.version floor w h.1.asked latest)
+answer_above c past t early late v w (Some (NoQuorum phase n)) q value are unsent current kept heard positive shown h latest e = cc
+answer_above c past t early late v w (Some (Contended met)) q value are unsent current kept heard positive shown h latest e = cc
+answer_above c past t early late v w (Some (Unsure why)) q value are unsent current kept heard positive shown h latest e = cc
+answer_above c past t early late v w (Some answer) q value are unsent current kept heard positive shown h latest e = absurd h
 
 -- a call that began after another one had ended stands above it
 pub keeps_order : (key : List ℕ) (s : State) (ds : List Transition) (i j : ℕ) (a b : CallRec) → IsRun key s ds → AreCallsListed s → AreCarried s → ArePlaced s → slice_get s.calls i ≡ Some a → slice_get s.calls j ≡ Some b → key_of a.call ≡ key → key_of b.call ≡ key
@@ -185,5 +195,5 @@ keeps_order key s ds i j a b run listed carries placed ga gb ka kb v w before sa
     (λ q found same. since.unsent q found (same ∙ name)) (subst (λ x. AreCurrentTransitions s.cfg unused x late early) (sym name) since.current)
     (subst (λ (xs : List Transition). ActionsStand (after_transitions unused xs) t.actions) since.split h.stands) heard
     (λ x shown. shown_positive key s ds w x listed placed run (subst (λ (xs : List Transition). IsShownByRows s.cfg (seen_after unused xs) w x) (sym since.split) shown))
-    (since.ended i v a ga ka before sa) told (stands_shows b.call b.answer w sb) in
+    (since.ended i v a ga ka before sa) told (subst (λ (q : Call). stands q b.answer ≡ Some w) (sym call) sb) (stands_shows b.call b.answer w sb) in
     (k.0, λ write. k.1 (subst IsWrite (sym call) write))

@@ -9,7 +9,6 @@ use Rattle.gz_config.specs.declared.Config.{Config}
 use Rattle.gz_core.proofs.Ballots.{name_refl}
 use Rattle.gz_core.proofs.Counting.{count_within, count_weaker}
 use Rattle.gz_core.specs.History.{Trace}
-use Rattle.gz_round.specs.Shown.{IsShown}
 use Rattle.gz_client.specs.Traces.{AllKeepRules, IsAnswered}
 use Rattle.gz_site.specs.Told.{Told}
 use Rattle.gz_history.specs.Answers.{shows, names}
@@ -30,12 +29,12 @@ use Rattle.gz_laws.specs.Placed.{ArePlaced}
 use Rattle.gz_world.specs.Reached.{IsReached, AllTell}
 use Rattle.gz_laws.specs.Runs.{stored_of, IsRun}
 use Rattle.gz_world.specs.States.{State}
-use Rattle.gz_laws.proofs.Agreeing.{agreed, same_name_of, no_name_of, named_shown}
+use Rattle.gz_laws.proofs.Agreeing.{agreed}
 use Rattle.gz_laws.proofs.Carrying.{carried}
 use Rattle.gz_laws.proofs.Keeping.{actions_stand, sent_asked}
 use Rattle.gz_laws.proofs.Listing.{listed}
 use Rattle.gz_laws.proofs.Placing.{placed}
-use Rattle.gz_laws.proofs.RunAnswers.{call_trace, call_told, answer_tells, trace_shown}
+use Rattle.gz_laws.proofs.RunAnswers.{call_trace, call_told, answer_names, trace_shown}
 use Rattle.gz_laws.proofs.Running.{runs}
 
 -- the row of a site, as the store has it
@@ -157,10 +156,7 @@ shown_to_call c call v x [] h show named = absurd h
 shown_to_call c call v x (t ∷ ts) (inl h) show named =
     let name : t.caller.name ≡ call.name = h.name_is in
     let own : names t.caller.name call.answer ≡ Some x = ap (λ (y : Name). names y call.answer) name ∙ named in
-    elim (answer_tells c ts t call.answer v (subst (IsAnswered c ts t) h.answer h.told.answered) show) [
-      | inl k ↦ absurd (no_name_of (names t.caller.name call.answer) x k.1 own)
-      | inr k ↦ inl (name, subst (λ (y : Name). IsShown c t.actions v y) (same_name_of (names t.caller.name call.answer) k.0 x k.1.1 own) k.1.0)
-    ]
+    inl (name, answer_names c ts t call.answer v x (subst (IsAnswered c ts t) h.answer h.told.answered) show own)
 shown_to_call c call v x (t ∷ ts) (inr h) show named = inr (shown_to_call c call v x ts h show named)
 
 pub are_agreed : (key : List ℕ) (s : State) (ds : List Transition) → IsToldRun key s ds → AreAgreed key s
@@ -190,7 +186,7 @@ are_agreed key s ds k =
           omega (arith, enough, more);
       answers = λ i v call x at own show named. (
         shown_to_call s.cfg call v x (s.traces call.name.session) (k.listed.traces i call at) show named,
-        seen_chosen key s ds v x k.run (a.chosen v x (named_shown s.cfg ds call v x (call_told key s ds call v (call_trace key s ds i call k.run k.listed k.carries at own) show) named)).0,
+        seen_chosen key s ds v x k.run (a.chosen v x ((call_told key s ds call v (call_trace key s ds i call k.run k.listed k.carries at own) show).named x named)).0,
       );
     }
 

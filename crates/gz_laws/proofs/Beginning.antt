@@ -1,20 +1,21 @@
 -- A call that begins has heard nothing yet, and so has no answer.
 use Rattle.std.proofs.Common.{◌≡◌, ℕ, zero, suc, ◌+◌, ◌≤◌, inl, inr, List, [], ◌∷◌, Some, None, Bool, true, false, refl, ap, ◌∙◌, arith}
-use Rattle.std.specs.Prelude.{cond, if◌then◌else◌, Option}
+use Rattle.std.specs.Prelude.{cond, if◌then◌else◌, nat_le, ◌==◌, Option}
 use Rattle.gz_config.specs.declared.Config.{Config}
 use Rattle.gz_core.specs.Names.{Name, BallotAt, fast, same_ballot}
 use Rattle.gz_core.specs.Configurations.{IsConfig, need}
 use Rattle.gz_core.specs.Counts.{count_sites}
 use Rattle.gz_core.specs.Rows.{RowAt}
 use Rattle.gz_core.specs.declared.calls.Answer.{Answer}
-use Rattle.gz_core.specs.declared.calls.Answer.TheVariants.{Ok, Thin, Short, Bytes, Incomplete, Gone, Absent, NoQuorum, Contended, Unsure}
+use Rattle.gz_core.specs.declared.calls.Answer.TheVariants.{Ok, Thin, Short, Bytes, Incomplete, Gone, Absent, Unborn, Collected, NoQuorum, Contended, Unsure}
 use Rattle.gz_core.specs.declared.calls.Call.{Call}
 use Rattle.gz_core.specs.declared.calls.Phase.{Phase}
 use Rattle.gz_core.specs.declared.calls.UnsureWhy.{UnsureWhy}
-use Rattle.gz_core.specs.declared.calls.UnsureWhy.TheVariants.{NoQuorum as UnsureNoQuorum, Contended as UnsureContended}
+use Rattle.gz_core.specs.declared.calls.UnsureWhy.TheVariants.{NoQuorum as UnsureNoQuorum, Contended as UnsureContended, Trimmed as UnsureTrimmed}
 use Rattle.gz_core.specs.declared.requests.Out.{Out}
 use Rattle.gz_core.specs.declared.requests.Turn.{Turn}
 use Rattle.gz_pick.specs.Evidences.{votes_for, decides}
+use Rattle.gz_pick.specs.Looks.{row_top}
 use Rattle.gz_round.specs.Causes.{UnsureCause, IsCutOff, is_blank}
 use Rattle.gz_data.specs.Blobs.{lost}
 use Rattle.gz_client.specs.Causes.{HasCause, IsPlaced}
@@ -22,7 +23,7 @@ use Rattle.gz_round.specs.Counting.{outs}
 use Rattle.gz_core.specs.History.{Asked, Action, Sent, Caller, Trace, asked_of, sent_from, begun}
 use Rattle.gz_core.specs.declared.values.Value.{Value}
 use Rattle.gz_round.specs.Sent.{met}
-use Rattle.gz_round.specs.Shown.{heard_at, IsShown}
+use Rattle.gz_round.specs.Shown.{heard_at, IsShown, HasFloor}
 use Rattle.gz_round.specs.Sites.{SiteNow, site_now, after_sent, is_to, some_heard}
 use Rattle.gz_client.specs.Traces.{KeepsRules, IsAnswered}
 
@@ -96,10 +97,21 @@ not_cut_off c ms phase heard sizes nothing h =
 not_overtaken : (c : Config) (ms : List Action) → IsConfig c → HeardNothing c ms → c.tries ≤ met ms → ⊥
 not_overtaken c ms sizes nothing h = let z = nothing.met_is in let some = sizes.again in omega (arith, z, some, h)
 
-not_unsure : (c : Config) (ms : List Action) (why : UnsureWhy) → IsConfig c → HeardNothing c ms → UnsureCause c ms why → ⊥
-not_unsure c ms (UnsureNoQuorum phase heard) sizes nothing h = not_cut_off c ms phase heard sizes nothing h
-not_unsure c ms (UnsureContended m) sizes nothing h = not_overtaken c ms sizes nothing h.0
-not_unsure c ms why sizes nothing h = absurd h
+no_floor : (c : Config) (ms : List Action) (floor : ℕ) → HeardNothing c ms → HasFloor c ms floor → ⊥
+no_floor c ms floor nothing h = let z = nothing.rows (λ r. r.floor == floor) in omega (arith, z, h)
+
+-- nor was it heard from a quorum
+no_quorum : (c : Config) (ms : List Action) (p : RowAt → Bool) → IsConfig c → HeardNothing c ms → c.qc ≤ heard_at c p ms → ⊥
+no_quorum c ms p sizes nothing h =
+    let z = nothing.rows p in
+    let q = sizes.quorums in
+    let m = q.majority in
+    omega (arith, z, h, m)
+
+not_unsure : (c : Config) (w : Caller) (ms : List Action) (why : UnsureWhy) → IsConfig c → HeardNothing c ms → UnsureCause c w ms why → ⊥
+not_unsure c w ms (UnsureNoQuorum phase heard) sizes nothing h = not_cut_off c ms phase heard sizes nothing h
+not_unsure c w ms (UnsureContended m) sizes nothing h = not_overtaken c ms sizes nothing h.0
+not_unsure c w ms (UnsureTrimmed floor) sizes nothing h = no_floor c ms floor nothing h.1.heard
 
 placed_never : (c : Config) (w : Caller) (ms : List Action) (v : ℕ) → IsConfig c → HeardNothing c ms → IsPlaced c w ms v → ⊥
 placed_never c w ms v sizes nothing h = none_shown c ms v w.name sizes nothing h.chosen.2
@@ -115,15 +127,12 @@ no_cause c w ms (Short told) sizes nothing h =
 no_cause c w ms (Bytes v x bytes) sizes nothing h = none_shown c ms v _ sizes nothing h.1.2.shown
 no_cause c w ms (Incomplete v x fates) sizes nothing h = none_shown c ms v _ sizes nothing h.1.2.shown
 no_cause c w ms (Gone v x) sizes nothing h = none_shown c ms v _ sizes nothing h.1.shown
-no_cause c w ms Absent sizes nothing h =
-    let z = nothing.rows is_blank in
-    let enough = h.1.1 in
-    let q = sizes.quorums in
-    let m = q.majority in
-    omega (arith, z, enough, m)
+no_cause c w ms Absent sizes nothing h = no_quorum c ms is_blank sizes nothing h.1.blank
+no_cause c w ms (Unborn latest) sizes nothing h = no_quorum c ms (λ r. nat_le (row_top r) latest) sizes nothing h.1.current
+no_cause c w ms (Collected floor) sizes nothing h = no_floor c ms floor nothing h.1.heard
 no_cause c w ms (NoQuorum phase heard) sizes nothing h = not_cut_off c ms phase heard sizes nothing h.1.1
 no_cause c w ms (Contended m) sizes nothing h = not_overtaken c ms sizes nothing h.1.1.0
-no_cause c w ms (Unsure why) sizes nothing h = not_unsure c ms why sizes nothing h.1.1
+no_cause c w ms (Unsure why) sizes nothing h = not_unsure c w ms why sizes nothing h.1.1
 no_cause c w ms answer sizes nothing h = absurd h
 
 pub begun_open : (c : Config) (past : List Trace) (session : ℕ) (call : Call) (own : Option Value) (first : ℕ) (turn : Turn) (earlier : List Trace) → IsConfig c → KeepsRules c past (begun session call own first turn earlier) → turn.answer ≡ None

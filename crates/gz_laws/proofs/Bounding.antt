@@ -1,6 +1,6 @@
 -- Each step keeps versions and rounds within their bounds.
 use Rattle.std.proofs.Common.{◌≡◌, ℕ, ◌+◌, ◌≤◌, ◌⊎◌, inl, inr, List, [], ◌∷◌, Some, None, Bool, true, false, refl, ap, sym, subst, arith}
-use Rattle.std.proofs.lemmas.Bool.{and_parts, or_cases}
+use Rattle.std.proofs.lemmas.Bool.{and_parts, or_cases, eqb-true}
 use Rattle.std.specs.Prelude.{Option, ◌==◌, ◌&&◌, ◌||◌, nat_le, if◌then◌else◌}
 use Rattle.gz_config.specs.declared.Config.{Config}
 use Rattle.gz_core.specs.Configurations.{IsConfig}
@@ -19,15 +19,17 @@ use Rattle.gz_core.specs.History.{Action, Sent, Handed, GaveUp, Rested, GaveIn}
 use Rattle.gz_round.specs.Rounds.{round_known}
 use Rattle.gz_round.specs.Sending.{rows_known}
 use Rattle.gz_round.specs.Sent.{of_sent, passes_sent, promise_by, has_promised_at, round_after, top_round}
-use Rattle.gz_round.specs.Shown.{heard_at, IsShown, IsNext, IsGrounded}
+use Rattle.gz_round.specs.Shown.{heard_at, IsShown, IsNext, IsGrounded, HasFloor}
 use Rattle.gz_round.specs.Sites.{SiteNow, site_now, known, row_seen, seen_in, heard_in, written_by, passes, concerns, some_heard, WasHeard}
 use Rattle.gz_round.proofs.Known.{last_heard}
 use Rattle.gz_world.specs.States.{State}
-use Rattle.gz_laws.specs.Bounded.{IsRowWithin, IfWritten, IfShown, EachRow}
+use Rattle.gz_laws.specs.Bounded.{IsRowWithin}
 use Rattle.gz_laws.specs.Carried.{ActionsCarried}
+use Rattle.gz_laws.specs.Rows.{IfWritten, IfShown, EachRow}
 use Rattle.gz_laws.proofs.Beginning.{some_needed}
 use Rattle.gz_laws.proofs.Hearing.{le_means}
-use Rattle.gz_laws.proofs.RowBounds.{top_within, vote_within, vote_above, decision_within, decision_above, round_within}
+use Rattle.gz_laws.proofs.RowBounds.{floor_within, top_within, vote_within, vote_above, decision_within, decision_above, round_within}
+use Rattle.gz_laws.proofs.RowRules.{blank_rule}
 use Rattle.gz_laws.proofs.AsHeard.{of_reply, heard_case}
 
 -- the rows that a call heard
@@ -45,7 +47,7 @@ AreHeardWithin versions rounds (GaveIn ∷ ms) = AreHeardWithin versions rounds 
 
 -- they are those of replies
 blank_within : (versions rounds : ℕ) → IsRowWithin versions rounds empty_row
-blank_within versions rounds = record { clean = record { floor = refl; rises = tt }; columns = tt }
+blank_within versions rounds = record { rule = blank_rule; columns = tt }
 
 seen_within : (versions rounds : ℕ) (op : Op) (reply : Reply) → IfWritten (IsRowWithin versions rounds) op → IfShown (IsRowWithin versions rounds) reply → IsSeenWithin versions rounds (seen_in (written_by op) reply)
 seen_within versions rounds op (Row etag row) w h = h
@@ -118,6 +120,14 @@ shown_within versions rounds c ms v x sizes h (inl k) =
 shown_within versions rounds c ms v x sizes h (inr k) =
     let r = at_within versions rounds c (λ q. decides x v (Some q)) ms h k in
     record { above = decision_above versions rounds r.0 v x r.1.1 r.1.0; below = decision_within versions rounds r.0 v x r.1.1 r.1.0 }
+
+-- a floor that was heard
+pub floor_low : (versions rounds : ℕ) (c : Config) (ms : List Action) (floor : ℕ) → AreHeardWithin versions rounds ms → HasFloor c ms floor → floor ≤ versions
+floor_low versions rounds c ms floor h has =
+    let r = at_within versions rounds c (λ row. row.floor == floor) ms h has in
+    let same = eqb-true r.0.floor floor r.1.0 in
+    let low = floor_within versions rounds r.0.floor r.0.columns r.1.1.rule.starts r.1.1.columns in
+    omega (arith, same, low)
 
 pub next_within : (versions rounds : ℕ) (c : Config) (ms : List Action) (v : ℕ) → IsConfig c → AreHeardWithin versions rounds ms → IsNext c ms v → v ≤ versions + 1
 next_within versions rounds c ms v sizes h (inl e) = omega (arith, e)

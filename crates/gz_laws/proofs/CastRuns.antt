@@ -11,7 +11,7 @@ use Rattle.std.specs.declared.cmp.Ordering.{Ordering}
 use Rattle.std.specs.declared.cmp.Ordering.TheVariants.{Less, Equal, Greater}
 use Rattle.gz_core.specs.Names.{Name, BallotAt, same_ballot, same_name}
 use Rattle.gz_core.specs.Values.{name_of}
-use Rattle.gz_core.specs.Rows.{RowAt, Rises, column_in}
+use Rattle.gz_core.specs.Rows.{RowAt, Rises, column_in, IsRow}
 use Rattle.gz_core.specs.Slots.{slots, slot_of}
 use Rattle.gz_core.specs.declared.rows.Column.{Column}
 use Rattle.gz_core.specs.declared.rows.Column.TheVariants.{Open, Decided}
@@ -21,8 +21,7 @@ use Rattle.gz_model.specs.declared.casts.Cast.{Cast}
 use Rattle.gz_ledger.specs.Acceptors.{slot_votes}
 use Rattle.gz_world.specs.Audit.{same_cast, is_listed, with_cast, with_casts, cast_at, casts_of}
 use Rattle.gz_core.proofs.Columns.{none_below}
-use Rattle.gz_laws.specs.Heard.{IsClean}
-use Rattle.gz_laws.proofs.Hearing.{slots_open}
+use Rattle.gz_laws.proofs.RowRules.{slots_cast}
 use Rattle.gz_laws.proofs.Keys.{same_key-eq}
 
 or_false : (b : Bool) → (b || false) ≡ b
@@ -142,8 +141,8 @@ columns_shown site k key bound ((u, Open promise (Some vote)) ∷ cs) same rises
 columns_shown site k key bound ((u, Decided value) ∷ cs) same rises v b x i = plain_column site k key u (Decided value) cs (λ b x. refl) rises.1 v b x i (columns_shown site k key u cs same rises.1 v b x i)
 
 -- the votes of a row are those of its slots
-pub row_casts : (site : ℕ) (k key : List ℕ) (row : RowAt) (v : ℕ) (b : BallotAt) (x : Name) (i : ℕ) → k ≡ key → IsClean row → has_cast (casts_of site k row) key v b x i ≡ ((site == i) && slot_votes (slots row v) b x)
-row_casts site k key row v b x i same clean = columns_shown site k key 0 row.columns same clean.rises v b x i ∙ ap (λ slot. (site == i) && slot_votes slot b x) (sym (slots_open row v clean.floor))
+pub row_casts : (site : ℕ) (k key : List ℕ) (row : RowAt) (v : ℕ) (b : BallotAt) (x : Name) (i : ℕ) → k ≡ key → IsRow row → has_cast (casts_of site k row) key v b x i ≡ ((site == i) && slot_votes (slots row v) b x)
+row_casts site k key row v b x i same rule = columns_shown site k key row.floor row.columns same rule.rises v b x i ∙ ap (λ t. (site == i) && t) (sym (slots_cast row v b x rule))
 
 -- the votes of another object's row are none of this one's
 other_vote : (c : Cast) (key : List ℕ) (v : ℕ) (b : BallotAt) (x : Name) (i : ℕ) → bytes_eq c.key key ≡ false → is_this c key v b x i ≡ false

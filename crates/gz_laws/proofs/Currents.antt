@@ -16,6 +16,7 @@ use Rattle.gz_config.specs.declared.Config.{Config}
 use Rattle.gz_core.specs.declared.values.Value.{Value}
 use Rattle.gz_core.specs.declared.requests.RowStep.{RowStep}
 use Rattle.gz_core.specs.declared.requests.RowStep.TheVariants.{FastVote, Promise, ClassicVote, Decide, Trim}
+use Rattle.gz_accept.proofs.Seen.{slots_there}
 use Rattle.gz_pick.specs.Looks.{row_top, top_in, shows_value}
 use Rattle.gz_model.specs.Sites.{has_site, AreSites}
 use Rattle.gz_core.specs.History.{Action, Caller, Trace}
@@ -30,8 +31,8 @@ use Rattle.gz_ledger.specs.Agreements.{HasQuorums}
 use Rattle.gz_ledger.specs.Transitions.{Store, Transition, after_transitions, AreTransitions, seen_after, sent_after}
 use Rattle.gz_ledger.proofs.Shown.{cast_from, voted_more}
 use Rattle.gz_ledger.proofs.Stores.{store_agreed}
-use Rattle.gz_laws.specs.Heard.{unused, IsClean, heard_of, ActionsStand}
-use Rattle.gz_laws.proofs.Hearing.{heard_found, heard_known, slots_open, le_means}
+use Rattle.gz_laws.specs.Heard.{unused, heard_of, ActionsStand}
+use Rattle.gz_laws.proofs.Hearing.{heard_found, heard_known, le_means}
 use Rattle.gz_laws.proofs.Promising.{promises_heard, vote_heard}
 use Rattle.gz_laws.proofs.Owning.{own_of, own_writes}
 
@@ -56,9 +57,9 @@ top_most (c ∷ cs) u column h shows =
           elim (shows_value c.1) as (λ t. u ≤ (if t then max c.0 (top_in cs) else top_in cs)) [ true ↦ omega (arith, r) | false ↦ r ]
     ] refl h
 
-quiet_row : (row : RowAt) (v : ℕ) → IsClean row → row_top row ≤ v → IsQuiet (slots row) v
-quiet_row row v clean low = λ u above h.
-    let k = value_shown (column_in row.columns u) (subst HasValue (slots_open row u clean.floor) h) in
+quiet_row : (row : RowAt) (v : ℕ) → row_top row ≤ v → IsQuiet (slots row) v
+quiet_row row v low = λ u above h.
+    let k = value_shown (column_in row.columns u) (subst HasValue (slots_there row u (λ gone. subst HasValue gone h)) h) in
     let most = top_most row.columns u k.0 k.1.0 k.1.1 in
     omega (arith, most, low, above)
 
@@ -118,7 +119,7 @@ collect (suc n) p es Q f =
 pub current_heard : (c : Config) (st : Store) (ms : List Action) (v : ℕ) (p : RowAt → Bool) → ActionsStand st ms → ((r : RowAt) → p r ≡ true → row_top r ≤ v) → c.qc ≤ heard_at c p ms → IsCurrentByRows c (heard_of ms) v
 current_heard c st ms v p stands low enough =
     let k = collect c.n (some_heard p ms) (heard_of ms) (λ row. IsQuiet row v)
-    (λ s h. let f = heard_found st p ms s stands h in (slots f.0, (quiet_row f.0 v f.1.0 (low f.0 f.1.1.0), f.1.1.1))) in
+    (λ s h. let f = heard_found st p ms s stands h in (slots f.0, (quiet_row f.0 v (low f.0 f.1.1.0), f.1.1.1))) in
     let all = k.1 in
     let many = all.enough in
     record { rows = k.0; sites = all.sites; enough = omega (arith, enough, many); found = all.found; quiet = all.good }

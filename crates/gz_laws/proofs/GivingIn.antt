@@ -8,16 +8,17 @@ use Rattle.gz_core.specs.Values.{name_of}
 use Rattle.gz_core.specs.Calls.{key_of}
 use Rattle.gz_core.specs.Configurations.{need}
 use Rattle.gz_core.specs.Counts.{count_sites}
-use Rattle.gz_core.specs.Rows.{RowAt, column_in}
+use Rattle.gz_core.specs.Rows.{RowAt, column_in, IsRow}
 use Rattle.gz_core.specs.declared.slots.Slot.{Slot}
 use Rattle.gz_core.specs.declared.slots.Slot.TheVariants.{Gone, DecidedAs, OpenAt}
-use Rattle.gz_core.specs.Slots.{Promises, VotesClassic, slots, slot_of, slot_vote}
+use Rattle.gz_core.specs.Slots.{Promises, VotesClassic, is_collected, slots, slot_of, slot_vote}
 use Rattle.gz_core.specs.declared.rows.Column.{Column}
 use Rattle.gz_core.specs.declared.rows.Column.TheVariants.{Open, Decided}
 use Rattle.gz_core.proofs.Ballots.{same_means, same_refl, name_refl}
 use Rattle.gz_core.proofs.Counting.{count_within, count_found}
 use Rattle.gz_accept.specs.declared.answers.Step.TheVariants.{Done, Already, Below}
-use Rattle.gz_accept.specs.Steps.{promise_at, classic_at, promise_answer, classic_answer}
+use Rattle.gz_accept.specs.Steps.{IsOpenSlot, promise_at, classic_at, promise_answer, classic_answer}
+use Rattle.gz_accept.proofs.Seen.{open_there, slots_there}
 use Rattle.gz_pick.specs.Evidences.{is_in, is_for, votes_for}
 use Rattle.gz_pick.specs.Looks.{row_top}
 use Rattle.gz_round.specs.declared.hearing.Seen.{Seen}
@@ -25,7 +26,7 @@ use Rattle.gz_round.specs.Counting.{IsGoing}
 use Rattle.gz_core.specs.History.{Action, Caller, Trace}
 use Rattle.gz_round.specs.LookBack.{row_cast, column_cast, or_next, lowest, lowest_vote, before_promise}
 use Rattle.gz_round.specs.Rounds.{slot_promises, promises_known}
-use Rattle.gz_round.specs.Sending.{AreAllowed, MayGiveIn, NoPromise, NoVote, NoValue, Collected, IsIdle, IsShort, IsUncast, IsWithoutValue, IsCollected, rows_known}
+use Rattle.gz_round.specs.Sending.{AreAllowed, MayGiveIn, NoPromise, NoVote, NoValue, IsIdle, IsShort, IsUncast, IsWithoutValue, rows_known}
 use Rattle.gz_round.specs.Sent.{last_promise, has_promised_at}
 use Rattle.gz_round.specs.Shown.{heard_at}
 use Rattle.gz_round.specs.Sites.{SiteNow, site_now, known, row_seen}
@@ -45,13 +46,13 @@ use Rattle.gz_ledger.proofs.SoundVotes.{carries_one}
 use Rattle.gz_ledger.proofs.Stores.{rows_in, store_agreed, store_sound, early_transitions}
 use Rattle.gz_laws.specs.Begun.{begins_of, sends_of}
 use Rattle.gz_laws.specs.Carried.{ActionsCarried}
-use Rattle.gz_laws.specs.Heard.{unused, IsClean, heard_of, ActionsStand, SentStep}
+use Rattle.gz_laws.specs.Heard.{unused, heard_of, ActionsStand, SentStep}
 use Rattle.gz_laws.specs.Runs.{IsRun}
 use Rattle.gz_world.specs.States.{State}
 use Rattle.gz_laws.proofs.FirstPromises.{first_sends, before_unpromised, before_keeps, split_begins, HasStep, write_begun, sends_promised}
 use Rattle.gz_laws.proofs.Guarding.{top_heard}
 use Rattle.gz_laws.proofs.HeardOrder.{HeardInOrder}
-use Rattle.gz_laws.proofs.Hearing.{heard_known, last_stands, slots_open}
+use Rattle.gz_laws.proofs.Hearing.{heard_known, last_stands}
 use Rattle.gz_laws.proofs.Keeping.{actions_stand, sent_asked}
 use Rattle.gz_laws.proofs.LastRows.{entry_at, last_from, order_tail}
 use Rattle.gz_laws.proofs.Promising.{promised_sent, sent_casts, promises_heard}
@@ -85,12 +86,12 @@ known_row now row e =
     seen_row None k = cc
     seen_row (Some seen) k = (seen, (refl, cc))
 
-known_shown : (s : State) (w : Caller) (past : List Trace) (ms : List Action) (i : ℕ) (row : RowAt) → (k : IsKnownCall s w past ms) → rows_known ms i ≡ Some row → IsClean row × (let e : RowSeen = record { site = i; row = slots row } in IsIn e (seen_after unused k.transitions))
+known_shown : (s : State) (w : Caller) (past : List Trace) (ms : List Action) (i : ℕ) (row : RowAt) → (k : IsKnownCall s w past ms) → rows_known ms i ≡ Some row → IsRow row × (let e : RowSeen = record { site = i; row = slots row } in IsIn e (seen_after unused k.transitions))
 known_shown s w past ms i row k e =
     let st = after_transitions unused k.transitions in
     let r = known_row (site_now ms i) row e in
     let l = last_stands st ms i (heard_stands s w past ms k) r.0 r.1.0 in
-    subst (λ (q : RowAt). IsClean q × (let e : RowSeen = record { site = i; row = slots q } in IsIn e (seen_after unused k.transitions))) r.1.1 (l.0, rows_in st.replies (record { site = i; etag = r.0.etag; row = slots r.0.row }) l.1)
+    subst (λ (q : RowAt). IsRow q × (let e : RowSeen = record { site = i; row = slots q } in IsIn e (seen_after unused k.transitions))) r.1.1 (l.0, rows_in st.replies (record { site = i; etag = r.0.etag; row = slots r.0.row }) l.1)
 
 -- enough sites are not out
 count_rest : (n : ℕ) (p : ℕ → Bool) → n ≤ count_sites n p + count_sites n (λ s. not (p s))
@@ -130,11 +131,12 @@ classic_taken_at (OpenAt p (Some u)) floor b h = (u.1, (p, ap (λ (q : BallotAt)
 promise_taken : (row : RowAt) (v : ℕ) (b : BallotAt) → promise_answer row v b ≡ Already → (vote : Option (BallotAt × Name)) × (slots row v ≡ OpenAt b vote)
 promise_taken row v b h = promise_taken_at (slots row v) row.floor b h
 
-classic_taken : (row : RowAt) (v : ℕ) (b : BallotAt) → row.floor ≡ 0 → classic_answer row v b ≡ Already → (y : Name) × ((p : BallotAt) × ((slots row v ≡ OpenAt p (Some (b, y))) × (votes_for b y v (Some row) ≡ true)))
-classic_taken row v b clean h =
+classic_taken : (row : RowAt) (v : ℕ) (b : BallotAt) → classic_answer row v b ≡ Already → (y : Name) × ((p : BallotAt) × ((slots row v ≡ OpenAt p (Some (b, y))) × (votes_for b y v (Some row) ≡ true)))
+classic_taken row v b h =
     let k = classic_taken_at (slots row v) row.floor b h in
     let y = k.0 in
-    (y, (k.1.0, (k.1.1, ap (λ (a : Slot). is_for b y (slot_vote a)) (sym (slots_open row v clean) ∙ k.1.1) ∙ ap (λ t. t && same_name y y) (same_refl b) ∙ name_refl y)))
+    let there = slots_there row v (open_there (slots row v) (subst IsOpenSlot (sym k.1.1) tt)) in
+    (y, (k.1.0, (k.1.1, ap (λ (a : Slot). is_for b y (slot_vote a)) (sym there ∙ k.1.1) ∙ ap (λ t. t && same_name y y) (same_refl b) ∙ name_refl y)))
 
 -- the promise of the ballot that the call promised last
 promise_of : (s : State) (w : Caller) (past : List Trace) (ms : List Action) (v : ℕ) (b : BallotAt) → (k : IsKnownCall s w past ms) → has_promised_at ms v b ≡ true → IsPromised (sent_after unused k.transitions) w.name v b
@@ -193,7 +195,7 @@ no_vote s w past ms v b k going idle last taken =
     let vote : (i : ℕ) → i < c.n → not (site_now ms i).out ≡ true → (row : RowAt) × ((y : Name) × ((rows_known ms i ≡ Some row) × ((votes_for b y v (Some row) ≡ true) × (votes l v b y i ≡ true)))) = λ i below h.
     (let r = in_known c ms v i idle below h in
     let shown = known_shown s w past ms i r.0 k r.1 in
-    let t = classic_taken r.0 v b shown.0.floor (taken i r.0 below r.1) in
+    let t = classic_taken r.0 v b (taken i r.0 below r.1) in
     (r.0, (t.0, (r.1, (t.1.1.1, row_votes l v b t.0 i (slots r.0) (inr (record { site = i; row = slots r.0 }, shown.1, refl, refl)) (t.1.0, t.1.1.0)))))) in
     let first = vote f.0 f.1 f.2 in
     let x = first.1.0 in
@@ -202,7 +204,7 @@ no_vote s w past ms v b k going idle last taken =
     let same : o.1.0 ≡ x = carries_one c l v so b o.1.0 x i f.0 classic o.1.1.1.1 first.1.1.1.1 in
     ap (λ r. votes_for b x v r) o.1.1.0 ∙ ap (λ (y : Name). votes_for b y v (Some o.0)) (sym same) ∙ o.1.1.1.0) in
     let needed : need c.qc c.qf b ≡ c.qc = ap (λ t. if t then c.qf else c.qc) classic in
-    idle.undecided x (inl (b, omega (arith, all, enough, needed)))
+    idle.undecided.evident x (inl (b, omega (arith, all, enough, needed)))
 
 -- nor for want of a value. Where the version had begun before the ballot was promised, a value was shown at it, or a vote
 -- was the last that its site had.
@@ -237,6 +239,23 @@ last_cast : (v : ℕ) (o : Option Seen) (seen : Seen) → o ≡ Some seen → ro
 last_cast v None seen e h = cc
 last_cast v (Some x) seen e h = let same : x ≡ seen = cc in subst (λ (k : Seen). column_cast (column_in k.row.columns v) ≡ None) same h
 
+-- where a version was collected, a value was shown at it
+collected_shown : (c : Config) (early : List Transition) (e : RowSeen) (v : ℕ) → HasQuorums c → AreTransitions c unused early → 1 ≤ v → IsIn e (seen_after unused early) → e.row v ≡ Gone → (x : Name) × IsShownByRows c (seen_after unused early) v x
+collected_shown c early e v q all positive found gone =
+    let top = ((store_sound c unused early q all).seen_acceptor e found).topped v gone in
+    let y = (store_agreed c unused early q all).settled e v top.0 found positive top.1 (subst HasValue (sym top.3) tt) in
+    (y.0, inl y.1)
+
+-- the last row of a site that had a vote: where no vote is left, the version was decided, or collected
+last_shown : (c : Config) (early : List Transition) (v site : ℕ) (last : Seen) (a : Slot) (p : BallotAt) (u : BallotAt × Name) → HasQuorums c → AreTransitions c unused early → 1 ≤ v → IsIn (entry_at site last) (seen_after unused early)
+    → a ≡ OpenAt p (Some u) → SlotFollows a (slots last.row v) → column_cast (column_in last.row.columns v) ≡ None → (x : Name) × IsShownByRows c (seen_after unused early) v x
+last_shown c early v site last a p u q all positive found is follows cast = elim (cases_Bool (is_collected last.row v)) [
+  | inl gone ↦ collected_shown c early (entry_at site last) v q all positive found (ap (λ t. if t then Gone else slot_of (column_in last.row.columns v)) gone)
+  | inr there ↦ (let slot : slots last.row v ≡ slot_of (column_in last.row.columns v) = ap (λ t. if t then Gone else slot_of (column_in last.row.columns v)) there in
+      let d = decided_after (column_in last.row.columns v) a p u is (subst (SlotFollows a) slot follows) cast in
+      (d.0, inr (record { entry = entry_at site last; found = found; decided = slot ∙ d.1 })))
+]
+
 -- a value was shown at the version before the call promised its ballot
 shown_before : (c : Config) (st : Store) (start : List Action) (early : List Transition) (v : ℕ) → HasQuorums c → AreTransitions c unused early → 1 ≤ v → ActionsStand st start → HeardInOrder start → ((e : RowSeen) → IsIn e (heard_of start) → IsIn e (seen_after unused early))
     → 1 ≤ heard_at c (λ r. nat_le v (row_top r)) start → lowest_vote c.n v start ≡ None → (x : Name) × IsShownByRows c (seen_after unused early) v x
@@ -250,11 +269,8 @@ shown_before c st start early v q all positive stands order known begun none =
           elim (value_cases (e.row v) (subst (λ u. HasValue (e.row u)) same t.value)) [
             | inl d ↦ (d.0, inr (record { entry = e; found = known e t.found; decided = d.1 }))
             | inr o ↦ (let last = last_from start e.site e order t.found refl in
-                let clean = (last_stands st start e.site stands last.0 last.1.0).0 in
                 let cast = last_cast v (site_now start e.site).row last.0 last.1.0 (lowest_none c.n (λ i. row_cast v (row_seen (site_now start i).row)) e.site none t.within) in
-                let slot = slots_open last.0.row v clean.floor in
-                let d = decided_after (column_in last.0.row.columns v) (e.row v) o.0 o.1.0 o.1.1 (subst (λ (k : Slot). SlotFollows (e.row v) k) slot (last.1.1.1 v)) cast in
-                (d.0, inr (record { entry = entry_at e.site last.0; found = known (entry_at e.site last.0) last.1.1.0; decided = slot ∙ d.1 })))
+                last_shown c early v e.site last.0 (e.row v) o.0 o.1.0 q all positive (known (entry_at e.site last.0) last.1.1.0) o.1.1 (last.1.1.1 v) cast)
           ])
     ]
 
@@ -310,17 +326,7 @@ no_value s w past ms v b k h =
     (subst (λ ks. IsUncastByWrites (sent_after unused ks) v b) split (none_cast s w past ms v b k promised h.uncast)) ok.0 shown.1
     (subst (λ ks. IsQuorumHeard c (seen_after unused ks) v b h.heard) split quorum) h.free
 
--- nor because its version was collected
-not_collected : (s : State) (w : Caller) (past : List Trace) (ms : List Action) (v : ℕ) (b : BallotAt) → IsKnownCall s w past ms → IsCollected s.cfg w past ms v b → ⊥
-not_collected s w past ms v b k h =
-    let g = h.gone in
-    let clean = (known_shown s w past ms g.0 g.1 k g.3).0.floor in
-    let above = h.promise.above in
-    let below = g.4 in
-    omega (arith, clean, above, below)
-
-pub never : (s : State) (w : Caller) (past : List Trace) (ms : List Action) → IsKnownCall s w past ms → MayGiveIn s.cfg w past ms → ⊥
+pub never : (s : State) (w : Caller) (past : List Trace) (ms : List Action) → IsKnownCall s w past ms → MayGiveIn s.cfg w ms → ⊥
 never s w past ms k (NoPromise v b stuck uncast short) = no_promise s w past ms v b k stuck.going stuck.idle stuck.last stuck.taken uncast short
 never s w past ms k (NoVote v b x stuck may) = no_vote s w past ms v b k stuck.going stuck.idle stuck.last stuck.taken
 never s w past ms k (NoValue v b h) = no_value s w past ms v b k h
-never s w past ms k (Collected v b h) = not_collected s w past ms v b k h

@@ -1,24 +1,26 @@
 -- What a client sends at one event grows the store of its object by transitions of the machine of agreement.
-use Rattle.std.proofs.Common.{◌≡◌, ℕ, zero, suc, ◌+◌, ◌⊎◌, ◌≤◌, Bool, true, false, inl, inr, List, [], ◌∷◌, ◌++◌, Option, Some, None, refl, ap, sym, ◌∙◌, subst, arith}
+use Rattle.std.proofs.Common.{◌≡◌, ◌≢◌, ℕ, zero, suc, ◌+◌, ◌⊎◌, ◌≤◌, Bool, true, false, inl, inr, List, [], ◌∷◌, ◌++◌, Option, Some, None, refl, ap, sym, ◌∙◌, subst, arith}
 use Rattle.std.specs.Prelude.{if◌then◌else◌, slice_get}
-use Rattle.std.proofs.lemmas.Bool.{cases_lt, false≢true}
-use Rattle.gz_core.specs.Names.{Name, BallotAt, same_name}
+use Rattle.std.proofs.lemmas.Bool.{false≢true}
+use Rattle.gz_core.specs.Names.{Name, BallotAt, fast, same_name}
 use Rattle.gz_core.specs.Values.{name_of}
-use Rattle.gz_core.specs.Rows.{RowAt, column_in}
-use Rattle.gz_core.specs.Slots.{Act, Promises, act_of, slots, slot_of, slot_vote, slot_decision}
+use Rattle.gz_core.specs.Rows.{RowAt, column_in, IsRow}
+use Rattle.gz_core.specs.Slots.{Act, Promises, act_of, slots, slot_of, slot_vote}
 use Rattle.gz_core.specs.declared.rows.Column.{Column}
-use Rattle.gz_core.proofs.Ballots.{name_refl}
-use Rattle.gz_core.proofs.Columns.{none_below}
+use Rattle.gz_core.specs.declared.rows.Column.TheVariants.{Open, Decided}
+use Rattle.gz_core.proofs.Ballots.{name_refl, below_never}
 use Rattle.gz_core.proofs.Counting.{count_found}
 use Rattle.gz_core.proofs.Quorums.{need_some}
-use Rattle.gz_pick.specs.Evidences.{votes_for, decides, is_for, is_named}
+use Rattle.gz_pick.specs.Evidences.{votes_for, decides, is_for}
 use Rattle.gz_config.specs.declared.Config.{Config}
 use Rattle.gz_core.specs.declared.requests.RowStep.{RowStep}
 use Rattle.gz_core.specs.declared.requests.RowStep.TheVariants.{FastVote, Promise, ClassicVote, Decide, Trim}
 use Rattle.gz_core.specs.declared.requests.Op.{Op}
 use Rattle.gz_core.specs.declared.requests.Op.TheVariants.{ReadRow, WriteRow}
 use Rattle.gz_core.specs.declared.requests.Out.{Out}
-use Rattle.gz_accept.proofs.Rising.{rises_with}
+use Rattle.gz_accept.specs.Steps.{IsOpenSlot, vote_in}
+use Rattle.gz_accept.proofs.Making.{makes_fast, makes_promise, makes_classic, makes_decision, makes_trim, promise_rule}
+use Rattle.gz_accept.proofs.Rising.{row_with, row_trimmed}
 use Rattle.gz_core.specs.History.{Action, Sent, Caller, Trace, asked_of, sent_from}
 use Rattle.gz_data.specs.Own.{IsOwn}
 use Rattle.gz_round.specs.Shown.{IsShown}
@@ -31,9 +33,11 @@ use Rattle.gz_ledger.specs.Agreements.{HasQuorums}
 use Rattle.gz_ledger.specs.Transitions.{Store, Transition, Begins, WriteSent, AreTransitions, after_transitions, writes_of, late_rows, sent_after, AreCurrentTransitions}
 use Rattle.gz_ledger.proofs.Shown.{current_more}
 use Rattle.gz_laws.specs.Begun.{begins_of, step_sent, sends_of}
-use Rattle.gz_laws.specs.Heard.{unused, IsClean, heard_of, ActionsStand, IsStepSent, SentStep, PastStep, Keeps, AskedHere, CleanOp}
-use Rattle.gz_laws.proofs.Hearing.{IsLastRow, heard_found, heard_known, last_stands, stand_more}
+use Rattle.gz_laws.specs.Heard.{unused, heard_of, ActionsStand, IsStepSent, SentStep, PastStep, Keeps, AskedHere}
+use Rattle.gz_laws.specs.Rows.{IfWritten}
+use Rattle.gz_laws.proofs.Hearing.{IsLastRow, decision_there, heard_found, heard_known, last_stands, stand_more}
 use Rattle.gz_laws.proofs.Keys.{name_apart}
+use Rattle.gz_laws.proofs.RowRules.{there_above, column_above}
 use Rattle.gz_laws.proofs.Sending.{step_makes}
 use Rattle.gz_laws.proofs.Guarding.{may_send}
 use Rattle.gz_laws.proofs.Currents.{own_current}
@@ -51,17 +55,13 @@ only_itself st = record { stored = λ s. refl; used = λ s. refl; replies = refl
 pub only_then : (a b c : Store) → OnlyAsks a b → OnlyAsks b c → OnlyAsks a c
 only_then a b c p q = record { stored = λ s. q.stored s ∙ p.stored s; used = λ s. q.used s ∙ p.used s; replies = q.replies ∙ p.replies; asked = λ k h. q.asked k (p.asked k h) }
 
--- a version at which a clean row has a column is above 0
-pub first_seen : (row : RowAt) (v : ℕ) → IsClean row → (column_in row.columns v ≡ None → ⊥) → 1 ≤ v
-first_seen row v clean there = elim (cases_lt 0 v) [ inl l ↦ omega arith | inr l ↦ absurd (there (none_below v 0 row.columns (omega arith) clean.rises)) ]
+-- a version at which a row has a column is above 0
+pub first_seen : (row : RowAt) (v : ℕ) → IsRow row → column_in row.columns v ≢ None → 1 ≤ v
+first_seen row v rule there = let above = column_above row v rule there in omega (arith, above)
 
-vote_there : (b : BallotAt) (x : Name) (o : Option Column) → is_for b x (slot_vote (slot_of o)) ≡ true → o ≡ None → ⊥
+vote_there : (b : BallotAt) (x : Name) (o : Option Column) → is_for b x (slot_vote (slot_of o)) ≡ true → o ≢ None
 vote_there b x None h = λ e. absurd (false≢true h)
 vote_there b x (Some column) h = λ e. cc
-
-decision_there : (x : Name) (o : Option Column) → is_named x (slot_decision (slot_of o)) ≡ true → o ≡ None → ⊥
-decision_there x None h = λ e. absurd (false≢true h)
-decision_there x (Some column) h = λ e. cc
 
 -- a version at which a value is shown is above 0
 first_shown : (c : Config) (st : Store) (ms : List Action) (v : ℕ) (x : Name) → HasQuorums c → ActionsStand st ms → IsShown c ms v x → 1 ≤ v
@@ -77,13 +77,24 @@ first_shown c st ms v x quorums stands (inr k) =
     let g = heard_found st decided ms f.0 stands f.2 in
     first_seen g.0 v g.1.0 (decision_there x (column_in g.0.columns v) g.1.1.0)
 
--- a clean row that a step changes is clean
-pub clean_made : (c : Config) (w : Caller) (past : List Trace) (ms : List Action) (step : RowStep) (old new : RowAt) → ((v : ℕ) (x : Name) → IsShown c ms v x → 1 ≤ v) → MayMake c w past ms step → IsMade step old new → IsClean old → IsClean new
-clean_made c w past ms (FastVote v x) old new first may m clean = let above = may.1.above in subst IsClean (sym m.1) (record { floor = clean.floor; rises = rises_with v 0 _ old.columns above clean.rises })
-clean_made c w past ms (Promise v b) old new first may m clean = let above = may.above in subst IsClean (sym m.1) (record { floor = clean.floor; rises = rises_with v 0 _ old.columns above clean.rises })
-clean_made c w past ms (ClassicVote v b x) old new first may m clean = let above = may.above in subst IsClean (sym m.1) (record { floor = clean.floor; rises = rises_with v 0 _ old.columns above clean.rises })
-clean_made c w past ms (Decide v x) old new first may m clean = let above = first v (name_of x) may.0 in subst IsClean (sym m.1) (record { floor = clean.floor; rises = rises_with v 0 _ old.columns above clean.rises })
-clean_made c w past ms (Trim to x) old new first may m clean = absurd may
+-- a row that a step changes keeps the rule of rows
+pub row_made : (c : Config) (w : Caller) (past : List Trace) (ms : List Action) (step : RowStep) (old new : RowAt) → ((v : ℕ) (x : Name) → IsShown c ms v x → 1 ≤ v) → MayMake c w past ms step → IsMade step old new → IsRow old → IsRow new
+row_made c w past ms (FastVote v x) old new first may m rule =
+    let made = makes_fast old v x m.0 in
+    subst IsRow (sym m.1) (row_with old v (Open fast (Some (record { ballot = fast; value = x }))) rule may.1.above (below_never fast) (subst IsOpenSlot (sym made.0) tt))
+row_made c w past ms (Promise v b) old new first may m rule =
+    let made = makes_promise old v b m.0 in
+    let vote = vote_in (column_in old.columns v) in
+    subst IsRow (sym m.1) (row_with old v (Open b vote) rule may.above (promise_rule old v b vote rule may.classic m.0 refl) (subst IsOpenSlot (sym made.1.1.0) tt))
+row_made c w past ms (ClassicVote v b x) old new first may m rule =
+    let made = makes_classic old v b x m.0 in
+    subst IsRow (sym m.1) (row_with old v (Open b (Some (record { ballot = b; value = x }))) rule may.above (below_never b) (subst IsOpenSlot (sym made.1.1.0) tt))
+row_made c w past ms (Decide v x) old new first may m rule =
+    let made = makes_decision old v x m.0 in
+    subst IsRow (sym m.1) (row_with old v (Decided x) rule (first v (name_of x) may.0) tt (subst IsOpenSlot (sym made.1.1.0) tt))
+row_made c w past ms (Trim to x) old new first may m rule =
+    let made = makes_trim old to x m.0 in
+    subst IsRow (sym m.1) (row_trimmed old to x rule (there_above old to may.above made.0))
 
 pub here_more : (name : Name) (site : ℕ) (op : Op) (old new : Store) → OnlyAsks old new → AskedHere name site op old → AskedHere name site op new
 here_more name site (WriteRow key expect step row) old new only h = (h.0, (h.1.0, only.asked h.0 h.1.1))
@@ -140,7 +151,7 @@ pub record Asks (c : Config) (w : Caller) (past : List Trace) (ms : List Action)
   pub drawn : (q : Write) (v : ℕ) (b : BallotAt) → IsIn q (writes_of (after_transitions unused more).asked) → q.act ≡ Promises v b → b.session ≡ q.call.session
   pub others : (q : Write) → IsIn q (writes_of (after_transitions unused more).asked) → q.call.session ≡ w.name.session → (q.call ≡ w.name) ⊎ PastStep past q.act
   pub here : AskedHere w.name site op (after_transitions unused more)
-  pub clean : CleanOp op
+  pub rule : IfWritten IsRow op
   pub from : (q : Write) → IsIn q (writes_of (after_transitions unused more).asked) → IsIn q (writes_of (after_transitions unused ds).asked) ⊎ IsNewOf w ds op q
   pub begun : (x : Name) → begins_of x more ≡ (if same_name w.name x then step_sent op (heard_of ms) (begins_of x ds) else begins_of x ds)
   pub on : GoOn c w.name ms ds more
@@ -149,7 +160,7 @@ pub record Asks (c : Config) (w : Caller) (past : List Trace) (ms : List Action)
 pub record IsNoWrite (op : Op) : Type 0 where
   pub steps : (act : Act) → IsStepSent op act → ⊥
   pub here : (name : Name) (site : ℕ) (st : Store) → AskedHere name site op st
-  pub clean : CleanOp op
+  pub rule : IfWritten IsRow op
   pub begun : (heard : List RowSeen) (rest : List (List RowSeen × Act)) → step_sent op heard rest ≡ rest
 
 -- begins none
@@ -200,7 +211,7 @@ unasked c w past ms ds site op are keeps none = record {
   drawn = keeps.drawn;
   others = keeps.others;
   here = none.here w.name site (after_transitions unused ds);
-  clean = none.clean;
+  rule = none.rule;
   from = λ q h. inl h;
   begun = λ x. none_begun (same_name w.name x) op (heard_of ms) (begins_of x ds) (none.begun (heard_of ms) (begins_of x ds));
   on = same_on c w.name ms ds;
@@ -208,7 +219,7 @@ unasked c w past ms ds site op are keeps none = record {
 
 ask_op : (c : Config) (w : Caller) (past : List Trace) (ms : List Action) (ds : List Transition) (site : ℕ) (now : SiteNow) (op : Op) → HasQuorums c → AreTransitions c unused ds → Keeps c w past ms (after_transitions unused ds) → AreAllowed c w past ms
     → IsLastRow (after_transitions unused ds) site now.row → MayAskRow c w past ms now op → (more : List Transition) × Asks c w past ms ds site op more
-ask_op c w past ms ds site now (ReadRow key) quorums are keeps allowed last may = (ds, unasked c w past ms ds site (ReadRow key) are keeps (record { steps = λ act h. h; here = λ name s st. tt; clean = tt; begun = λ heard rest. refl }))
+ask_op c w past ms ds site now (ReadRow key) quorums are keeps allowed last may = (ds, unasked c w past ms ds site (ReadRow key) are keeps (record { steps = λ act h. h; here = λ name s st. tt; rule = tt; begun = λ heard rest. refl }))
 ask_op c w past ms ds site now (WriteRow key expect step row) quorums are keeps allowed last may =
     let m = (may refl).1 in
     let known = last (record { etag = expect; row = m.before }) m.last in
@@ -231,13 +242,13 @@ ask_op c w past ms ds site now (WriteRow key expect step row) quorums are keeps 
         drawn = λ q v b h is. write_drawn c w past ms ds step wr q v b keeps m.guard refl refl h is;
         others = λ q h e. write_others c w past ms ds wr q keeps refl h e;
         here = (qa, ((slots m.before, refl), inl refl));
-        clean = clean_made c w past ms step m.before row (λ v x. first_shown c (after_transitions unused ds) ms v x quorums keeps.stands) m.guard m.made known.0;
+        rule = row_made c w past ms step m.before row (λ v x. first_shown c (after_transitions unused ds) ms v x quorums keeps.stands) m.guard m.made known.0;
         from = λ q h. write_from c w past ms ds step wr q quorums are keeps.value keeps.stands m.guard refl refl h;
         begun = λ x. refl;
         on = ask_on c w past ms ds step qa quorums are keeps.value keeps.stands m.guard refl refl;
       },
     )
-ask_op c w past ms ds site now op quorums are keeps allowed last may = (ds, unasked c w past ms ds site op are keeps (record { steps = λ act h. h; here = λ name s st. tt; clean = tt; begun = λ heard rest. refl }))
+ask_op c w past ms ds site now op quorums are keeps allowed last may = (ds, unasked c w past ms ds site op are keeps (record { steps = λ act h. h; here = λ name s st. tt; rule = tt; begun = λ heard rest. refl }))
 
 -- the writes that a call began are those that it sends, and no other call's have changed
 pub record HasBegun (name : Name) (first : ℕ) (outs : List Out) (ms : List Action) (ds more : List Transition) : Type 0 where
@@ -255,7 +266,7 @@ pub record Sends (c : Config) (w : Caller) (past : List Trace) (first : ℕ) (ou
   pub are : AreTransitions c unused more
   pub only : OnlyAsks (after_transitions unused ds) (after_transitions unused more)
   pub keeps : Keeps c w past (sent_from first outs ms) (after_transitions unused more)
-  pub here : (j : ℕ) (o : Out) → slice_get outs j ≡ Some o → AskedHere w.name o.site o.op (after_transitions unused more) × CleanOp o.op
+  pub here : (j : ℕ) (o : Out) → slice_get outs j ≡ Some o → AskedHere w.name o.site o.op (after_transitions unused more) × IfWritten IsRow o.op
   pub from : (q : Write) → IsIn q (writes_of (after_transitions unused more).asked) → IsIn q (writes_of (after_transitions unused ds).asked) ⊎ ((q.call ≡ w.name) × IsOwnVote w ds q.act)
   pub begun : HasBegun w.name first outs ms ds more
   pub on : GoOn c w.name ms ds more
@@ -264,9 +275,9 @@ pub allowed_base : (c : Config) (w : Caller) (past : List Trace) (first : ℕ) (
 allowed_base c w past first [] ms h = h
 allowed_base c w past first (o ∷ os) ms h = (allowed_base c w past (first + 1) os (Sent (asked_of first o) ∷ ms) h).1
 
-here_cons : (name : Name) (st : Store) (out : Out) (outs : List Out) → AskedHere name out.site out.op st × CleanOp out.op → ((j : ℕ) (o : Out) → slice_get outs j ≡ Some o → AskedHere name o.site o.op st × CleanOp o.op)
-    → (j : ℕ) (o : Out) → slice_get (out ∷ outs) j ≡ Some o → AskedHere name o.site o.op st × CleanOp o.op
-here_cons name st out outs one more zero o e = let p : out ≡ o = cc in subst (λ (k : Out). AskedHere name k.site k.op st × CleanOp k.op) p one
+here_cons : (name : Name) (st : Store) (out : Out) (outs : List Out) → AskedHere name out.site out.op st × IfWritten IsRow out.op → ((j : ℕ) (o : Out) → slice_get outs j ≡ Some o → AskedHere name o.site o.op st × IfWritten IsRow o.op)
+    → (j : ℕ) (o : Out) → slice_get (out ∷ outs) j ≡ Some o → AskedHere name o.site o.op st × IfWritten IsRow o.op
+here_cons name st out outs one more zero o e = let p : out ≡ o = cc in subst (λ (k : Out). AskedHere name k.site k.op st × IfWritten IsRow k.op) p one
 here_cons name st out outs one more (suc j) o e = more j o e
 
 on_then : (c : Config) (name : Name) (ms : List Action) (ds mid more : List Transition) → GoOn c name ms ds mid → GoOn c name ms mid more → GoOn c name ms ds more
@@ -302,7 +313,7 @@ sends c w past first (out ∷ outs) ms ds quorums are keeps allowed =
         are = rest.are;
         only = only_then (after_transitions unused ds) (after_transitions unused k.0) (after_transitions unused r.0) one.only rest.only;
         keeps = rest.keeps;
-        here = here_cons w.name (after_transitions unused r.0) out outs (here_more w.name out.site out.op (after_transitions unused k.0) (after_transitions unused r.0) rest.only one.here, one.clean) rest.here;
+        here = here_cons w.name (after_transitions unused r.0) out outs (here_more w.name out.site out.op (after_transitions unused k.0) (after_transitions unused r.0) rest.only one.here, one.rule) rest.here;
         from = λ q h. sent_new c w past ms out.site out.op ds k.0 one q (rest.from q h);
         begun = begun_then c w past first out outs ms ds k.0 r.0 one rest.begun;
         on = on_then c w.name ms ds k.0 r.0 one.on rest.on;

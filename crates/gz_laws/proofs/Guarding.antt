@@ -1,8 +1,9 @@
 -- The guards of a client are within those of the machine of agreement.
-use Rattle.std.proofs.Common.{◌≡◌, ℕ, ◌<◌, ◌≤◌, ◌⊎◌, inl, inr, List, [], ◌∷◌, Some, None, true, false, refl, ap, sym, ◌∙◌, subst, arith}
+use Rattle.std.proofs.Common.{◌≡◌, ℕ, ◌+◌, ◌<◌, ◌≤◌, ◌⊎◌, inl, inr, List, [], ◌∷◌, Some, None, true, false, refl, ap, sym, ◌∙◌, subst, arith}
 use Rattle.gz_core.proofs.Counting.{count_found}
 use Rattle.std.proofs.lemmas.Bool.Decides.{nat_tests}
 use Rattle.std.proofs.lemmas.Bool.{cases_lt}
+use Rattle.std.proofs.lemmas.Option.{none-some}
 use Rattle.std.specs.Prelude.{◌==◌, max, nat_le, if◌then◌else◌}
 use Rattle.gz_core.specs.Names.{BallotAt}
 use Rattle.gz_core.specs.Values.{name_of}
@@ -29,10 +30,11 @@ use Rattle.gz_ledger.specs.Histories.{RowSeen, Write, IsIn, IsVotedAt}
 use Rattle.gz_ledger.specs.Guards.{IsGroundedByRows, IsClearByRows, May}
 use Rattle.gz_ledger.specs.Transitions.{Store, writes_of}
 use Rattle.gz_laws.specs.Heard.{heard_of, ActionsStand, SentStep, PastStep, Keeps}
-use Rattle.gz_laws.proofs.Hearing.{shown_heard, next_heard, heard_found, slots_open, le_means}
+use Rattle.gz_laws.proofs.Hearing.{shown_heard, next_heard, heard_found, le_means}
 use Rattle.gz_laws.proofs.Sending.{clear_heard}
 use Rattle.gz_laws.proofs.Promising.{classic_not_fast, sent_promises, unused_past, last_version, promised_sent, sent_casts, promises_heard, vote_heard}
 use Rattle.gz_laws.proofs.Owning.{own_of, own_named}
+use Rattle.gz_laws.proofs.RowRules.{slots_found}
 use Rattle.gz_round.proofs.Prepares.{next_unpromised}
 
 -- a column that shows a value has one
@@ -89,8 +91,8 @@ top_heard c st ms v above stands k =
     let f = count_found c.n (some_heard (λ r. nat_le v (row_top r)) ms) k in
     let g = heard_found st (λ r. nat_le v (row_top r)) ms f.0 stands f.2 in
     let le = le_means v (row_top g.0) g.1.1.0 in
-    let t = top_column 0 g.0.columns g.1.0.rises (omega (arith, le, above)) in
-    let s : slots g.0 (row_top g.0) ≡ slot_of (Some t.0) = slots_open g.0 (row_top g.0) g.1.0.floor ∙ ap slot_of t.1.0 in
+    let t = top_column g.0.floor g.0.columns g.1.0.rises (omega (arith, le, above)) in
+    let s : slots g.0 (row_top g.0) ≡ slot_of (Some t.0) = slots_found g.0 (row_top g.0) g.1.0 (λ none. none-some t.0 (sym none ∙ t.1.0)) ∙ ap slot_of t.1.0 in
     record { entry = record { site = f.0; row = slots g.0 }; within = f.1; found = g.1.1.1; version = row_top g.0; above = le; value = subst HasValue (sym s) (shows_slot t.0 t.1.1) }
 
 -- a ground that was heard
@@ -148,4 +150,4 @@ may_send c w past ms st (ClassicVote v b x) keeps allowed k =
       one = λ q y found same is. k.one y (sent_casts ms v b y (subst (SentStep ms) is (keeps.own q found same)));
     }
 may_send c w past ms st (Decide v x) keeps allowed k = shown_heard c st ms v (name_of x) keeps.stands k.0
-may_send c w past ms st (Trim to x) keeps allowed k = absurd k
+may_send c w past ms st (Trim to x) keeps allowed k = shown_heard c st ms (to + 1) (name_of x) keeps.stands k.next

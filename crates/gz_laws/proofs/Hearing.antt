@@ -1,15 +1,15 @@
 -- What is shown to a call, by what it heard, is shown by rows of acceptors.
-use Rattle.std.proofs.Common.{◌≡◌, ℕ, ◌≤◌, inl, inr, List, [], ◌∷◌, Some, None, Bool, true, false, refl, ap, sym, ◌∙◌, subst, arith}
+use Rattle.std.proofs.Common.{◌≡◌, ◌≢◌, ℕ, ◌+◌, ◌≤◌, inl, inr, List, [], ◌∷◌, Some, None, Bool, true, false, refl, ap, sym, ◌∙◌, subst, arith}
 use Rattle.gz_ledger.proofs.Stores.{rows_in}
 use Rattle.gz_core.proofs.Counting.{count_weaker, count_found}
 use Rattle.gz_core.proofs.Ballots.{name_means}
-use Rattle.std.proofs.lemmas.Bool.{and_parts, or_cases, or_left, or_right, and_from, eqb-true}
+use Rattle.std.proofs.lemmas.Bool.{and_parts, or_cases, or_left, or_right, and_from, eqb-true, false≢true}
 use Rattle.std.proofs.lemmas.Bool.Decides.{nat_tests}
-use Rattle.std.specs.Prelude.{Option, ◌==◌, ◌&&◌, ◌||◌, nat_lt, nat_le, if◌then◌else◌}
+use Rattle.std.specs.Prelude.{Option, ◌==◌, ◌&&◌, ◌||◌, nat_le, if◌then◌else◌}
 use Rattle.gz_core.specs.Names.{Name, BallotAt}
-use Rattle.gz_core.specs.Rows.{RowAt, column_in}
+use Rattle.gz_core.specs.Rows.{RowAt, column_in, IsRow}
 use Rattle.gz_core.specs.Slots.{slots, slot_of, slot_vote, slot_decision}
-use Rattle.gz_core.specs.declared.slots.Slot.TheVariants.{Gone, DecidedAs}
+use Rattle.gz_core.specs.declared.slots.Slot.TheVariants.{DecidedAs}
 use Rattle.gz_core.specs.declared.rows.Column.{Column}
 use Rattle.gz_core.specs.declared.rows.Column.TheVariants.{Open, Decided}
 use Rattle.gz_config.specs.declared.Config.{Config}
@@ -18,36 +18,39 @@ use Rattle.gz_core.specs.History.{Asked, Action, Sent, Handed, GaveUp, Rested, G
 use Rattle.gz_round.specs.declared.hearing.Seen.{Seen}
 use Rattle.gz_round.specs.Sites.{SiteNow, site_now, after, after_reply, is_to, seen_in, written_by, is_changed, heard_in, passes, some_heard}
 use Rattle.gz_round.proofs.Actions.{heard_row}
-use Rattle.gz_round.specs.Shown.{IsShown, IsNext}
+use Rattle.gz_round.specs.Shown.{IsShown, IsNext, HasFloor}
 use Rattle.gz_ledger.specs.Acceptors.{slot_votes}
 use Rattle.gz_ledger.specs.Histories.{RowSeen, IsIn, cast, IsShownByRows}
 use Rattle.gz_ledger.specs.Guards.{IsNextByRows}
 use Rattle.gz_ledger.specs.Transitions.{Store, Answered, rows_of}
-use Rattle.gz_laws.specs.Heard.{IsClean, seen_entry, heard_of, SeenStands, ActionsStand}
+use Rattle.gz_laws.specs.Heard.{seen_entry, heard_of, SeenStands, ActionsStand}
+use Rattle.gz_laws.proofs.RowRules.{slots_found, slots_cast, floor_shows}
 
--- a vote of a row from which nothing was collected is one of its slots
+-- a vote of a row is one of its slots
 vote_slot : (b : BallotAt) (x : Name) (o : Option Column) → is_for b x (slot_vote (slot_of o)) ≡ slot_votes (slot_of o) b x
 vote_slot b x None = refl
 vote_slot b x (Some (Open promise None)) = refl
 vote_slot b x (Some (Open promise (Some vote))) = refl
 vote_slot b x (Some (Decided value)) = refl
 
-pub slots_open : (row : RowAt) (v : ℕ) → row.floor ≡ 0 → slots row v ≡ slot_of (column_in row.columns v)
-slots_open row v e = ap (λ f. if nat_lt 0 f && nat_le v f then Gone else slot_of (column_in row.columns v)) e
+pub votes_slot : (row : RowAt) (v : ℕ) (b : BallotAt) (x : Name) → IsRow row → votes_for b x v (Some row) ≡ slot_votes (slots row v) b x
+votes_slot row v b x rule = vote_slot b x (column_in row.columns v) ∙ sym (slots_cast row v b x rule)
 
-pub votes_slot : (row : RowAt) (v : ℕ) (b : BallotAt) (x : Name) → row.floor ≡ 0 → votes_for b x v (Some row) ≡ slot_votes (slots row v) b x
-votes_slot row v b x e = vote_slot b x (column_in row.columns v) ∙ sym (ap (λ s. slot_votes s b x) (slots_open row v e))
-
+-- and so is a decision
 decided_slot : (x : Name) (o : Option Column) → is_named x (slot_decision (slot_of o)) ≡ true → slot_of o ≡ DecidedAs x
 decided_slot x None h = cc
 decided_slot x (Some (Open promise vote)) h = cc
 decided_slot x (Some (Decided value)) h = ap DecidedAs (name_means _ x h)
 
-pub decides_slot : (row : RowAt) (v : ℕ) (x : Name) → row.floor ≡ 0 → decides x v (Some row) ≡ true → slots row v ≡ DecidedAs x
-decides_slot row v x e h = slots_open row v e ∙ decided_slot x (column_in row.columns v) h
+pub decision_there : (x : Name) (o : Option Column) → is_named x (slot_decision (slot_of o)) ≡ true → o ≢ None
+decision_there x None h = λ e. absurd (false≢true h)
+decision_there x (Some column) h = λ e. cc
+
+pub decides_slot : (row : RowAt) (v : ℕ) (x : Name) → IsRow row → decides x v (Some row) ≡ true → slots row v ≡ DecidedAs x
+decides_slot row v x rule h = slots_found row v rule (decision_there x (column_in row.columns v) h) ∙ decided_slot x (column_in row.columns v) h
 
 -- whether the vote is among the rows, of one more that was heard
-entry_cast : (st : Store) (p : RowAt → Bool) (v : ℕ) (b : BallotAt) (x : Name) (f : (r : RowAt) → r.floor ≡ 0 → p r ≡ true → slot_votes (slots r v) b x ≡ true)
+entry_cast : (st : Store) (p : RowAt → Bool) (v : ℕ) (b : BallotAt) (x : Name) (f : (r : RowAt) → IsRow r → p r ≡ true → slot_votes (slots r v) b x ≡ true)
     (a : Asked) (o : Option Seen) (es : List RowSeen) (s : ℕ) (rest : Bool) → SeenStands st a.site o → (rest ≡ true → cast es v b x s ≡ true) → ((passes p o && is_to a s) || rest) ≡ true → cast (seen_entry a.site o es) v b x s ≡ true
 entry_cast st p v b x f a None es s rest stands more h = more h
 entry_cast st p v b x f a (Some seen) es s rest stands more h =
@@ -55,11 +58,11 @@ entry_cast st p v b x f a (Some seen) es s rest stands more h =
       | inl e ↦
           let k = and_parts (p seen.row) (is_to a s) e in
           let t = and_parts (is_row_request a.op) (a.site == s) k.1 in
-          or_left ((a.site == s) && slot_votes (slots seen.row v) b x) (cast es v b x s) (and_from (a.site == s) (slot_votes (slots seen.row v) b x) t.1 (f seen.row stands.0.floor k.0))
+          or_left ((a.site == s) && slot_votes (slots seen.row v) b x) (cast es v b x s) (and_from (a.site == s) (slot_votes (slots seen.row v) b x) t.1 (f seen.row stands.0 k.0))
       | inr e ↦ or_right ((a.site == s) && slot_votes (slots seen.row v) b x) (cast es v b x s) (more e)
     ]
 
-pub heard_cast : (st : Store) (p : RowAt → Bool) (v : ℕ) (b : BallotAt) (x : Name) → ((r : RowAt) → r.floor ≡ 0 → p r ≡ true → slot_votes (slots r v) b x ≡ true) → (ms : List Action) (s : ℕ) → ActionsStand st ms → some_heard p ms s ≡ true → cast (heard_of ms) v b x s ≡ true
+pub heard_cast : (st : Store) (p : RowAt → Bool) (v : ℕ) (b : BallotAt) (x : Name) → ((r : RowAt) → IsRow r → p r ≡ true → slot_votes (slots r v) b x ≡ true) → (ms : List Action) (s : ℕ) → ActionsStand st ms → some_heard p ms s ≡ true → cast (heard_of ms) v b x s ≡ true
 heard_cast st p v b x f [] s stands h = cc
 heard_cast st p v b x f (Sent a ∷ ms) s stands h = heard_cast st p v b x f ms s stands.1 h
 heard_cast st p v b x f (Handed a reply ∷ ms) s stands h = entry_cast st p v b x f a (heard_in (Handed a reply)) (heard_of ms) s (some_heard p ms s) stands.0 (λ e. heard_cast st p v b x f ms s stands.1 e) h
@@ -69,8 +72,8 @@ heard_cast st p v b x f (GaveIn ∷ ms) s stands h = heard_cast st p v b x f ms 
 
 -- a row that was heard and passes a test
 entry_found : (st : Store) (p : RowAt → Bool) (a : Asked) (o : Option Seen) (es : List RowSeen) (s : ℕ) (rest : Bool) → SeenStands st a.site o
-    → (rest ≡ true → (r : RowAt) × (IsClean r × ((p r ≡ true) × (let e : RowSeen = record { site = s; row = slots r } in IsIn e es)))) → ((passes p o && is_to a s) || rest) ≡ true
-    → (r : RowAt) × (IsClean r × ((p r ≡ true) × (let e : RowSeen = record { site = s; row = slots r } in IsIn e (seen_entry a.site o es))))
+    → (rest ≡ true → (r : RowAt) × (IsRow r × ((p r ≡ true) × (let e : RowSeen = record { site = s; row = slots r } in IsIn e es)))) → ((passes p o && is_to a s) || rest) ≡ true
+    → (r : RowAt) × (IsRow r × ((p r ≡ true) × (let e : RowSeen = record { site = s; row = slots r } in IsIn e (seen_entry a.site o es))))
 entry_found st p a None es s rest stands more h = more h
 entry_found st p a (Some seen) es s rest stands more h =
     elim (or_cases (p seen.row && is_to a s) rest h) [
@@ -82,7 +85,7 @@ entry_found st p a (Some seen) es s rest stands more h =
       | inr e ↦ let m = more e in (m.0, (m.1.0, (m.1.1.0, inr m.1.1.1)))
     ]
 
-pub heard_found : (st : Store) (p : RowAt → Bool) (ms : List Action) (s : ℕ) → ActionsStand st ms → some_heard p ms s ≡ true → (r : RowAt) × (IsClean r × ((p r ≡ true) × (let e : RowSeen = record { site = s; row = slots r } in IsIn e (heard_of ms))))
+pub heard_found : (st : Store) (p : RowAt → Bool) (ms : List Action) (s : ℕ) → ActionsStand st ms → some_heard p ms s ≡ true → (r : RowAt) × (IsRow r × ((p r ≡ true) × (let e : RowSeen = record { site = s; row = slots r } in IsIn e (heard_of ms))))
 heard_found st p [] s stands h = cc
 heard_found st p (Sent a ∷ ms) s stands h = heard_found st p ms s stands.1 h
 heard_found st p (Handed a reply ∷ ms) s stands h = entry_found st p a (heard_in (Handed a reply)) (heard_of ms) s (some_heard p ms s) stands.0 (λ e. heard_found st p ms s stands.1 e) h
@@ -99,7 +102,16 @@ shown_heard c st ms v x stands (inl k) =
 shown_heard c st ms v x stands (inr k) =
     let f = count_found c.n (some_heard (λ r. decides x v (Some r)) ms) k in
     let g = heard_found st (λ r. decides x v (Some r)) ms f.0 stands f.2 in
-    inr (record { entry = record { site = f.0; row = slots g.0 }; found = g.1.1.1; decided = decides_slot g.0 v x g.1.0.floor g.1.1.0 })
+    inr (record { entry = record { site = f.0; row = slots g.0 }; found = g.1.1.1; decided = decides_slot g.0 v x g.1.0 g.1.1.0 })
+
+-- a floor that a call heard lies below a version at which a value is shown
+pub floor_heard : (c : Config) (st : Store) (ms : List Action) (floor : ℕ) → ActionsStand st ms → 1 ≤ floor → HasFloor c ms floor → (x : Name) × IsShownByRows c (heard_of ms) (floor + 1) x
+floor_heard c st ms floor stands positive h =
+    let f = count_found c.n (some_heard (λ r. r.floor == floor) ms) h in
+    let g = heard_found st (λ r. r.floor == floor) ms f.0 stands f.2 in
+    let is = eqb-true g.0.floor floor g.1.1.0 in
+    let d = floor_shows g.0 g.1.0 (omega (arith, is, positive)) in
+    (d.0, inr (record { entry = record { site = f.0; row = slots g.0 }; found = g.1.1.1; decided = subst (λ n. slots g.0 (n + 1) ≡ DecidedAs d.0) is d.1 }))
 
 pub next_heard : (c : Config) (st : Store) (ms : List Action) (v : ℕ) → ActionsStand st ms → IsNext c ms v → IsNextByRows c (heard_of ms) v
 next_heard c st ms v stands (inl e) = inl e
@@ -121,10 +133,10 @@ heard_known st (GaveIn ∷ ms) e stands h = heard_known st ms e stands.1 h
 
 -- the last row of a site was shown by the store under its tag
 abbrev pub IsLastRow : Store → ℕ → Option Seen → Type 0
-IsLastRow st s o = (seen : Seen) → o ≡ Some seen → IsClean seen.row × (let r : Answered = record { site = s; etag = seen.etag; row = slots seen.row } in IsIn r st.replies)
+IsLastRow st s o = (seen : Seen) → o ≡ Some seen → IsRow seen.row × (let r : Answered = record { site = s; etag = seen.etag; row = slots seen.row } in IsIn r st.replies)
 
 reply_last : (st : Store) (s : ℕ) (o : Option Seen) (changed : Bool) (now : SiteNow) → SeenStands st s o → IsLastRow st s now.row → IsLastRow st s (after_reply o changed now).row
-reply_last st s (Some seen) changed now stands last = λ k e. let q : seen ≡ k = cc in subst (λ (r : Seen). IsClean r.row × (let a : Answered = record { site = s; etag = r.etag; row = slots r.row } in IsIn a st.replies)) q stands
+reply_last st s (Some seen) changed now stands last = λ k e. let q : seen ≡ k = cc in subst (λ (r : Seen). IsRow r.row × (let a : Answered = record { site = s; etag = r.etag; row = slots r.row } in IsIn a st.replies)) q stands
 reply_last st s None true now stands last = last
 reply_last st s None false now stands last = last
 

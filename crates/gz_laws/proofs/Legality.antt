@@ -12,24 +12,25 @@ use Rattle.gz_core.specs.declared.values.Value.TheVariants.{Tomb, Put as PutOf}
 use Rattle.gz_round.specs.Shown.{IsValueHeard}
 use Rattle.gz_core.specs.Slots.{Act}
 use Rattle.gz_core.specs.declared.calls.Answer.{Answer}
-use Rattle.gz_core.specs.declared.calls.Answer.TheVariants.{Ok, Thin, Short, Bytes, Incomplete, Gone, Absent, NoQuorum, Contended, Unsure}
+use Rattle.gz_core.specs.declared.calls.Answer.TheVariants.{Ok, Thin, Short, Bytes, Incomplete, Gone, Absent, Unborn, Collected, NoQuorum, Contended, Unsure}
 use Rattle.gz_core.specs.declared.calls.Call.{Call}
 use Rattle.gz_config.specs.declared.Config.{Config}
 use Rattle.gz_core.specs.History.{Action, Sent, Trace, is_row_request}
 use Rattle.gz_core.specs.declared.calls.Call.TheVariants.{GetAt}
 use Rattle.gz_round.specs.Sent.{vote_by, of_step, of_sent, passes_sent, voted, voted_at}
 use Rattle.gz_round.specs.Sending.{AreAllowed}
-use Rattle.gz_round.specs.Starting.{IsWithin}
+use Rattle.gz_round.specs.Targets.{target_of, IsAskedFor}
+use Rattle.gz_round.specs.declared.run.Target.TheVariants.{At}
 use Rattle.gz_client.specs.Traces.{IsAnswered, AllKeepRules}
-use Rattle.gz_history.specs.Answers.{shows, names, read_from, bytes_read, bytes_written, IsWrite, Writes, MayTakeEffect, AnswersAsked}
+use Rattle.gz_history.specs.Answers.{shows, names, read_from, bytes_read, bytes_written, IsWrite, Writes, MayTakeEffect, IsOfVersion, AnswersAsked}
 use Rattle.gz_history.specs.Legal.{IsBefore, IsBeforeEnd, Agree, TakeEffectOnce, ReadsAWrite, ReturnWritten, IsLegal}
 use Rattle.gz_history.specs.declared.record.CallRec.{CallRec}
-use Rattle.gz_ledger.specs.Histories.{RowSeen, IsIn, IsShownByRows, VotesFor}
-use Rattle.gz_ledger.specs.Transitions.{Transition, Reads, Begins, Written, Failed, Elsewhere, AreTransitions, seen_after}
+use Rattle.gz_ledger.specs.Histories.{RowSeen, Write, IsIn, IsShownByRows, VotesFor}
+use Rattle.gz_ledger.specs.Transitions.{Transition, Reads, Begins, Written, Failed, Elsewhere, AreTransitions, seen_after, sent_after}
 use Rattle.gz_ledger.proofs.Shown.{shown_more}
 use Rattle.gz_ledger.proofs.Stores.{store_agreed, early_transitions}
 use Rattle.gz_laws.specs.Heard.{unused}
-use Rattle.gz_laws.specs.Carried.{ActionsCarried, AreCarried}
+use Rattle.gz_laws.specs.Carried.{ActionsCarried, TracesCarried, AreCarried}
 use Rattle.gz_laws.specs.Each.{EachTrace}
 use Rattle.gz_laws.specs.Given.{GivesBack, AreGivenBack}
 use Rattle.gz_client.specs.Blobs.{sends_op, has_asked}
@@ -41,8 +42,8 @@ use Rattle.gz_world.specs.Reached.{IsReached, AllTell}
 use Rattle.gz_laws.specs.Recorded.{IsNamedIn, TracesRecorded, AreRecorded}
 use Rattle.gz_laws.specs.Valued.{IsGiven, AreValued}
 use Rattle.gz_laws.specs.Runs.{IsSender, IsSentBy, IsRun}
-use Rattle.gz_world.specs.States.{State}
-use Rattle.gz_laws.proofs.Agreeing.{agreed, named_shown, shown_positive, keeps_order}
+use Rattle.gz_world.specs.States.{RequestAt, State}
+use Rattle.gz_laws.proofs.Agreeing.{agreed, shown_positive, keeps_order}
 use Rattle.gz_laws.proofs.Keeping.{sent_most}
 use Rattle.gz_laws.proofs.Listing.{among_name}
 use Rattle.gz_world.proofs.Places.{get_below}
@@ -77,13 +78,13 @@ pub agree : (key : List ℕ) (s : State) (ds : List Transition) (i j : ℕ) (a b
 agree key s ds i j a b k ga gb ka kb = λ v x y sa sb na nb.
     let ta = call_told key s ds a v (call_trace key s ds i a k.run k.listed k.carries ga ka) sa in
     let tb = call_told key s ds b v (call_trace key s ds j b k.run k.listed k.carries gb kb) sb in
-    (agreed key s ds k.placed k.run).one v x y (named_shown s.cfg ds a v x ta na) (named_shown s.cfg ds b v y tb nb)
+    (agreed key s ds k.placed k.run).one v x y (ta.named x na) (tb.named y nb)
 
 pub take_effect_once : (key : List ℕ) (s : State) (ds : List Transition) (i j : ℕ) (a b : CallRec) → IsKnownRun key s ds → slice_get s.calls i ≡ Some a → slice_get s.calls j ≡ Some b → key_of a.call ≡ key → key_of b.call ≡ key → TakeEffectOnce a b
 take_effect_once key s ds i j a b k ga gb ka kb = λ x v w na nb sa sb.
     let ta = call_told key s ds a v (call_trace key s ds i a k.run k.listed k.carries ga ka) sa in
     let tb = call_told key s ds b w (call_trace key s ds j b k.run k.listed k.carries gb kb) sb in
-    (agreed key s ds k.placed k.run).once v w x (named_shown s.cfg ds a v x ta na) (named_shown s.cfg ds b w x tb nb)
+    (agreed key s ds k.placed k.run).once v w x (ta.named x na) (tb.named x nb)
 
 -- the record of the call that sent a write
 sender_record : (calls : List CallRec) (key : List ℕ) (name : Name) (act : Act) (ts : List Trace) → TracesRecorded calls ts → IsSentBy key name act ts → IsNamedIn calls name
@@ -92,24 +93,47 @@ sender_record calls key name act (t ∷ ts) recorded (inl h) = (recorded.0.0, re
 sender_record calls key name act (t ∷ ts) recorded (inr h) = sender_record calls key name act ts recorded.1 h
 
 -- and its trace
-record IsSenderOf (c : Config) (key : List ℕ) (call : CallRec) (act : Act) : Type 0 where
+pub record IsSenderOf (c : Config) (net : List RequestAt) (key : List ℕ) (call : CallRec) (act : Act) : Type 0 where
   pub past : List Trace
   pub trace : Trace
   pub is : IsTraceOf c call past trace
+  pub carried : ActionsCarried c.n net trace.caller.name trace.actions
   pub sender : IsSender key call.name act trace
 
-sender_trace : (c : Config) (session : ℕ) (key : List ℕ) (call : CallRec) (act : Act) (ts : List Trace) → AllKeepRules c session ts → IsAmong c call ts → IsSentBy key call.name act ts → IsSenderOf c key call act
-sender_trace c session key call act [] told among h = absurd h
-sender_trace c session key call act (t ∷ ts) told (inl e) (inl h) = record { past = ts; trace = t; is = e; sender = h }
-sender_trace c session key call act (t ∷ ts) told (inl e) (inr h) =
+sender_trace : (c : Config) (net : List RequestAt) (session : ℕ) (key : List ℕ) (call : CallRec) (act : Act) (ts : List Trace) → AllKeepRules c session ts → TracesCarried c.n net ts → IsAmong c call ts → IsSentBy key call.name act ts → IsSenderOf c net key call act
+sender_trace c net session key call act [] told carried among h = absurd h
+sender_trace c net session key call act (t ∷ ts) told carried (inl e) (inl h) = record { past = ts; trace = t; is = e; carried = carried.0; sender = h }
+sender_trace c net session key call act (t ∷ ts) told carried (inl e) (inr h) =
     let most = sent_most c session key call.name act ts told.2 h in
     let seq : call.name.seq ≡ length ts + 1 = ap (λ (x : Name). x.seq) (sym e.name_is ∙ told.1) in
     absurd (omega (arith, most, seq))
-sender_trace c session key call act (t ∷ ts) told (inr e) (inl h) =
+sender_trace c net session key call act (t ∷ ts) told carried (inr e) (inl h) =
     let most = (among_name c session call ts told.2 e).1 in
     let seq : call.name.seq ≡ length ts + 1 = ap (λ (x : Name). x.seq) (sym h.name_is ∙ told.1) in
     absurd (omega (arith, most, seq))
-sender_trace c session key call act (t ∷ ts) told (inr e) (inr h) = sender_trace c session key call act ts told.2 e h
+sender_trace c net session key call act (t ∷ ts) told carried (inr e) (inr h) = sender_trace c net session key call act ts told.2 carried.1 e h
+
+-- the call of the history that sent a write
+pub record IsSenderIn (key : List ℕ) (s : State) (q : Write) : Type 0 where
+  pub place : ℕ
+  pub call : CallRec
+  pub there : slice_get s.calls place ≡ Some call
+  pub name_is : call.name ≡ q.call
+  pub sends : IsSenderOf s.cfg s.net key call q.act
+
+pub sender_in : (key : List ℕ) (s : State) (ds : List Transition) (q : Write) → IsKnownRun key s ds → IsIn q (sent_after unused ds) → IsSenderIn key s q
+sender_in key s ds q k found =
+    let by = k.run.sent q found in
+    let n = sender_record s.calls key q.call q.act (s.traces q.call.session) (k.recorded q.call.session) by in
+    let session = n.1.name.session in
+    let own : IsSentBy key n.1.name q.act (s.traces session) = subst (λ (y : Name). IsSentBy key y q.act (s.traces y.session)) (sym n.3) by in
+    record {
+      place = n.0;
+      call = n.1;
+      there = n.2;
+      name_is = n.3;
+      sends = sender_trace s.cfg s.net session key n.1 q.act (s.traces session) (k.listed.told session) (k.carries session) (k.listed.traces n.0 n.1 n.2) own;
+    }
 
 -- a call that voted for its own value at a version voted for it
 any_vote : (o : Option ℕ) (u : ℕ) → passes_sent (λ q. q == u) o ≡ true → passes_sent (λ (q : ℕ). true) o ≡ true
@@ -150,6 +174,8 @@ effect_of c past t (Some (Bytes version name bytes)) h v = tt
 effect_of c past t (Some (Incomplete version name fates)) h v = tt
 effect_of c past t (Some (Gone version name)) h v = tt
 effect_of c past t (Some Absent) h v = tt
+effect_of c past t (Some (Unborn latest)) h v = tt
+effect_of c past t (Some (Collected floor)) h v = tt
 effect_of c past t (Some (NoQuorum phase heard)) h v = let bad : true ≡ false = sym v ∙ h.1.0 in cc
 effect_of c past t (Some (Contended met)) h v = let bad : true ≡ false = sym v ∙ h.1.0 in cc
 effect_of c past t (Some (Unsure why)) h v = tt
@@ -217,6 +243,8 @@ reading c past t (Some (Gone version name)) x h e =
       writes = λ own call is. own_tomb c own name call is;
     }
 reading c past t (Some Absent) x h e = cc
+reading c past t (Some (Unborn latest)) x h e = cc
+reading c past t (Some (Collected floor)) x h e = cc
 reading c past t (Some (NoQuorum phase heard)) x h e = cc
 reading c past t (Some (Contended met)) x h e = cc
 reading c past t (Some (Unsure why)) x h e = cc
@@ -280,18 +308,17 @@ proposer key s ds v x k shown =
     let c = s.cfg in
     let p = ((agreed key s ds k.placed k.run).chosen v x shown).1 in
     let q = p.write in
-    let by = k.run.sent q p.found in
-    let n = sender_record s.calls key q.call q.act (s.traces q.call.session) (k.recorded q.call.session) by in
-    let b = n.1 in
-    let name : b.name ≡ x = n.3 ∙ p.own in
-    let so = sender_trace c b.name.session key b q.act (s.traces b.name.session) (k.listed.told b.name.session) (k.listed.traces n.0 b n.2) (subst (λ (y : Name). IsSentBy key y q.act (s.traces y.session)) (sym n.3) by) in
+    let n = sender_in key s ds q k p.found in
+    let b = n.call in
+    let name : b.name ≡ x = n.name_is ∙ p.own in
+    let so = n.sends in
     let t = so.trace in
     let call : t.caller.call ≡ b.call = so.is.call_is in
     let cast : VotesFor q.act v t.caller.name = subst (VotesFor q.act v) (sym (so.sender.name_is ∙ name)) p.votes in
     record {
-      place = n.0;
+      place = n.place;
       call = b;
-      there = n.2;
+      there = n.there;
       name_is = name;
       key_is = sym (ap key_of call) ∙ so.sender.key_is;
       write = subst IsWrite call (so.sender.write v (subst (VotesFor q.act v) (sym name) p.votes));
@@ -305,7 +332,7 @@ reads_a_write key s ds i a k ga ka = λ x from.
     let h = call_trace key s ds i a k.run k.listed k.carries ga ka in
     let r = reading c h.past h.trace a.answer x (subst (IsAnswered c h.past h.trace) h.is.answer h.is.told.answered) from in
     let v = r.version in
-    let shown = named_shown c ds a v x (call_told key s ds a v h r.shows_it) (r.names_it a.name) in
+    let shown = (call_told key s ds a v h r.shows_it).named x (r.names_it a.name) in
     let w = proposer key s ds v x k shown in
     let b = w.call in
     let own : a.call ≡ h.trace.caller.call = sym h.is.call_is in
@@ -347,15 +374,27 @@ returns_written s i j a b listed given ga gb = λ bytes from read.
     ap (λ (q : CallRec). bytes_written q.call) (sym same) ∙ ap bytes_written put.put
 
 -- what is known of a world that is reached
-pub known : (key : List ℕ) (s : State) → IsReached s → AllTell s → (ds : List Transition) × IsKnownRun key s ds
-known key s reached tell =
-    let k = runs key s reached tell in
-    (k.0, record { run = k.1; listed = listed s reached; carries = carried s reached; placed = placed s reached; recorded = recorded s reached; valued = valued s reached tell })
+pub known_run : (key : List ℕ) (s : State) (ds : List Transition) → IsRun key s ds → IsReached s → AllTell s → IsKnownRun key s ds
+known_run key s ds run reached tell = record { run = run; listed = listed s reached; carries = carried s reached; placed = placed s reached; recorded = recorded s reached; valued = valued s reached tell }
 
--- no call asks for a version by its number
-keeps_asked : (call : Call) (answer : Option Answer) → IsWithin call → AnswersAsked call answer
-keeps_asked (GetAt key version) answer within = absurd within
-keeps_asked call answer within = tt
+pub known : (key : List ℕ) (s : State) → IsReached s → AllTell s → (ds : List Transition) × IsKnownRun key s ds
+known key s reached tell = let k = runs key s reached tell in (k.0, known_run key s k.0 k.1 reached tell)
+
+-- what is told of a version that is asked for by its number is about that version
+same_asked : (version asked : ℕ) (call : Call) (key : List ℕ) → call ≡ GetAt key asked → target_of call ≡ At version → version ≡ asked
+same_asked version asked call key is e = let both : At version ≡ At asked = sym e ∙ ap target_of is in cc
+
+of_version : (c : Config) (past : List Trace) (t : Trace) (key : List ℕ) (asked : ℕ) (answer : Option Answer) → t.caller.call ≡ GetAt key asked → IsAnswered c past t answer → IsOfVersion asked answer
+of_version c past t key asked (Some (Bytes version name bytes)) is h = subst (λ q. IsAskedFor c (target_of q) t.actions version) is h.1.2.asked
+of_version c past t key asked (Some (Incomplete version name fates)) is h = subst (λ q. IsAskedFor c (target_of q) t.actions version) is h.1.2.asked
+of_version c past t key asked (Some (Gone version name)) is h = subst (λ q. IsAskedFor c (target_of q) t.actions version) is h.1.asked
+of_version c past t key asked (Some (Unborn latest)) is h = let same = same_asked h.1.version asked t.caller.call key is h.1.asked in let above = h.1.above in omega (arith, same, above)
+of_version c past t key asked (Some (Collected floor)) is h = let same = same_asked h.1.version asked t.caller.call key is h.1.asked in let gone = h.1.gone in omega (arith, same, gone)
+of_version c past t key asked answer is h = tt
+
+keeps_asked : (c : Config) (past : List Trace) (t : Trace) (call : Call) (answer : Option Answer) → t.caller.call ≡ call → IsAnswered c past t answer → AnswersAsked call answer
+keeps_asked c past t (GetAt key version) answer is h = of_version c past t key version answer is h
+keeps_asked c past t call answer is h = tt
 
 pub legal : (s : State) → IsReached s → AllTell s → IsLegal s.calls
 legal s reached tell = record {
@@ -385,5 +424,6 @@ legal s reached tell = record {
   asked = λ a ca.
       let k = known (key_of a.call) s reached tell in
       let x = contains_get s.calls a ca in
-      keeps_asked a.call a.answer (call_trace (key_of a.call) s k.0 x.0 a k.1.run k.1.listed k.1.carries x.1 refl).is.within;
+      let h = call_trace (key_of a.call) s k.0 x.0 a k.1.run k.1.listed k.1.carries x.1 refl in
+      keeps_asked s.cfg h.past h.trace a.call a.answer h.is.call_is (subst (IsAnswered s.cfg h.past h.trace) h.is.answer h.is.told.answered);
 }

@@ -13,6 +13,7 @@ pub mod Carrying
 pub mod CastRuns
 pub mod ChosenAt
 pub mod Closing
+pub mod Collecting
 pub mod Currents
 pub mod Exchanges
 pub mod Exchanging
@@ -38,9 +39,11 @@ pub mod Owning
 pub mod PiecesApart
 pub mod Placing
 pub mod Promising
+pub mod ReadPlaces
 pub mod Recording
 pub mod RegisterRuns
 pub mod RowBounds
+pub mod RowRules
 pub mod RunAnswers
 pub mod RunBegins
 pub mod RunDelivers

@@ -1,5 +1,5 @@
 -- The calls of a world can be told by a log: each is within the bounds that a log has.
-use Rattle.std.proofs.Common.{◌≡◌, ℕ, suc, ◌+◌, ◌≤◌, ◌*◌, inl, inr, List, [], ◌∷◌, Bool, Some, None, true, false, length, refl, ap, sym, ◌∙◌, subst, arith}
+use Rattle.std.proofs.Common.{◌≡◌, ℕ, suc, ◌+◌, ◌≤◌, ◌<◌, ◌*◌, ◌^◌, ◌⊎◌, inl, inr, List, [], ◌∷◌, Bool, Some, None, true, false, length, refl, ap, sym, ◌∙◌, subst, arith}
 use Rattle.std.proofs.lemmas.Bool.{or_cases}
 use Rattle.std.proofs.lemmas.List.Elements.{All-cons, All-nil}
 use Rattle.std.specs.List.{All}
@@ -10,7 +10,7 @@ use Rattle.gz_core.proofs.Counting.{count_most}
 use Rattle.gz_core.specs.Names.{Name, same_name}
 use Rattle.gz_core.specs.Puts.{PutData}
 use Rattle.gz_core.specs.declared.calls.Answer.{Answer}
-use Rattle.gz_core.specs.declared.calls.Answer.TheVariants.{Ok, Thin, Short, Bytes, Incomplete, Gone, Absent, NoQuorum, Contended, Unsure}
+use Rattle.gz_core.specs.declared.calls.Answer.TheVariants.{Ok, Thin, Short, Bytes, Incomplete, Gone, Absent, Unborn, Collected, NoQuorum, Contended, Unsure}
 use Rattle.gz_core.specs.declared.calls.UnsureWhy.{UnsureWhy}
 use Rattle.gz_core.specs.declared.calls.UnsureWhy.TheVariants.{NoQuorum as UnsureNoQuorum, Contended as UnsureContended, Trimmed as UnsureTrimmed}
 use Rattle.gz_core.specs.declared.calls.Call.{Call}
@@ -28,10 +28,12 @@ use Rattle.gz_data.specs.Blobs.{stores, stored}
 use Rattle.gz_round.specs.Causes.{IsLearnt, IsValueHeard, UnsureCause}
 use Rattle.gz_round.specs.Counting.{known_count}
 use Rattle.gz_round.specs.Sending.{AreAllowed, MayAsk, MayMake}
-use Rattle.gz_round.specs.Shown.{IsShown}
+use Rattle.gz_round.specs.Shown.{IsShown, HasFloor}
 use Rattle.gz_round.specs.Sent.{of_step, passes_sent, vote_by, voted, met, overtakes}
 use Rattle.gz_round.specs.Sites.{SiteNow, site_now, known as known_row}
 use Rattle.gz_round.specs.Starting.{IsWithin}
+use Rattle.gz_round.specs.Targets.{target_of}
+use Rattle.gz_round.specs.declared.run.Target.TheVariants.{Latest, At}
 use Rattle.gz_client.specs.Blobs.{is_put}
 use Rattle.gz_client.specs.Causes.{HasCause}
 use Rattle.gz_client.specs.Traces.{IsAnswered, AllKeepRules}
@@ -41,22 +43,26 @@ use Rattle.gz_logs.specs.Fitting.{IsCount, IsVersion, IsName, IsObject, AreFates
 use Rattle.gz_logs.specs.Kinds.{kind_of, may_answer}
 use Rattle.gz_logs.specs.declared.kinds.Kind.{Kind}
 use Rattle.gz_logs.specs.declared.kinds.Kind.TheVariants as kinds
+use Rattle.gz_logs.specs.declared.kinds.Told.{Told}
 use Rattle.gz_logs.specs.declared.kinds.Told.TheVariants as told
 use Rattle.gz_world.specs.Reached.{IsReached, AllTell}
 use Rattle.gz_world.specs.States.{State}
-use Rattle.gz_laws.specs.Bounded.{IsRowWithin, EachRow}
+use Rattle.gz_laws.specs.Bounded.{IsRowWithin}
 use Rattle.gz_laws.specs.Carried.{ActionsCarried, TracesCarried}
 use Rattle.gz_laws.specs.Each.{EachTrace}
 use Rattle.gz_laws.specs.Given.{GivesBack, AreGivenBack}
 use Rattle.gz_laws.specs.Listed.{IsTraceOf, IsAmong}
 use Rattle.gz_laws.specs.Logged.{IsTyped, AreTyped}
 use Rattle.gz_laws.specs.Placed.{ArePlaced}
+use Rattle.gz_laws.specs.Rows.{EachRow}
 use Rattle.gz_laws.specs.Valued.{IsGiven}
-use Rattle.gz_laws.proofs.Bounding.{AreHeardWithin, heard_within, shown_within}
+use Rattle.gz_laws.proofs.Bounding.{AreHeardWithin, heard_within, shown_within, floor_low}
 use Rattle.gz_laws.proofs.GivenBack.{IsKnownWorld, known, one_named, put_call, given_of_heard, learnt_given, given_back}
 use Rattle.gz_laws.proofs.Listing.{among_name}
 use Rattle.gz_laws.proofs.Owning.{own_of, own_named, own_writes, no_write}
 use Rattle.gz_laws.proofs.Placing.{placed, history}
+use Rattle.gz_laws.proofs.RunAnswers.{asked_positive}
+use Rattle.gz_laws.proofs.Sending.{last_vote_above}
 use Rattle.gz_laws.proofs.Tallies.{noted, NotesFew, AreFew, are_few, names_open}
 use Rattle.gz_laws.proofs.WorldBounds.{by_events}
 
@@ -102,12 +108,27 @@ put_kind : (call : Call) → is_put call ≡ true → kind_of call ≡ kinds.Put
 put_kind (Put key bytes) h = refl
 put_kind call h = cc
 
-get_kind : (call : Call) → IsWithin call → (IsWrite call → ⊥) → kind_of call ≡ kinds.Get
-get_kind (Put key bytes) within none = absurd (none tt)
-get_kind (Delete key) within none = absurd (none tt)
-get_kind (Get key) within none = refl
-get_kind (GetAt key version) within none = absurd within
-get_kind (Collect key keep) within none = absurd within
+get_kind : (call : Call) → IsWithin call → (IsWrite call → ⊥) → target_of call ≡ Latest → kind_of call ≡ kinds.Get
+get_kind (Put key bytes) within none latest = absurd (none tt)
+get_kind (Delete key) within none latest = absurd (none tt)
+get_kind (Get key) within none latest = refl
+get_kind (GetAt key version) within none latest = cc
+get_kind (Collect key keep) within none latest = absurd within
+
+at_kind : (call : Call) (version : ℕ) → target_of call ≡ At version → kind_of call ≡ kinds.GetAt
+at_kind (GetAt key asked) version at = refl
+at_kind (Put key bytes) version at = cc
+at_kind (Delete key) version at = cc
+at_kind (Get key) version at = cc
+at_kind (Collect key keep) version at = cc
+
+-- a call that reads has each answer that both kinds of reads have
+read_may : (call : Call) (what : Told) → IsWithin call → (IsWrite call → ⊥) → may_answer kinds.Get what ≡ true → may_answer kinds.GetAt what ≡ true → may_answer (kind_of call) what ≡ true
+read_may (Put key bytes) what within none latest at = absurd (none tt)
+read_may (Delete key) what within none latest at = absurd (none tt)
+read_may (Get key) what within none latest at = latest
+read_may (GetAt key version) what within none latest at = at
+read_may (Collect key keep) what within none latest at = absurd within
 
 any_noquorum : (kind : Kind) → may_answer kind told.NoQuorum ≡ true
 any_noquorum kinds.Put = refl
@@ -127,7 +148,7 @@ argument_fits : (call : Call) → IsWithin call → IsTyped call → IsArgument 
 argument_fits (Put key bytes) within typed = record { bounded = within; bytes_are = typed.bytes }
 argument_fits (Delete key) within typed = tt
 argument_fits (Get key) within typed = tt
-argument_fits (GetAt key version) within typed = absurd within
+argument_fits (GetAt key version) within typed = record { begun = within; bounded = typed.version }
 argument_fits (Collect key keep) within typed = absurd within
 
 -- ---- one call
@@ -238,8 +259,32 @@ module _ (s : State) (g : IsLoggable s) where
         let low = g.bounded in
         record { begun = r.above; bounded = omega (arith, below, low) }
 
-    reads_kind : k.trace.caller.own ≡ None → kind_of c.call ≡ kinds.Get
-    reads_kind none = get_kind c.call k.is.within (λ write. no_write s.cfg k.trace.caller.name k.trace.caller.call (own_of s.cfg k.trace.caller None k.is.told.own none) (subst IsWrite (sym k.is.call_is) write))
+    -- and the floor of a row that it heard
+    floor_fits : (floor : ℕ) → 1 ≤ floor → HasFloor s.cfg k.trace.actions floor → IsVersion floor
+    floor_fits floor positive has =
+        let heard : AreHeardWithin (length s.journal) (16 * length s.journal) k.trace.actions = heard_within (length s.journal) (16 * length s.journal) s k.trace.caller.name k.trace.actions g.rows k.carried in
+        let below = floor_low (length s.journal) (16 * length s.journal) s.cfg k.trace.actions floor heard has in
+        let low = g.bounded in
+        record { begun = positive; bounded = omega (arith, below, low) }
+
+    latest_fits : (latest : ℕ) → (latest ≡ 0) ⊎ ((x : Name) × IsShown s.cfg k.trace.actions latest x) → latest < 2 ^ 63
+    latest_fits latest (inl none) = omega (arith, none)
+    latest_fits latest (inr shown) = (version_fits latest shown.0 shown.1).bounded
+
+    no_writer : k.trace.caller.own ≡ None → IsWrite c.call → ⊥
+    no_writer none write = no_write s.cfg k.trace.caller.name k.trace.caller.call (own_of s.cfg k.trace.caller None k.is.told.own none) (subst IsWrite (sym k.is.call_is) write)
+
+    reads : (what : Told) → k.trace.caller.own ≡ None → may_answer kinds.Get what ≡ true → may_answer kinds.GetAt what ≡ true → may_answer (kind_of c.call) what ≡ true
+    reads what none latest at = read_may c.call what k.is.within (no_writer none) latest at
+
+    latest_kind : k.trace.caller.own ≡ None → target_of k.trace.caller.call ≡ Latest → kind_of c.call ≡ kinds.Get
+    latest_kind none latest = get_kind c.call k.is.within (no_writer none) (ap target_of (sym k.is.call_is) ∙ latest)
+
+    version_kind : (version : ℕ) → target_of k.trace.caller.call ≡ At version → kind_of c.call ≡ kinds.GetAt
+    version_kind version at = at_kind c.call version (ap target_of (sym k.is.call_is) ∙ at)
+
+    asked_above : (version : ℕ) → target_of k.trace.caller.call ≡ At version → 1 ≤ version
+    asked_above version at = asked_positive c.call version k.is.within (ap target_of (sym k.is.call_is) ∙ at)
 
     puts_kind : is_put k.trace.caller.call ≡ true → kind_of c.call ≡ kinds.Put
     puts_kind put = put_kind c.call (subst (λ (q : Call). is_put q ≡ true) k.is.call_is put)
@@ -277,10 +322,13 @@ module _ (s : State) (g : IsLoggable s) where
     by_kind : (kind : Kind) (answer : Answer) → kind_of c.call ≡ kind → may_answer kind (told_of answer) ≡ true → IsAnswer answer → IsAnswerOf (kind_of c.call) answer
     by_kind kind answer is may bounded = record { kind_is = ap (λ (q : Kind). may_answer q (told_of answer)) is ∙ may; bounded = bounded }
 
-    unsure_fits : (why : UnsureWhy) → UnsureCause s.cfg k.trace.actions why → IsUnsure why
+    unsure_fits : (why : UnsureWhy) → UnsureCause s.cfg k.trace.caller k.trace.actions why → IsUnsure why
     unsure_fits (UnsureNoQuorum phase heard) cause = known_fits heard cause.heard_is
     unsure_fits (UnsureContended m) cause = let e = cause.1 in let le = met_noted k.trace.actions in count_fits m (omega (arith, e, le))
-    unsure_fits (UnsureTrimmed floor) cause = absurd cause
+    unsure_fits (UnsureTrimmed floor) cause =
+        let first = last_vote_above s.cfg k.trace.caller k.past k.trace.actions k.trace.caller.name cause.1.version k.is.told.allowed cause.1.voted in
+        let gone = cause.1.gone in
+        floor_fits floor (omega (arith, first, gone)) cause.1.heard
 
     answer_fits : (answer : Answer) → k.trace.answer ≡ Some answer → HasCause s.cfg k.trace.caller k.trace.actions answer → IsAnswerOf (kind_of c.call) answer
     answer_fits (Ok v) e h = record { kind_is = write_ok c.call (own_write h.1.chosen.0 h.1.chosen.1); bounded = version_fits v k.trace.caller.name h.1.chosen.2 }
@@ -291,12 +339,21 @@ module _ (s : State) (g : IsLoggable s) where
         let sites = g.known.config.sites in
         by_kind kinds.Put (Thin v n) (puts_kind h.2.put) refl (version_fits v k.trace.caller.name h.1.chosen.2, omega (arith, few, spare, pieces, sites))
     answer_fits (Short n) e h = let is = h.2 in let le = stored_noted k.trace.actions in by_kind kinds.Put (Short n) (puts_kind h.1.put) refl (count_fits n (omega (arith, is, le)))
-    answer_fits (Bytes v name bytes) e h =
-        by_kind kinds.Get (Bytes v name bytes) (reads_kind h.1.2.reads) refl (version_fits v h.1.0.name h.1.2.shown, subst IsName h.1.1 (learnt_name v (PutOf h.1.0) h.1.2), object_fits v name bytes e)
-    answer_fits (Incomplete v name fates) e h =
-        by_kind kinds.Get (Incomplete v name fates) (reads_kind h.1.2.reads) refl (version_fits v h.1.0.name h.1.2.shown, subst IsName h.1.1 (learnt_name v (PutOf h.1.0) h.1.2), fates_fit v h.1.0 fates h.1.2 h.1.3.0.count)
-    answer_fits (Gone v name) e h = by_kind kinds.Get (Gone v name) (reads_kind h.1.reads) refl (version_fits v name h.1.shown, learnt_name v (Tomb name) h.1)
-    answer_fits Absent e h = by_kind kinds.Get Absent (reads_kind h.1.0) refl tt
+    answer_fits (Bytes v name bytes) e h = record {
+      kind_is = reads told.Bytes h.1.2.reads refl refl;
+      bounded = (version_fits v h.1.0.name h.1.2.shown, subst IsName h.1.1 (learnt_name v (PutOf h.1.0) h.1.2), object_fits v name bytes e);
+    }
+    answer_fits (Incomplete v name fates) e h = record {
+      kind_is = reads told.Incomplete h.1.2.reads refl refl;
+      bounded = (version_fits v h.1.0.name h.1.2.shown, subst IsName h.1.1 (learnt_name v (PutOf h.1.0) h.1.2), fates_fit v h.1.0 fates h.1.2 h.1.3.0.count);
+    }
+    answer_fits (Gone v name) e h = record { kind_is = reads told.Gone h.1.reads refl refl; bounded = (version_fits v name h.1.shown, learnt_name v (Tomb name) h.1) }
+    answer_fits Absent e h = by_kind kinds.Get Absent (latest_kind h.1.reads h.1.asked) refl tt
+    answer_fits (Unborn latest) e h = by_kind kinds.GetAt (Unborn latest) (version_kind h.1.version h.1.asked) refl (latest_fits latest h.1.shown)
+    answer_fits (Collected floor) e h =
+        let first = asked_above h.1.version h.1.asked in
+        let gone = h.1.gone in
+        by_kind kinds.GetAt (Collected floor) (version_kind h.1.version h.1.asked) refl (floor_fits floor (omega (arith, first, gone)) h.1.heard)
     answer_fits (NoQuorum phase heard) e h = record { kind_is = any_noquorum (kind_of c.call); bounded = known_fits heard h.1.1.heard_is }
     answer_fits (Contended m) e h = let is = h.1.1.1 in let le = met_noted k.trace.actions in record { kind_is = any_contended (kind_of c.call); bounded = count_fits m (omega (arith, is, le)) }
     answer_fits (Unsure why) e h = record { kind_is = write_unsure c.call (voted_writes k.trace.actions k.is.told.allowed k.carried h.1.0); bounded = unsure_fits why h.1.1 }

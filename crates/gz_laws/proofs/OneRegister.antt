@@ -5,7 +5,7 @@ use Rattle.std.specs.Prelude.{Option}
 use Rattle.gz_config.specs.declared.Config.{Config}
 use Rattle.gz_core.specs.Names.{Name}
 use Rattle.gz_core.specs.declared.calls.Answer.{Answer}
-use Rattle.gz_core.specs.declared.calls.Answer.TheVariants.{Ok as Placed, Thin, Short, Bytes, Incomplete, Gone, Absent, NoQuorum, Contended, Unsure}
+use Rattle.gz_core.specs.declared.calls.Answer.TheVariants.{Ok as Placed, Thin, Short, Bytes, Incomplete, Gone, Absent, Unborn, Collected, NoQuorum, Contended, Unsure}
 use Rattle.gz_core.specs.declared.calls.Call.{Call}
 use Rattle.gz_core.specs.declared.calls.Call.TheVariants.{Put, Delete, Get, GetAt, Collect}
 use Rattle.gz_core.specs.declared.values.Value.{Value}
@@ -15,6 +15,8 @@ use Rattle.gz_core.proofs.Counting.{count_found}
 use Rattle.gz_core.proofs.Quorums.{need_some}
 use Rattle.gz_data.specs.Own.{IsOwn}
 use Rattle.gz_round.specs.Starting.{IsWithin}
+use Rattle.gz_round.specs.Targets.{target_of}
+use Rattle.gz_round.specs.declared.run.Target.TheVariants.{Latest, At}
 use Rattle.gz_client.specs.Traces.{IsAnswered}
 use Rattle.gz_history.specs.Answers.{shows, read_from, stands}
 use Rattle.gz_history.specs.Legal.{IsBefore, IsLegal}
@@ -33,7 +35,7 @@ use Rattle.gz_laws.proofs.Legality.{IsKnownRun, proposer, known, legal, contains
 use Rattle.gz_laws.proofs.Ordered.{AreNamedApart, before_at, below_next}
 use Rattle.gz_laws.proofs.RegisterRuns.{register_runs}
 use Rattle.gz_laws.proofs.RunAnswers.{call_trace, call_shown}
-use Rattle.gz_laws.proofs.Serializing.{IsSerializable, IsWriter, IsWriterOf, IsWriteAnswer, IsReadAnswer, Fits, each_once, calls_of, chosen_listed, listed, ordered}
+use Rattle.gz_laws.proofs.Serializing.{IsSerializable, IsWriter, IsWriterOf, IsWriteAnswer, IsReadAnswer, IsVersionAnswer, Fits, each_once, calls_of, chosen_listed, listed, ordered}
 
 -- ---- each answer is one of its kind of call
 
@@ -51,29 +53,56 @@ write_answer c past t x (Some (Unsure why)) own h = tt
 write_answer c past t x (Some (Bytes v name bytes)) own h = absurd (own_apart t.caller.own x own h.1.2.reads)
 write_answer c past t x (Some (Incomplete v name fates)) own h = absurd (own_apart t.caller.own x own h.1.2.reads)
 write_answer c past t x (Some (Gone v name)) own h = absurd (own_apart t.caller.own x own h.1.reads)
-write_answer c past t x (Some Absent) own h = absurd (own_apart t.caller.own x own h.1.0)
+write_answer c past t x (Some Absent) own h = absurd (own_apart t.caller.own x own h.1.reads)
+write_answer c past t x (Some (Unborn latest)) own h = absurd (own_apart t.caller.own x own h.1.reads)
+write_answer c past t x (Some (Collected floor)) own h = absurd (own_apart t.caller.own x own h.1.reads)
 write_answer c past t x (Some answer) own h = absurd h
 
-read_answer : (c : Config) (past : List Trace) (t : Trace) (answer : Option Answer) → t.caller.own ≡ None → IsAnswered c past t answer → IsReadAnswer answer
-read_answer c past t None own h = tt
-read_answer c past t (Some (Placed v)) own h = absurd (own_apart t.caller.own h.1.chosen.0 h.1.chosen.1 own)
-read_answer c past t (Some (Thin v stored)) own h = absurd (own_apart t.caller.own h.1.chosen.0 h.1.chosen.1 own)
-read_answer c past t (Some (Short stored)) own h = tt
-read_answer c past t (Some (NoQuorum phase heard)) own h = tt
-read_answer c past t (Some (Contended met)) own h = tt
-read_answer c past t (Some (Unsure why)) own h = tt
-read_answer c past t (Some (Bytes v name bytes)) own h = tt
-read_answer c past t (Some (Incomplete v name fates)) own h = tt
-read_answer c past t (Some (Gone v name)) own h = tt
-read_answer c past t (Some Absent) own h = tt
-read_answer c past t (Some answer) own h = absurd h
+-- a call that asks for the latest version asks for none by its number
+asks_latest : (call : Call) (version : ℕ) → target_of call ≡ Latest → target_of call ≡ At version → ⊥
+asks_latest call version latest at = let bad : Latest ≡ At version = sym latest ∙ at in cc
 
-fits_of : (c : Config) (past : List Trace) (t : Trace) (call : Call) (answer : Option Answer) → IsWithin call → IsOwn c t.caller.name call t.caller.own → IsAnswered c past t answer → Fits call answer
-fits_of c past t (Put key bytes) answer within own h = write_answer c past t (PutOf own.0) answer own.1 h
-fits_of c past t (Delete key) answer within own h = write_answer c past t (Tomb t.caller.name) answer own h
-fits_of c past t (Get key) answer within own h = read_answer c past t answer own h
-fits_of c past t (GetAt key version) answer within own h = absurd within
-fits_of c past t (Collect key keep) answer within own h = absurd within
+asks_number : (call : Call) (version : ℕ) → target_of call ≡ At version → target_of call ≡ Latest → ⊥
+asks_number call version at latest = asks_latest call version latest at
+
+read_answer : (c : Config) (past : List Trace) (t : Trace) (answer : Option Answer) → t.caller.own ≡ None → target_of t.caller.call ≡ Latest → IsAnswered c past t answer → IsReadAnswer answer
+read_answer c past t None own latest h = tt
+read_answer c past t (Some (Placed v)) own latest h = absurd (own_apart t.caller.own h.1.chosen.0 h.1.chosen.1 own)
+read_answer c past t (Some (Thin v stored)) own latest h = absurd (own_apart t.caller.own h.1.chosen.0 h.1.chosen.1 own)
+read_answer c past t (Some (Short stored)) own latest h = tt
+read_answer c past t (Some (NoQuorum phase heard)) own latest h = tt
+read_answer c past t (Some (Contended met)) own latest h = tt
+read_answer c past t (Some (Unsure why)) own latest h = tt
+read_answer c past t (Some (Bytes v name bytes)) own latest h = tt
+read_answer c past t (Some (Incomplete v name fates)) own latest h = tt
+read_answer c past t (Some (Gone v name)) own latest h = tt
+read_answer c past t (Some Absent) own latest h = tt
+read_answer c past t (Some (Unborn v)) own latest h = absurd (asks_latest t.caller.call h.1.version latest h.1.asked)
+read_answer c past t (Some (Collected floor)) own latest h = absurd (asks_latest t.caller.call h.1.version latest h.1.asked)
+read_answer c past t (Some answer) own latest h = absurd h
+
+version_answer : (c : Config) (past : List Trace) (t : Trace) (version : ℕ) (answer : Option Answer) → t.caller.own ≡ None → target_of t.caller.call ≡ At version → IsAnswered c past t answer → IsVersionAnswer answer
+version_answer c past t version None own at h = tt
+version_answer c past t version (Some (Placed v)) own at h = absurd (own_apart t.caller.own h.1.chosen.0 h.1.chosen.1 own)
+version_answer c past t version (Some (Thin v stored)) own at h = absurd (own_apart t.caller.own h.1.chosen.0 h.1.chosen.1 own)
+version_answer c past t version (Some (Short stored)) own at h = tt
+version_answer c past t version (Some (NoQuorum phase heard)) own at h = tt
+version_answer c past t version (Some (Contended met)) own at h = tt
+version_answer c past t version (Some (Unsure why)) own at h = tt
+version_answer c past t version (Some (Bytes v name bytes)) own at h = tt
+version_answer c past t version (Some (Incomplete v name fates)) own at h = tt
+version_answer c past t version (Some (Gone v name)) own at h = tt
+version_answer c past t version (Some Absent) own at h = absurd (asks_number t.caller.call version at h.1.asked)
+version_answer c past t version (Some (Unborn v)) own at h = tt
+version_answer c past t version (Some (Collected floor)) own at h = tt
+version_answer c past t version (Some answer) own at h = absurd h
+
+fits_of : (c : Config) (past : List Trace) (t : Trace) (call : Call) (answer : Option Answer) → t.caller.call ≡ call → IsWithin call → IsOwn c t.caller.name call t.caller.own → IsAnswered c past t answer → Fits call answer
+fits_of c past t (Put key bytes) answer is within own h = write_answer c past t (PutOf own.0) answer own.1 h
+fits_of c past t (Delete key) answer is within own h = write_answer c past t (Tomb t.caller.name) answer own h
+fits_of c past t (Get key) answer is within own h = read_answer c past t answer own (ap target_of is) h
+fits_of c past t (GetAt key version) answer is within own h = version_answer c past t version answer own (ap target_of is) h
+fits_of c past t (Collect key keep) answer is within own h = absurd within
 
 -- ---- what is known of the calls of an object
 
@@ -113,7 +142,7 @@ module _ (key : List ℕ) (s : State) (ds : List Transition) (k : IsKnownRun key
   fits a of =
       let h = call_trace key s ds of.0 a k.run k.listed k.carries of.1 of.2 in
       let t = h.trace in
-      fits_of s.cfg h.past t a.call a.answer h.is.within (subst (λ (q : Call). IsOwn s.cfg t.caller.name q t.caller.own) h.is.call_is h.is.told.own) (subst (IsAnswered s.cfg h.past t) h.is.answer h.is.told.answered)
+      fits_of s.cfg h.past t a.call a.answer h.is.call_is h.is.within (subst (λ (q : Call). IsOwn s.cfg t.caller.name q t.caller.own) h.is.call_is h.is.told.own) (subst (IsAnswered s.cfg h.past t) h.is.answer h.is.told.answered)
 
   written : (v : ℕ) (x : Name) → IsChosen s.cfg s.casts key v x → IsWriter key s x
   written v x h =
@@ -152,6 +181,7 @@ module _ (key : List ℕ) (s : State) (ds : List Transition) (k : IsKnownRun key
     later = λ i end a at e. k.placed.later i end a at e;
     answered = λ i a at. k.placed.answered i a at;
     fits = fits;
+    asked = λ a of. lawful.asked a (get_contains s.calls of.0 a of.1);
     one = λ v x y h g. agrees.one v x y h g;
     once = λ u v x h g. agrees.once u v x h g;
     positive = positive;

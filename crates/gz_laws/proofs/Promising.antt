@@ -1,14 +1,14 @@
 -- Promises and classic votes that a client may send, the machine of agreement may send.
-use Rattle.std.proofs.Common.{◌≡◌, ℕ, ◌⊎◌, inl, inr, List, [], ◌∷◌, Some, None, true, false, refl, ap, sym, ◌∙◌, subst, arith, get_or}
+use Rattle.std.proofs.Common.{◌≡◌, ◌≢◌, ℕ, ◌⊎◌, inl, inr, List, [], ◌∷◌, Some, None, true, false, refl, ap, sym, ◌∙◌, subst, arith, get_or}
 use Rattle.gz_core.proofs.Ballots.{same_refl, same_means, name_refl}
 use Rattle.std.proofs.lemmas.Bool.{eqb-true, eq-eqb, and_parts, or_cases, or_left, or_right, and_from}
 use Rattle.std.proofs.lemmas.Bool.Decides.{nat_tests}
-use Rattle.std.proofs.lemmas.Option.{slice_get_within, get_or_from_slice_get}
+use Rattle.std.proofs.lemmas.Option.{none-some, slice_get_within, get_or_from_slice_get}
 use Rattle.std.specs.Prelude.{Option, ◌==◌, ◌&&◌, slice_get}
 use Rattle.std.specs.List.{All}
 use Rattle.gz_core.specs.Names.{Name, BallotAt, fast, IsClassic, same_ballot, same_name}
 use Rattle.gz_core.specs.Values.{name_of}
-use Rattle.gz_core.specs.Rows.{RowAt, column_in}
+use Rattle.gz_core.specs.Rows.{RowAt, column_in, IsRow}
 use Rattle.gz_core.specs.Slots.{Promises, VotesClassic, act_of, slots, slot_of, slot_vote}
 use Rattle.gz_core.specs.declared.slots.Slot.TheVariants.{OpenAt}
 use Rattle.gz_core.specs.declared.rows.Column.{Column}
@@ -30,8 +30,8 @@ use Rattle.gz_laws.proofs.Asking.{MayAskRow, row_asked}
 use Rattle.gz_ledger.specs.Histories.{RowSeen, IsIn, IsVotedAt}
 use Rattle.gz_ledger.specs.Guards.{IsPromiseSeen}
 use Rattle.gz_ledger.specs.Transitions.{Store}
-use Rattle.gz_laws.specs.Heard.{IsClean, seen_entry, heard_of, SeenStands, ActionsStand, IsStepSent, SentStep, PastStep}
-use Rattle.gz_laws.proofs.Hearing.{slots_open}
+use Rattle.gz_laws.specs.Heard.{seen_entry, heard_of, SeenStands, ActionsStand, IsStepSent, SentStep, PastStep}
+use Rattle.gz_laws.proofs.RowRules.{slots_found}
 use Rattle.gz_round.proofs.Prepares.{next_unpromised}
 
 pub classic_not_fast : (b : BallotAt) → IsClassic b → same_ballot b fast ≡ false
@@ -74,7 +74,7 @@ abbrev pub OpGuard : Config → Caller → List Trace → List Action → Op →
 OpGuard c w past ms (WriteRow key expect step row) = MayMake c w past ms step
 OpGuard c w past ms op = Unit {0}
 
-asks_guard : (c : Config) (w : Caller) (past : List Trace) (ms : List Action) (now : SiteNow) (op : Op) → MayAskRow c w past ms now op → OpGuard c w past ms op
+pub asks_guard : (c : Config) (w : Caller) (past : List Trace) (ms : List Action) (now : SiteNow) (op : Op) → MayAskRow c w past ms now op → OpGuard c w past ms op
 asks_guard c w past ms now (WriteRow key expect step row) h = (h refl).1.guard
 asks_guard c w past ms now op h = tt
 
@@ -96,7 +96,8 @@ last_step c w past (ClassicVote n d x) ms u v b guard last (inl e) same any = cc
 last_step c w past (ClassicVote n d x) ms u v b guard last (inr k) same any = same last k
 last_step c w past (Decide n x) ms u v b guard last (inl e) same any = cc
 last_step c w past (Decide n x) ms u v b guard last (inr k) same any = same last k
-last_step c w past (Trim to x) ms u v b guard last h same any = absurd guard
+last_step c w past (Trim to x) ms u v b guard last (inl e) same any = cc
+last_step c w past (Trim to x) ms u v b guard last (inr k) same any = same last k
 
 last_op : (c : Config) (w : Caller) (past : List Trace) (op : Op) (ms : List Action) (u v : ℕ) (b : BallotAt) → OpGuard c w past ms op → or_earlier (of_step promise_by op) (last_promise ms) ≡ Some (v, b)
     → IsStepSent op (Promises u b) ⊎ SentStep ms (Promises u b) → (last_promise ms ≡ Some (v, b) → SentStep ms (Promises u b) → u ≡ v) → ((x : ℕ) → last_promise ms ≡ Some (x, b) → SentStep ms (Promises u b) → u ≡ x) → u ≡ v
@@ -177,16 +178,16 @@ later site (Some seen) es e h = inr h
 
 -- a row that was heard is among the rows
 heard_entry : (st : Store) (a : Asked) (s : ℕ) (o : Option Seen) (es : List RowSeen) (row : RowAt) → SeenStands st a.site o → is_to a s ≡ true → ((seen : Seen) × ((o ≡ Some seen) × (seen.row ≡ row)))
-    → IsClean row × (let e : RowSeen = record { site = s; row = slots row } in IsIn e (seen_entry a.site o es))
+    → IsRow row × (let e : RowSeen = record { site = s; row = slots row } in IsIn e (seen_entry a.site o es))
 heard_entry st a s None es row stands to h = let bad = h.1.0 in cc
 heard_entry st a s (Some k) es row stands to h =
     let same : k ≡ h.0 = (let e = h.1.0 in cc) in
     let is : k.row ≡ row = ap (λ (q : Seen). q.row) same ∙ h.1.1 in
     let t = and_parts (is_row_request a.op) (a.site == s) to in
     let n = eqb-true a.site s t.1 in
-    (subst IsClean is stands.0, inl (λ i. let e : RowSeen = record { site = sym n i; row = slots (sym is i) } in e))
+    (subst IsRow is stands.0, inl (λ i. let e : RowSeen = record { site = sym n i; row = slots (sym is i) } in e))
 
-pub was_heard : (st : Store) (ms : List Action) (s : ℕ) (row : RowAt) → ActionsStand st ms → WasHeard ms s row → IsClean row × (let e : RowSeen = record { site = s; row = slots row } in IsIn e (heard_of ms))
+pub was_heard : (st : Store) (ms : List Action) (s : ℕ) (row : RowAt) → ActionsStand st ms → WasHeard ms s row → IsRow row × (let e : RowSeen = record { site = s; row = slots row } in IsIn e (heard_of ms))
 was_heard st [] s row stands h = absurd h
 was_heard st (Sent a ∷ ms) s row stands (inl h) = let bad = h.2 in cc
 was_heard st (Sent a ∷ ms) s row stands (inr h) = was_heard st ms s row stands.1 h
@@ -219,4 +220,5 @@ pub vote_heard : (st : Store) (ms : List Action) (v s : ℕ) (row : RowAt) (b : 
 vote_heard st ms v s row b x stands was vote =
     let w = was_heard st ms s row stands was in
     let o = vote_open (column_in row.columns v) b x vote in
-    record { entry = record { site = s; row = slots row }; found = w.1; promise = o.0; ballot = b; votes = slots_open row v w.0.floor ∙ o.1 }
+    let there : column_in row.columns v ≢ None = λ none. none-some (b, x) (sym (ap (λ k. slot_vote (slot_of k)) none) ∙ vote) in
+    record { entry = record { site = s; row = slots row }; found = w.1; promise = o.0; ballot = b; votes = slots_found row v w.0 there ∙ o.1 }

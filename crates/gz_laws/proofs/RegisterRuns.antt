@@ -1,23 +1,24 @@
 -- The register, run from the empty one over the order of an object's calls, gives each call its answer.
-use Rattle.std.proofs.Common.{◌≡◌, ℕ, zero, suc, ◌+◌, ◌≤◌, inl, inr, List, [], ◌∷◌, ◌++◌, Some, None, length, refl, ap, sym, ◌∙◌, subst, arith, length-append}
+use Rattle.std.proofs.Common.{◌≡◌, ℕ, zero, suc, ◌+◌, ◌≤◌, inl, inr, List, [], ◌∷◌, ◌++◌, Some, None, true, length, refl, ap, sym, ◌∙◌, subst, arith, length-append}
 use Rattle.std.proofs.lemmas.Bool.{cases_eq}
 use Rattle.std.specs.Prelude.{Option}
 use Rattle.gz_core.specs.Names.{Name}
 use Rattle.gz_core.specs.declared.calls.Answer.{Answer}
-use Rattle.gz_core.specs.declared.calls.Answer.TheVariants.{Ok as Placed, Thin, Short, Bytes, Incomplete, Gone, Absent, NoQuorum, Contended, Unsure}
+use Rattle.gz_core.specs.declared.calls.Answer.TheVariants.{Ok as Placed, Thin, Short, Bytes, Incomplete, Gone, Absent, Unborn, Collected, NoQuorum, Contended, Unsure}
 use Rattle.gz_core.specs.declared.calls.Call.{Call}
 use Rattle.gz_core.specs.declared.calls.Call.TheVariants.{Put, Delete, Get, GetAt, Collect}
-use Rattle.gz_history.specs.Answers.{shows, names, read_from, bytes_read, bytes_written, IsWrite, IsPut, IsDelete, Writes, MayTakeEffect}
+use Rattle.gz_history.specs.Answers.{shows, latest_told, stands, names, read_from, bytes_read, bytes_written, IsWrite, IsPut, IsDelete, Writes, MayTakeEffect, IsOfVersion, AnswersAsked}
 use Rattle.gz_history.specs.declared.record.CallRec.{CallRec}
 use Rattle.gz_ledger.specs.Histories.{IsIn}
 use Rattle.gz_model.specs.Casts.{IsChosen}
 use Rattle.gz_world.specs.States.{State}
 use Rattle.gz_world.proofs.Places.{get_append, get_last}
-use Rattle.gz_laws.specs.Register.{Item, item_at, added, PlacesAt, GivesLast, AnswersAs, RunsFrom}
-use Rattle.gz_laws.specs.Serial.{blocks, reads_at, write_at, order_of, top_of, IsOf}
+use Rattle.gz_laws.specs.Register.{Item, item_at, added, Gives, PlacesAt, GivesLast, GivesVersion, AnswersAs, RunsFrom}
+use Rattle.gz_laws.specs.Serial.{blocks, is_read, reads_at, write_at, order_of, top_of, IsOf}
+use Rattle.gz_laws.proofs.Agreeing.{stands_shows}
 use Rattle.gz_laws.proofs.ChosenAt.{top_is}
 use Rattle.gz_laws.proofs.Ordered.{below_next}
-use Rattle.gz_laws.proofs.Serializing.{IsSerializable, IsReadOf, IsWriter, IsWriterOf, IsWriteAnswer, IsReadAnswer, Fits, reads_found, one_write, same_call}
+use Rattle.gz_laws.proofs.Serializing.{IsSerializable, IsReadOf, IsWriter, IsWriterOf, IsWriteAnswer, IsReadAnswer, IsVersionAnswer, Fits, placed_read, place_least, reads_found, one_write, same_call}
 
 -- ---- runs
 
@@ -47,6 +48,23 @@ write_adds reg a (Delete key) e write = ap (added reg a.name) e ∙ ap (λ (o : 
 write_adds reg a (Get key) e write = absurd write
 write_adds reg a (GetAt key version) e write = absurd write
 write_adds reg a (Collect key keep) e write = absurd write
+
+read_adds_nothing : (reg : List Item) (name : Name) (call : Call) → is_read call ≡ true → added reg name call ≡ reg
+read_adds_nothing reg name (Put key bytes) reads = cc
+read_adds_nothing reg name (Delete key) reads = cc
+read_adds_nothing reg name (Get key) reads = refl
+read_adds_nothing reg name (GetAt key version) reads = refl
+read_adds_nothing reg name (Collect key keep) reads = refl
+
+same_number : (n u : ℕ) → Some n ≡ Some u → n ≡ u
+same_number n u e = cc
+
+-- an answer that gives what a put or delete wrote
+abbrev IsGiving : Answer → Type 0
+IsGiving (Bytes version name bytes) = Unit {0}
+IsGiving (Incomplete version name fates) = Unit {0}
+IsGiving (Gone version name) = Unit {0}
+IsGiving answer = ⊥
 
 writes_as : (reg : List Item) (call : Call) (answer : Option Answer) → IsWrite call → PlacesAt (length reg + 1) answer → AnswersAs reg call answer
 writes_as reg (Put key bytes) answer write h = h
@@ -84,47 +102,92 @@ module _ (key : List ℕ) (s : State) (k : IsSerializable key s) where
 
   -- ---- reads
 
-  -- the call that a read names is that of the last item
-  read_item : (reg : List Item) (v tick : ℕ) (b : CallRec) (x : Name) → Holds reg v → IsReadOf key s v tick b → names b.name b.answer ≡ Some x → (w : IsWriterOf key s b x) → item_at reg (length reg) ≡ Some (item_of w.call)
-  read_item reg v tick b x h r named w =
-      let chosen = subst (IsChosen s.cfg s.casts key v) (sym w.name_is) (k.named b v x r.of r.shows_it named) in
-      ap (item_at reg) h.len ∙ h.items v w.call (omega arith) w.of chosen
+  -- the call that a read names is that of the item of the version that it shows
+  read_item : (reg : List Item) (v u tick : ℕ) (b : CallRec) (x : Name) → Holds reg v → IsReadOf key s v tick b → shows b.answer ≡ Some u → names b.name b.answer ≡ Some x → (w : IsWriterOf key s b x) → item_at reg u ≡ Some (item_of w.call)
+  read_item reg v u tick b x h r shown named w =
+      let chosen = subst (IsChosen s.cfg s.casts key u) (sym w.name_is) (k.named b u x r.of shown named) in
+      h.items u w.call (place_least key s k u v tick b r shown) w.of chosen
 
   item_is : (w : CallRec) (x : Name) (o : Option (List ℕ)) → w.name ≡ x → bytes_written w.call ≡ o → (let item : Item = record { name = x; bytes = o } in item_of w ≡ item)
   unfolding item_of
   item_is w x o name bytes = rw (name, bytes) refl
 
-  shown_is : (reg : List Item) (u v : ℕ) → Holds reg v → Some u ≡ Some v → u ≡ length reg
-  shown_is reg u v h e = let same : u ≡ v = cc in same ∙ sym h.len
-
-  gives_last : (reg : List Item) (v tick : ℕ) (b : CallRec) (o : Option Answer) → Holds reg v → IsReadOf key s v tick b → b.answer ≡ o → IsReadAnswer o → GivesLast reg o
-  gives_last reg v tick b None h r e fits = let bad : None ≡ Some v = ap shows (sym e) ∙ r.shows_it in cc
-  gives_last reg v tick b (Some Absent) h r e fits = sym (shown_is reg 0 v h (ap shows (sym e) ∙ r.shows_it))
-  gives_last reg v tick b (Some (Bytes u x bytes)) h r e fits =
+  -- it gives that item
+  gives_item : (reg : List Item) (v u tick : ℕ) (b : CallRec) (answer : Answer) → Holds reg v → IsReadOf key s v tick b → b.answer ≡ Some answer → IsGiving answer → shows (Some answer) ≡ Some u → Gives reg u answer
+  gives_item reg v u tick b (Bytes n x bytes) h r e giving shown =
       let w = k.read b x r.of (ap read_from e) in
-      let is = read_item reg v tick b x h r (ap (names b.name) e) w in
-      (shown_is reg u v h (ap shows (sym e) ∙ r.shows_it), is ∙ ap Some (item_is w.call x (Some bytes) w.name_is (w.bytes_are bytes (ap bytes_read e))))
-  gives_last reg v tick b (Some (Incomplete u x fates)) h r e fits =
+      let is = read_item reg v u tick b x h r (ap shows e ∙ shown) (ap (names b.name) e) w in
+      (same_number n u shown, is ∙ ap Some (item_is w.call x (Some bytes) w.name_is (w.bytes_are bytes (ap bytes_read e))))
+  gives_item reg v u tick b (Incomplete n x fates) h r e giving shown =
       let w = k.read b x r.of (ap read_from e) in
       let put : IsPut w.call.call = subst (λ (a : Option Answer). Writes a w.call.call) e w.writes in
       let bytes = put_bytes w.call.call put in
-      let is = read_item reg v tick b x h r (ap (names b.name) e) w in
-      (shown_is reg u v h (ap shows (sym e) ∙ r.shows_it), bytes.0, is ∙ ap Some (item_is w.call x (Some bytes.0) w.name_is bytes.1))
-  gives_last reg v tick b (Some (Gone u x)) h r e fits =
+      let is = read_item reg v u tick b x h r (ap shows e ∙ shown) (ap (names b.name) e) w in
+      (same_number n u shown, bytes.0, is ∙ ap Some (item_is w.call x (Some bytes.0) w.name_is bytes.1))
+  gives_item reg v u tick b (Gone n x) h r e giving shown =
       let w = k.read b x r.of (ap read_from e) in
       let del : IsDelete w.call.call = subst (λ (a : Option Answer). Writes a w.call.call) e w.writes in
-      let is = read_item reg v tick b x h r (ap (names b.name) e) w in
-      (shown_is reg u v h (ap shows (sym e) ∙ r.shows_it), is ∙ ap Some (item_is w.call x None w.name_is (delete_bytes w.call.call del)))
-  gives_last reg v tick b (Some (Short stored)) h r e fits = let bad : None ≡ Some v = ap shows (sym e) ∙ r.shows_it in cc
-  gives_last reg v tick b (Some (Unsure why)) h r e fits = let bad : None ≡ Some v = ap shows (sym e) ∙ r.shows_it in cc
-  gives_last reg v tick b (Some (NoQuorum phase heard)) h r e fits = let bad : None ≡ Some v = ap shows (sym e) ∙ r.shows_it in cc
-  gives_last reg v tick b (Some (Contended met)) h r e fits = let bad : None ≡ Some v = ap shows (sym e) ∙ r.shows_it in cc
-  gives_last reg v tick b (Some answer) h r e fits = absurd fits
+      let is = read_item reg v u tick b x h r (ap shows e ∙ shown) (ap (names b.name) e) w in
+      (same_number n u shown, is ∙ ap Some (item_is w.call x None w.name_is (delete_bytes w.call.call del)))
+  gives_item reg v u tick b answer h r e giving shown = absurd giving
+
+  -- a read of the latest version has its place at the version that it shows
+  get_shows : (v tick : ℕ) (b : CallRec) (q : List ℕ) → b.call ≡ Get q → IsReadOf key s v tick b → shows b.answer ≡ Some v
+  get_shows v tick b q is r =
+      let p = placed_read key s k v tick b r in
+      let latest : stands b.call b.answer ≡ Some p.version = ap (λ (c : Call). stands c b.answer) is ∙ p.shows_it in
+      elim p.place [
+        | inl at ↦ stands_shows b.call b.answer v at
+        | inr after ↦ (let bad : None ≡ Some p.version = sym after.0 ∙ latest in cc)
+      ]
+
+  gives_last : (reg : List Item) (v tick : ℕ) (b : CallRec) (o : Option Answer) → Holds reg v → IsReadOf key s v tick b → b.answer ≡ o → shows o ≡ Some v → IsReadAnswer o → GivesLast reg o
+  gives_last reg v tick b None h r e shown fits = cc
+  gives_last reg v tick b (Some Absent) h r e shown fits = h.len ∙ sym (same_number 0 v shown)
+  gives_last reg v tick b (Some (Bytes u x bytes)) h r e shown fits = subst (λ n. Gives reg n (Bytes u x bytes)) (sym h.len) (gives_item reg v v tick b (Bytes u x bytes) h r e tt shown)
+  gives_last reg v tick b (Some (Incomplete u x fates)) h r e shown fits = subst (λ n. Gives reg n (Incomplete u x fates)) (sym h.len) (gives_item reg v v tick b (Incomplete u x fates) h r e tt shown)
+  gives_last reg v tick b (Some (Gone u x)) h r e shown fits = subst (λ n. Gives reg n (Gone u x)) (sym h.len) (gives_item reg v v tick b (Gone u x) h r e tt shown)
+  gives_last reg v tick b (Some (Short stored)) h r e shown fits = cc
+  gives_last reg v tick b (Some (Unsure why)) h r e shown fits = cc
+  gives_last reg v tick b (Some (NoQuorum phase heard)) h r e shown fits = cc
+  gives_last reg v tick b (Some (Contended met)) h r e shown fits = cc
+  gives_last reg v tick b (Some answer) h r e shown fits = absurd fits
+
+  -- where a version that was asked for has not begun, the read has its place at the latest one
+  unborn_place : (v tick version latest : ℕ) (b : CallRec) (q : List ℕ) → b.call ≡ GetAt q version → b.answer ≡ Some (Unborn latest) → IsReadOf key s v tick b → latest ≡ v
+  unborn_place v tick version latest b q is e r =
+      let p = placed_read key s k v tick b r in
+      let told : stands b.call b.answer ≡ Some latest = ap (λ (c : Call). stands c b.answer) is ∙ ap latest_told e in
+      elim p.place [
+        | inl at ↦ (let both : Some latest ≡ Some v = sym told ∙ at in cc)
+        | inr after ↦ (let bad : None ≡ Some latest = sym after.0 ∙ told in cc)
+      ]
+
+  gives_version : (reg : List Item) (v tick version u : ℕ) (q : List ℕ) (b : CallRec) (o : Option Answer) → Holds reg v → IsReadOf key s v tick b → b.call ≡ GetAt q version → b.answer ≡ o → shows o ≡ Some u → IsVersionAnswer o → IsOfVersion version o → GivesVersion reg version o
+  gives_version reg v tick version u q b None h r is e shown fits asked = cc
+  gives_version reg v tick version u q b (Some (Bytes n x bytes)) h r is e shown fits asked = subst (λ i. Gives reg i (Bytes n x bytes)) asked (gives_item reg v n tick b (Bytes n x bytes) h r e tt refl)
+  gives_version reg v tick version u q b (Some (Incomplete n x fates)) h r is e shown fits asked = subst (λ i. Gives reg i (Incomplete n x fates)) asked (gives_item reg v n tick b (Incomplete n x fates) h r e tt refl)
+  gives_version reg v tick version u q b (Some (Gone n x)) h r is e shown fits asked = subst (λ i. Gives reg i (Gone n x)) asked (gives_item reg v n tick b (Gone n x) h r e tt refl)
+  gives_version reg v tick version u q b (Some (Unborn latest)) h r is e shown fits asked = (unborn_place v tick version latest b q is e r ∙ sym h.len, asked)
+  gives_version reg v tick version u q b (Some (Collected floor)) h r is e shown fits asked =
+      let least = place_least key s k (floor + 1) v tick b r (ap shows e) in
+      let len = h.len in
+      (asked, omega (arith, least, len))
+  gives_version reg v tick version u q b (Some (Short stored)) h r is e shown fits asked = cc
+  gives_version reg v tick version u q b (Some (Unsure why)) h r is e shown fits asked = cc
+  gives_version reg v tick version u q b (Some (NoQuorum phase heard)) h r is e shown fits asked = cc
+  gives_version reg v tick version u q b (Some (Contended met)) h r is e shown fits asked = cc
+  gives_version reg v tick version u q b (Some answer) h r is e shown fits asked = absurd fits
+
+  call_answers : (reg : List Item) (v tick : ℕ) (b : CallRec) (call : Call) → Holds reg v → IsReadOf key s v tick b → b.call ≡ call → is_read call ≡ true → Fits call b.answer → AnswersAsked call b.answer → AnswersAs reg call b.answer
+  call_answers reg v tick b (Put q bytes) h r is reads fits asked = cc
+  call_answers reg v tick b (Delete q) h r is reads fits asked = cc
+  call_answers reg v tick b (Get q) h r is reads fits asked = gives_last reg v tick b b.answer h r refl (get_shows v tick b q is r) fits
+  call_answers reg v tick b (GetAt q version) h r is reads fits asked = let p = placed_read key s k v tick b r in gives_version reg v tick version p.version q b b.answer h r is refl p.shows_it fits asked
+  call_answers reg v tick b (Collect q keep) h r is reads fits asked = absurd fits
 
   read_answers : (reg : List Item) (v tick : ℕ) (b : CallRec) → Holds reg v → IsReadOf key s v tick b → AnswersAs reg b.call b.answer
-  read_answers reg v tick b h r =
-      let fits : IsReadAnswer b.answer = subst (λ (q : Call). Fits q b.answer) r.get (k.fits b r.of) in
-      subst (λ (q : Call). AnswersAs reg q b.answer) (sym r.get) (gives_last reg v tick b b.answer h r refl fits)
+  read_answers reg v tick b h r = call_answers reg v tick b b.call h r refl r.reads (k.fits b r.of) (k.asked b r.of)
 
   -- reads get their answers, and leave the register as it is
   reads_run : (reg : List Item) (v : ℕ) (xs : List CallRec) → Holds reg v → ((b : CallRec) → IsIn b xs → (tick : ℕ) × IsReadOf key s v tick b) → RunsFrom reg xs × (after reg xs ≡ reg)
@@ -132,7 +195,7 @@ module _ (key : List ℕ) (s : State) (k : IsSerializable key s) where
   reads_run reg v [] h all = (tt, refl)
   reads_run reg v (b ∷ xs) h all =
       let r = all b (inl refl) in
-      let same : added reg b.name b.call ≡ reg = ap (added reg b.name) r.1.get in
+      let same = read_adds_nothing reg b.name b.call r.1.reads in
       let rest = reads_run reg v xs h (λ c i. all c (inr i)) in
       ((read_answers reg v r.0 b h r.1, subst (λ q. RunsFrom q xs) (sym same) rest.0), ap (λ q. after q xs) same ∙ rest.1)
 

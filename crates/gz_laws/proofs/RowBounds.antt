@@ -1,13 +1,13 @@
 -- Rows whose versions and rounds are bounded.
 use Rattle.std.proofs.Common.{◌≡◌, ℕ, zero, suc, ◌+◌, ◌^◌, ◌≤◌, ◌<◌, inl, inr, List, [], ◌∷◌, Some, None, true, false, length, refl, ap, sym, ◌∙◌, subst, arith}
-use Rattle.std.proofs.lemmas.Bool.{cases_eq, and_from}
+use Rattle.std.proofs.lemmas.Bool.{cases_Bool, cases_eq, and_from}
 use Rattle.std.proofs.lemmas.Bool.Decides.{nat_tests}
-use Rattle.std.specs.Prelude.{Option, ◌==◌, ◌&&◌, max, nat_lt, if◌then◌else◌}
+use Rattle.std.specs.Prelude.{Option, ◌==◌, ◌&&◌, max, nat_lt, if◌then◌else◌, filter}
 use Rattle.std.specs.List.{list_all}
 use Rattle.gz_core.specs.Names.{Name, BallotAt}
-use Rattle.gz_core.specs.Rows.{RowAt, Rises, column_in}
-use Rattle.gz_core.specs.Slots.{slot_of, slot_vote, slot_decision}
-use Rattle.gz_core.specs.declared.slots.Slot.{Slot}
+use Rattle.gz_core.specs.Rows.{RowAt, Rises, StartsDecided, column_in}
+use Rattle.gz_core.specs.Slots.{is_collected, slot_of, slot_vote, slot_decision}
+use Rattle.gz_core.specs.declared.slots.Slot.TheVariants.{Gone}
 use Rattle.gz_core.specs.declared.rows.Column.{Column}
 use Rattle.gz_core.specs.declared.rows.Column.TheVariants.{Open, Decided}
 use Rattle.gz_accept.specs.Steps.{with_column}
@@ -21,7 +21,6 @@ use Rattle.std.proofs.lemmas.Option.{none-some}
 use Rattle.gz_core.specs.declared.values.Value.{Value}
 use Rattle.gz_laws.specs.Bounded.{IsColumnWithin, AreColumnsWithin, IsRowWithin}
 use Rattle.gz_laws.proofs.Growing.{first_seen}
-use Rattle.gz_laws.proofs.Hearing.{slots_open}
 
 -- wider bounds
 column_wider : (r q : ℕ) (column : Column) → r ≤ q → IsColumnWithin r column → IsColumnWithin q column
@@ -33,7 +32,7 @@ columns_wider v w r q [] a b h = tt
 columns_wider v w r q (c ∷ cs) a b h = let l = h.0 in (omega (arith, a, l), (column_wider r q c.1 b h.1.0, columns_wider v w r q cs a b h.1.1))
 
 pub row_wider : (v w r q : ℕ) (row : RowAt) → v ≤ w → r ≤ q → IsRowWithin v r row → IsRowWithin w q row
-row_wider v w r q row a b h = record { clean = h.clean; columns = columns_wider v w r q row.columns a b h.columns }
+row_wider v w r q row a b h = record { rule = h.rule; columns = columns_wider v w r q row.columns a b h.columns }
 
 -- a column that is there
 pub column_there : (versions rounds : ℕ) (cs : List (ℕ × Column)) (v : ℕ) (column : Column) → AreColumnsWithin versions rounds cs → column_in cs v ≡ Some column → (v ≤ versions) × IsColumnWithin rounds column
@@ -56,6 +55,15 @@ columns_with versions rounds v column (c ∷ cs) le is h =
     elim (nat_lt c.0 v) as (λ t. AreColumnsWithin versions rounds (if t then c ∷ with_column v column cs else (if nat_lt v c.0 then (v, column) ∷ c ∷ cs else (v, column) ∷ cs))) [
       | true ↦ (h.0, (h.1.0, columns_with versions rounds v column cs le is h.1.1))
       | false ↦ elim (nat_lt v c.0) as (λ t. AreColumnsWithin versions rounds (if t then (v, column) ∷ c ∷ cs else (v, column) ∷ cs)) [ true ↦ (le, (is, h)) | false ↦ (le, (is, h.1.1)) ]
+    ]
+
+-- what is left of columns
+pub columns_left : (versions rounds to : ℕ) (cs : List (ℕ × Column)) → AreColumnsWithin versions rounds cs → AreColumnsWithin versions rounds (filter (λ c. nat_lt to c.0) cs)
+columns_left versions rounds to [] h = tt
+columns_left versions rounds to (c ∷ cs) h =
+    elim (cases_Bool (nat_lt to c.0)) [
+      | inl e ↦ rw e (h.0, (h.1.0, columns_left versions rounds to cs h.1.1))
+      | inr e ↦ rw e (columns_left versions rounds to cs h.1.1)
     ]
 
 -- the greatest version with a value
@@ -83,10 +91,10 @@ decision_within versions rounds row v x h e = let k = decision_there (column_in 
 
 -- at a version above 0
 pub vote_above : (versions rounds : ℕ) (row : RowAt) (v : ℕ) (b : BallotAt) (x : Name) → IsRowWithin versions rounds row → votes_for b x v (Some row) ≡ true → 1 ≤ v
-vote_above versions rounds row v b x h e = let k = vote_there (column_in row.columns v) b x e in first_seen row v h.clean (λ none. let bad : None ≡ Some k.0 = sym none ∙ k.1 in cc)
+vote_above versions rounds row v b x h e = let k = vote_there (column_in row.columns v) b x e in first_seen row v h.rule (λ none. let bad : None ≡ Some k.0 = sym none ∙ k.1 in cc)
 
 pub decision_above : (versions rounds : ℕ) (row : RowAt) (v : ℕ) (x : Name) → IsRowWithin versions rounds row → decides x v (Some row) ≡ true → 1 ≤ v
-decision_above versions rounds row v x h e = let k = decision_there (column_in row.columns v) x e in first_seen row v h.clean (λ none. let bad : None ≡ Some k.0 = sym none ∙ k.1 in cc)
+decision_above versions rounds row v x h e = let k = decision_there (column_in row.columns v) x e in first_seen row v h.rule (λ none. let bad : None ≡ Some k.0 = sym none ∙ k.1 in cc)
 
 -- the round that a row promises
 slot_within : (rounds : ℕ) (o : Option Column) → ((column : Column) → o ≡ Some column → IsColumnWithin rounds column) → slot_round (slot_of o) ≤ rounds
@@ -96,8 +104,10 @@ slot_within rounds (Some (Decided value)) h = omega arith
 
 pub round_within : (versions rounds : ℕ) (row : RowAt) (v : ℕ) → IsRowWithin versions rounds row → round_known v (Some row) ≤ rounds
 round_within versions rounds row v h =
-    subst (λ (k : Slot). slot_round k ≤ rounds) (sym (slots_open row v h.clean.floor))
-    (slot_within rounds (column_in row.columns v) (λ column e. (column_there versions rounds row.columns v column h.columns e).1))
+    elim (is_collected row v) as (λ t. slot_round (if t then Gone else slot_of (column_in row.columns v)) ≤ rounds) [
+      | true ↦ omega arith
+      | false ↦ slot_within rounds (column_in row.columns v) (λ column e. (column_there versions rounds row.columns v column h.columns e).1)
+    ]
 
 pub greatest_within : (n most : ℕ) (f : ℕ → ℕ) → ((i : ℕ) → f i ≤ most) → greatest n f ≤ most
 greatest_within zero most f h = omega arith
@@ -107,6 +117,12 @@ greatest_within (suc n) most f h = let r = greatest_within n most f h in let l =
 rises_most : (versions rounds bound : ℕ) (cs : List (ℕ × Column)) → Rises bound cs → AreColumnsWithin versions rounds cs → bound ≤ versions → length cs + bound ≤ versions
 rises_most versions rounds bound [] rises h le = omega (arith, le)
 rises_most versions rounds bound (c ∷ cs) rises h le = let r = rises_most versions rounds c.0 cs rises.1 h.1.1 h.0 in let above = rises.0 in omega (arith, r, above)
+
+-- above a floor that was raised stands a column
+pub floor_within : (versions rounds floor : ℕ) (cs : List (ℕ × Column)) → StartsDecided floor cs → AreColumnsWithin versions rounds cs → floor ≤ versions
+floor_within versions rounds floor [] starts h = omega (arith, starts)
+floor_within versions rounds floor (c ∷ cs) (inl none) h = omega (arith, none)
+floor_within versions rounds floor (c ∷ cs) (inr first) h = let next = first.0 in let low = h.0 in omega (arith, next, low)
 
 -- whose values have their fragments at sites
 abbrev pub AreStanding : ℕ → RowAt → Type 0
@@ -140,11 +156,11 @@ columns_can n versions rounds bound (c ∷ cs) few low rises h stands =
 -- such a row can stand
 pub row_can : (n versions rounds : ℕ) (row : RowAt) → versions < 2 ^ 22 → rounds < 2 ^ 31 → IsRowWithin versions rounds row → AreStanding n row → can_stand n row ≡ true
 row_can n versions rounds row few low h stands =
-    let floor = h.clean.floor in
-    let most = rises_most versions rounds 0 row.columns h.clean.rises h.columns (omega arith) in
-    let a : row.floor < 2 ^ 62 = omega (arith, floor) in
+    let floor = floor_within versions rounds row.floor row.columns h.rule.starts h.columns in
+    let most = rises_most versions rounds row.floor row.columns h.rule.rises h.columns floor in
+    let a : row.floor < 2 ^ 62 = omega (arith, floor, few) in
     let b : length row.columns < 2 ^ 22 = omega (arith, most, few) in
     let s : nat_lt row.floor (2 ^ 62) ≡ true = grind (arith, nat_tests) in
     let t : nat_lt (length row.columns) (2 ^ 22) ≡ true = grind (arith, nat_tests) in
     and_from (nat_lt row.floor (2 ^ 62)) (nat_lt (length row.columns) (2 ^ 22) && list_all (entry_stands n) row.columns) s
-    (and_from (nat_lt (length row.columns) (2 ^ 22)) (list_all (entry_stands n) row.columns) t (columns_can n versions rounds 0 row.columns few low h.clean.rises h.columns stands))
+    (and_from (nat_lt (length row.columns) (2 ^ 22)) (list_all (entry_stands n) row.columns) t (columns_can n versions rounds row.floor row.columns few low h.rule.rises h.columns stands))

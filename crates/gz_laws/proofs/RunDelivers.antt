@@ -41,7 +41,7 @@ more_replies r tick i t reply one e = elim (get_of_two r.replies ((tick, reply) 
 reply_stands : (st su : Store) (r : RequestAt) (tick : ℕ) (reply : Reply) → RequestStands su r → SeenStands su r.site (seen_in (written_by r.op) reply) → RequestStands su (with_reply tick reply r)
 reply_stands st su r tick reply h seen = record {
   asked = h.asked;
-  clean = h.clean;
+  rule = h.rule;
   replies = λ i t one e. elim (more_replies r tick i t reply one e) [
     | inl k ↦ h.replies i t one k
     | inr k ↦ subst (λ q. SeenStands su r.site (seen_in (written_by r.op) q)) k seen
@@ -54,7 +54,7 @@ deliver_run key old new ds n r reply effect d tells run =
     let before = t.0 in
     let after = t.1.0 in
     let k = site_done old.cfg key ds r.site r.name r.op reply before after run.transitions (run.sites r.site before t.1.1.0)
-    (λ same. let s = run.requests n r d.request same in (s.asked, s.clean)) t.1.1.1.1 in
+    (λ same. let s = run.requests n r d.request same in (s.asked, s.rule)) t.1.1.1.1 in
     let more = k.0 in
     let done = k.1 in
     let now = with_reply (tick_of old) reply r in
@@ -66,7 +66,7 @@ deliver_run key old new ds n r reply effect d tells run =
           | inl e ↦ (let same = same_told after told (sym t.1.1.1.0 ∙ sym (ap new.sites e) ∙ is) in
               subst (λ x. SiteStands key told (after_transitions unused more) x) (sym e) (subst (λ x. SiteStands key x (after_transitions unused more) r.site) same done.here))
           | inr ne ↦ (let s = run.sites i told (sym (d.others i ne) ∙ is) in
-              record { stored = done.stored i ne ∙ s.stored; used = done.used i ne ∙ s.used; clean = s.clean })
+              record { stored = done.stored i ne ∙ s.stored; used = done.used i ne ∙ s.used; rule = s.rule })
         ];
         requests = λ m q there is. elim (set_cases old.net n m r now q d.request (subst (λ xs. numbered xs m ≡ Some q) d.net there)) [
           | inl e ↦ (let own : key_asked r.op ≡ key = sym (ap (λ (x : RequestAt). key_asked x.op) e) ∙ is in

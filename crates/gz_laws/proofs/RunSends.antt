@@ -13,6 +13,7 @@ use Rattle.gz_core.specs.declared.requests.Out.{Out}
 use Rattle.gz_core.specs.declared.requests.Reply.{Reply}
 use Rattle.gz_round.specs.declared.hearing.Seen.{Seen}
 use Rattle.gz_core.specs.History.{Action, Sent, Handed, GaveUp, Rested, GaveIn, Caller, Trace, asked_of, sent_from, is_row_request}
+use Rattle.gz_core.specs.Rows.{IsRow}
 use Rattle.gz_round.specs.Sites.{site_now, seen_in, heard_in, written_by}
 use Rattle.gz_round.specs.Sending.{AreAllowed}
 use Rattle.gz_history.specs.declared.record.CallRec.{CallRec}
@@ -23,8 +24,9 @@ use Rattle.gz_ledger.specs.Transitions.{Store, Transition, after_transitions, Ar
 use Rattle.gz_laws.specs.Carried.{ActionsCarried}
 use Rattle.gz_laws.specs.Begun.{begins_of, sends_of, IsBegunIn}
 use Rattle.gz_laws.specs.Each.{EachTrace}
-use Rattle.gz_laws.specs.Heard.{unused, seen_entry, heard_of, SentStep, Keeps, AskedHere, CleanOp}
+use Rattle.gz_laws.specs.Heard.{unused, seen_entry, heard_of, SentStep, Keeps, AskedHere}
 use Rattle.gz_laws.specs.Runs.{key_asked, RequestStands, IsSentBy, IsRowIn, IsSince, IsRun}
+use Rattle.gz_laws.specs.Rows.{IfWritten}
 use Rattle.gz_world.specs.States.{RequestAt, State, numbered, sent_request}
 use Rattle.gz_world.specs.Steps.{SitesStay, CallEnds, answered}
 use Rattle.gz_laws.proofs.Growing.{OnlyAsks, only_itself, GoesOn, IsOwnVote, allowed_base, sends}
@@ -46,7 +48,7 @@ pub record IsOurs (key : List ℕ) (w : Caller) (ds : List Transition) (ms : Lis
 pub record HasSent (c : Config) (key : List ℕ) (w : Caller) (first : ℕ) (outs : List Out) (ms : List Action) (ds more : List Transition) : Type 0 where
   pub transitions : AreTransitions c unused more
   pub only : OnlyAsks (after_transitions unused ds) (after_transitions unused more)
-  pub here : (j : ℕ) (o : Out) → slice_get outs j ≡ Some o → key_asked o.op ≡ key → AskedHere w.name o.site o.op (after_transitions unused more) × CleanOp o.op
+  pub here : (j : ℕ) (o : Out) → slice_get outs j ≡ Some o → key_asked o.op ≡ key → AskedHere w.name o.site o.op (after_transitions unused more) × IfWritten IsRow o.op
   pub from : (q : Write) → IsIn q (sent_after unused more) → IsIn q (sent_after unused ds) ⊎ IsOurs key w ds (sent_from first outs ms) q
   pub others : (x : Name) → (w.name ≡ x → ⊥) → begins_of x more ≡ begins_of x ds
   pub own : key_of w.call ≡ key → begins_of w.name ds ≡ sends_of ms → begins_of w.name more ≡ sends_of (sent_from first outs ms)
@@ -62,7 +64,7 @@ sends_key c w past first (out ∷ outs) ms allowed zero o e =
 sends_key c w past first (out ∷ outs) ms allowed (suc j) o e = sends_key c w past (first + 1) outs (Sent (asked_of first out) ∷ ms) allowed j o e
 
 -- a request for a blob asks nothing of a store
-rows_alone : (st : Store) (name : Name) (site : ℕ) (op : Op) → (is_row_request op ≡ true → AskedHere name site op st × CleanOp op) → AskedHere name site op st × CleanOp op
+rows_alone : (st : Store) (name : Name) (site : ℕ) (op : Op) → (is_row_request op ≡ true → AskedHere name site op st × IfWritten IsRow op) → AskedHere name site op st × IfWritten IsRow op
 rows_alone st name site (WriteRow key expect step row) f = f refl
 rows_alone st name site op f = (tt, tt)
 
@@ -101,8 +103,8 @@ abbrev pub NetFrom : List RequestAt → List RequestAt → Name → ℕ → List
 NetFrom old new name tick outs =
     (m : ℕ) (q : RequestAt) → numbered new m ≡ Some q → ((k : ℕ) × ((r : RequestAt) × ((numbered old k ≡ Some r) × IsAlike r q))) ⊎ ((j : ℕ) × ((o : Out) × ((slice_get outs j ≡ Some o) × (sent_request name tick o ≡ q))))
 
-fresh_stands : (st : Store) (name : Name) (tick : ℕ) (o : Out) → AskedHere name o.site o.op st × CleanOp o.op → RequestStands st (sent_request name tick o)
-fresh_stands st name tick o h = record { asked = h.0; clean = h.1; replies = λ i t reply e. cc }
+fresh_stands : (st : Store) (name : Name) (tick : ℕ) (o : Out) → AskedHere name o.site o.op st × IfWritten IsRow o.op → RequestStands st (sent_request name tick o)
+fresh_stands st name tick o h = record { asked = h.0; rule = h.1; replies = λ i t reply e. cc }
 
 -- the run of an object when a call has sent its requests
 pub sent_run : (key : List ℕ) (old new : State) (ds more : List Transition) (w : Caller) (first tick : ℕ) (outs : List Out) (ms : List Action) → new.cfg ≡ old.cfg → SitesStay old new → NetFrom old.net new.net w.name tick outs → HasSent old.cfg key w first outs ms ds more
@@ -114,7 +116,7 @@ sent_run key old new ds more w first tick outs ms cfg stay net has sent begun ca
       transitions = subst (λ c. AreTransitions c unused more) (sym cfg) has.transitions;
       sites = λ i told is.
           let s = run.sites i told (sym (stay.sites i) ∙ is) in
-          record { stored = only.stored i ∙ s.stored; used = only.used i ∙ s.used; clean = s.clean };
+          record { stored = only.stored i ∙ s.stored; used = only.used i ∙ s.used; rule = s.rule };
       requests = λ m q there is. elim (net m q there) [
         | inl k ↦ (let same = k.1.1.1 in
             alike_stands (after_transitions unused more) k.1.0 q same

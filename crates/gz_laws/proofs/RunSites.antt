@@ -2,7 +2,7 @@
 use Rattle.std.proofs.Common.{◌≡◌, ◌≢◌, ℕ, ◌<◌, inl, inr, List, [], ◌∷◌, ◌++◌, Some, None, false, cond, refl, ap, sym, ◌∙◌, subst, arith}
 use Rattle.std.specs.Prelude.{Option, ◌==◌, ◌&&◌, ◌||◌}
 use Rattle.gz_core.specs.Names.{Name, BallotAt}
-use Rattle.gz_core.specs.Rows.{RowAt, empty_row}
+use Rattle.gz_core.specs.Rows.{RowAt, IsRow}
 use Rattle.gz_core.specs.Slots.{slots}
 use Rattle.gz_config.specs.declared.Config.{Config}
 use Rattle.gz_core.specs.declared.requests.RowStep.{RowStep}
@@ -21,13 +21,15 @@ use Rattle.gz_ledger.specs.Transitions.{Store, Stored, Answered, WriteSent, Tran
 use Rattle.gz_ledger.specs.Transitions.{Written as WrittenBy, Failed as FailedBy}
 use Rattle.gz_ledger.proofs.Tags.{site_same, site_other}
 use Rattle.gz_laws.specs.Begun.{begins_of}
-use Rattle.gz_laws.specs.Heard.{unused, IsClean, SeenStands, IsAskedOf, AskedHere, CleanOp}
-use Rattle.gz_laws.specs.Runs.{stored_of, IsCleanStored, SiteStands, key_asked, IsRowIn}
+use Rattle.gz_laws.specs.Heard.{unused, SeenStands, IsAskedOf, AskedHere}
+use Rattle.gz_laws.specs.Runs.{stored_of, SiteStands, key_asked, IsRowIn}
+use Rattle.gz_laws.specs.Rows.{IfKept, IfWritten}
 use Rattle.gz_world.specs.Steps.{Answers, casts_in}
 use Rattle.gz_laws.proofs.BlobSteps.{IsSameRows, blob_leaves, blob_unseen}
 use Rattle.gz_laws.proofs.CastRuns.{and_false, row_casts, other_casts}
 use Rattle.gz_laws.proofs.Growing.{GoesOn}
 use Rattle.gz_laws.proofs.Keys.{same_key-refl, key_cases}
+use Rattle.gz_laws.proofs.RowRules.{blank_rule}
 
 -- transitions at sites go on from any earlier ones
 abbrev pub GoAlong : Config → List Transition → List Transition → (List RowSeen → Type 0) → Type 0
@@ -63,9 +65,6 @@ idle c key ds site op reply told are here seen rows none = record {
   along = λ call early late split current. (record { later = late; split = split; current = current; rows = λ e h. h }, rows (late_rows unused late early));
 }
 
-blank_clean : IsClean empty_row
-blank_clean = record { floor = refl; rises = tt }
-
 -- a read shows what the site keeps
 read_done : (c : Config) (key : List ℕ) (ds : List Transition) (site : ℕ) (op : Op) (reply : Reply) (told : Told) (o : Option Stored) → AreTransitions c unused ds → SiteStands key told (after_transitions unused ds) site → (after_transitions unused ds).stored site ≡ o
     → ((st : Store) → (let r : Answered = record { site = site; etag = stored_etag o; row = acceptor_of o } in IsIn r st.replies) → SeenStands st site (seen_in (written_by op) reply))
@@ -73,7 +72,7 @@ read_done : (c : Config) (key : List ℕ) (ds : List Transition) (site : ℕ) (o
     → ((v : ℕ) (b : BallotAt) (x : Name) (i : ℕ) → has_cast (casts_in site op reply) key v b x i ≡ ((site == i) && slot_votes (acceptor_of o v) b x)) → IsDone c key ds (Reads site ∷ ds) site op reply told
 read_done c key ds site op reply told o are here is seen rows votes = record {
   transitions = (are, tt);
-  here = record { stored = here.stored; used = here.used; clean = here.clean };
+  here = record { stored = here.stored; used = here.used; rule = here.rule };
   stored = λ i apart. refl;
   used = λ i apart. refl;
   replies = λ r h. inr h;
@@ -92,8 +91,8 @@ read_done c key ds site op reply told o are here is seen rows votes = record {
 stored_same : (key : List ℕ) (told : Told) (st : Store) (site : ℕ) (kept : Option (ℕ × RowAt)) → SiteStands key told st site → told.rows key ≡ kept → st.stored site ≡ stored_of kept
 stored_same key told st site kept here is = here.stored ∙ ap stored_of is
 
-clean_kept : (key : List ℕ) (told : Told) (st : Store) (site : ℕ) (kept : Option (ℕ × RowAt)) → SiteStands key told st site → told.rows key ≡ kept → IsCleanStored kept
-clean_kept key told st site kept here is = subst IsCleanStored is here.clean
+rule_kept : (key : List ℕ) (told : Told) (st : Store) (site : ℕ) (kept : Option (ℕ × RowAt)) → SiteStands key told st site → told.rows key ≡ kept → IfKept IsRow kept
+rule_kept key told st site kept here is = subst (IfKept IsRow) is here.rule
 
 -- the tag of the row that is kept
 etag_same : (kept : Option (ℕ × RowAt)) → stored_etag (stored_of kept) ≡ etag_of kept
@@ -101,14 +100,14 @@ etag_same None = refl
 etag_same (Some k) = refl
 
 -- the object's row after a write of the object
-written_stands : (key k : List ℕ) (site etag : ℕ) (row : RowAt) (before after : Told) (st : Store) → k ≡ key → RowStored before k etag row after → IsClean row
+written_stands : (key k : List ℕ) (site etag : ℕ) (row : RowAt) (before after : Told) (st : Store) → k ≡ key → RowStored before k etag row after → IsRow row
     → st.stored site ≡ Some (record { etag = etag; row = slots row }) → st.used site ≡ etag → SiteStands key after st site
-written_stands key k site etag row before after st same done clean stored used =
+written_stands key k site etag row before after st same done rule stored used =
     let is : after.rows key ≡ Some (etag, row) = done.rows key ∙ ap (λ b. cond b (Some (etag, row)) (before.rows key)) (ap (λ q. same_key q key) same ∙ same_key-refl key) in
     record {
       stored = stored ∙ sym (ap stored_of is);
       used = used ∙ sym done.top;
-      clean = subst IsCleanStored (sym is) clean;
+      rule = subst (IfKept IsRow) (sym is) rule;
     }
 
 -- the write of a request, as it was asked
@@ -136,16 +135,16 @@ used_here : (ds : List Transition) (qa : WriteSent) (site etag : ℕ) → qa.wri
 used_here ds qa site etag at = site_same (after_transitions unused ds).used qa.write.site site etag (sym at)
 
 -- a write took effect, and its reply was lost
-failed_done : (c : Config) (key k : List ℕ) (ds : List Transition) (qa : WriteSent) (site etag : ℕ) (name : Name) (expect : Option ℕ) (step : RowStep) (row : RowAt) (before after : Told) → AreTransitions c unused ds → SiteStands key before (after_transitions unused ds) site → IsClean row
+failed_done : (c : Config) (key k : List ℕ) (ds : List Transition) (qa : WriteSent) (site etag : ℕ) (name : Name) (expect : Option ℕ) (step : RowStep) (row : RowAt) (before after : Told) → AreTransitions c unused ds → SiteStands key before (after_transitions unused ds) site → IsRow row
     → IsAskedOf name site (WriteRow k expect step row) qa → IsIn qa (after_transitions unused ds).asked → k ≡ key → etag_of (before.rows k) ≡ expect → RowStored before k etag row after
     → IsDone c key ds (FailedBy qa etag ∷ ds) site (WriteRow k expect step row) Failed after
-failed_done c key k ds qa site etag name expect step row before after are here clean is asked same tag done =
+failed_done c key k ds qa site etag name expect step row before after are here rule is asked same tag done =
     let tagged : etag_of (before.rows key) ≡ expect = sym (ap (λ q. etag_of (before.rows q)) same) ∙ tag in
     let w = write_of name site k expect step row qa is in
     let at = w.1.0 in
     record {
       transitions = (are, can_write key ds qa site etag expect row before asked w.0 at here tagged done.above);
-      here = written_stands key k site etag row before after (after_transitions unused (FailedBy qa etag ∷ ds)) same done clean (kept_here ds qa site etag row at w.1.1) (used_here ds qa site etag at);
+      here = written_stands key k site etag row before after (after_transitions unused (FailedBy qa etag ∷ ds)) same done rule (kept_here ds qa site etag row at w.1.1) (used_here ds qa site etag at);
       stored = λ i apart. site_other (after_transitions unused ds).stored qa.write.site i (Some (record { etag = etag; row = qa.write.after })) (λ e. apart (e ∙ at));
       used = λ i apart. site_other (after_transitions unused ds).used qa.write.site i etag (λ e. apart (e ∙ at));
       replies = λ r h. h;
@@ -157,24 +156,24 @@ failed_done c key k ds qa site etag name expect step row before after are here c
     }
 
 -- a write took effect, and its reply shows the row that it made
-written_done : (c : Config) (key k : List ℕ) (ds : List Transition) (qa : WriteSent) (site etag : ℕ) (name : Name) (expect : Option ℕ) (step : RowStep) (row : RowAt) (before after : Told) → AreTransitions c unused ds → SiteStands key before (after_transitions unused ds) site → IsClean row
+written_done : (c : Config) (key k : List ℕ) (ds : List Transition) (qa : WriteSent) (site etag : ℕ) (name : Name) (expect : Option ℕ) (step : RowStep) (row : RowAt) (before after : Told) → AreTransitions c unused ds → SiteStands key before (after_transitions unused ds) site → IsRow row
     → IsAskedOf name site (WriteRow k expect step row) qa → IsIn qa (after_transitions unused ds).asked → k ≡ key → etag_of (before.rows k) ≡ expect → RowStored before k etag row after
     → IsDone c key ds (WrittenBy qa etag ∷ ds) site (WriteRow k expect step row) (Written etag) after
-written_done c key k ds qa site etag name expect step row before after are here clean is asked same tag done =
+written_done c key k ds qa site etag name expect step row before after are here rule is asked same tag done =
     let tagged : etag_of (before.rows key) ≡ expect = sym (ap (λ q. etag_of (before.rows q)) same) ∙ tag in
     let w = write_of name site k expect step row qa is in
     let at = w.1.0 in
     record {
       transitions = (are, can_write key ds qa site etag expect row before asked w.0 at here tagged done.above);
-      here = written_stands key k site etag row before after (after_transitions unused (WrittenBy qa etag ∷ ds)) same done clean (kept_here ds qa site etag row at w.1.1) (used_here ds qa site etag at);
+      here = written_stands key k site etag row before after (after_transitions unused (WrittenBy qa etag ∷ ds)) same done rule (kept_here ds qa site etag row at w.1.1) (used_here ds qa site etag at);
       stored = λ i apart. site_other (after_transitions unused ds).stored qa.write.site i (Some (record { etag = etag; row = qa.write.after })) (λ e. apart (e ∙ at));
       used = λ i apart. site_other (after_transitions unused ds).used qa.write.site i etag (λ e. apart (e ∙ at));
       replies = λ r h. inr h;
       asked = refl;
-      seen = λ _. (clean, inl (λ i. record { site = sym at i; etag = Some etag; row = sym w.1.1 i }));
+      seen = λ _. (rule, inl (λ i. record { site = sym at i; etag = Some etag; row = sym w.1.1 i }));
       casts = λ v b x i.
           ap (λ s. ((s == i) && slot_votes (qa.write.after v) b x) || cast (seen_after unused ds) v b x i) at ∙ ap (λ (a : Acceptor). ((site == i) && slot_votes (a v) b x) || cast (seen_after unused ds) v b x i) w.1.1
-          ∙ ap (λ t. t || cast (seen_after unused ds) v b x i) (sym (row_casts site k key row v b x i same clean));
+          ∙ ap (λ t. t || cast (seen_after unused ds) v b x i) (sym (row_casts site k key row v b x i same rule));
       begun = λ name. refl;
       along = λ call early late split current. (
         record { later = WrittenBy qa etag ∷ late; split = ap (λ (ks : List Transition). WrittenBy qa etag ∷ ks) split; current = (current, tt); rows = λ e h. inr h },
@@ -194,7 +193,7 @@ elsewhere_done c key other ds site etag op reply row before after are here apart
       here = record {
         stored = here.stored ∙ sym (ap stored_of is);
         used = site_same (after_transitions unused ds).used site site etag refl ∙ sym done.top;
-        clean = subst IsCleanStored (sym is) here.clean;
+        rule = subst (IfKept IsRow) (sym is) here.rule;
       };
       stored = λ i apart. refl;
       used = λ i apart. site_other (after_transitions unused ds).used site i etag apart;
@@ -213,24 +212,24 @@ at_key key k told kept same is = ap told.rows (sym same) ∙ is
 read_at : (c : Config) (key k : List ℕ) (ds : List Transition) (site : ℕ) (reply : Reply) (before after : Told) → AreTransitions c unused ds → SiteStands key before (after_transitions unused ds) site → k ≡ key → Answers before (ReadRow k) reply after → (more : List Transition) × IsDone c key ds more site (ReadRow k) reply after
 read_at c key k ds site (Row etag row) before after are here same ans =
     let is = at_key key k before (Some (etag, row)) same ans.0 in
-    let clean = clean_kept key before (after_transitions unused ds) site (Some (etag, row)) here is in (
+    let rule = rule_kept key before (after_transitions unused ds) site (Some (etag, row)) here is in (
       Reads site ∷ ds,
       read_done c key ds site (ReadRow k) (Row etag row) after (stored_of (Some (etag, row))) are (subst (λ t. SiteStands key t (after_transitions unused ds) site) (sym ans.1) here)
           (stored_same key before (after_transitions unused ds) site (Some (etag, row)) here is)
-          (λ st i. (clean, i)) (λ rows i. i) (λ v b x i. row_casts site k key row v b x i same clean),
+          (λ st i. (rule, i)) (λ rows i. i) (λ v b x i. row_casts site k key row v b x i same rule),
     )
 read_at c key k ds site NoRow before after are here same ans =
     let is = at_key key k before None same ans.0 in (
       Reads site ∷ ds,
       read_done c key ds site (ReadRow k) NoRow after (stored_of None) are (subst (λ t. SiteStands key t (after_transitions unused ds) site) (sym ans.1) here)
-          (stored_same key before (after_transitions unused ds) site None here is) (λ st i. (blank_clean, i)) (λ rows i. i) (λ v b x i. sym (and_false (site == i))),
+          (stored_same key before (after_transitions unused ds) site None here is) (λ st i. (blank_rule, i)) (λ rows i. i) (λ v b x i. sym (and_false (site == i))),
     )
 read_at c key k ds site Failed before after are here same ans = (ds, idle c key ds site (ReadRow k) Failed after are (subst (λ t. SiteStands key t (after_transitions unused ds) site) (sym ans) here) (λ _. tt) (λ rows _. tt) (λ v b x i. refl))
 read_at c key k ds site reply before after are here same ans = absurd ans
 
 -- a write of the object
 write_at : (c : Config) (key k : List ℕ) (ds : List Transition) (site : ℕ) (name : Name) (expect : Option ℕ) (step : RowStep) (row : RowAt) (reply : Reply) (before after : Told) → AreTransitions c unused ds → SiteStands key before (after_transitions unused ds) site → k ≡ key
-    → AskedHere name site (WriteRow k expect step row) (after_transitions unused ds) × IsClean row → Answers before (WriteRow k expect step row) reply after → (more : List Transition) × IsDone c key ds more site (WriteRow k expect step row) reply after
+    → AskedHere name site (WriteRow k expect step row) (after_transitions unused ds) × IsRow row → Answers before (WriteRow k expect step row) reply after → (more : List Transition) × IsDone c key ds more site (WriteRow k expect step row) reply after
 write_at c key k ds site name expect step row (Written etag) before after are here same asked ans =
     let q = asked.0 in
     (WrittenBy q.0 etag ∷ ds, written_done c key k ds q.0 site etag name expect step row before after are here asked.1 q.1.0 q.1.1 same ans.0 ans.1)
@@ -266,7 +265,7 @@ write_other c key k ds site expect step row reply before after are here none apa
 rows_stand : (key : List ℕ) (before after : Told) (st : Store) (site : ℕ) → IsSameRows before after → SiteStands key before st site → SiteStands key after st site
 rows_stand key before after st site same here =
     let kept : after.rows key ≡ before.rows key = ap (λ (rows : List ℕ → Option (ℕ × RowAt)). rows key) same.rows in
-    record { stored = here.stored ∙ sym (ap stored_of kept); used = here.used ∙ sym same.top; clean = subst IsCleanStored (sym kept) here.clean }
+    record { stored = here.stored ∙ sym (ap stored_of kept); used = here.used ∙ sym same.top; rule = subst (IfKept IsRow) (sym kept) here.rule }
 
 blob_done : (c : Config) (key : List ℕ) (ds : List Transition) (site : ℕ) (op : Op) (reply : Reply) (before after : Told) → AreTransitions c unused ds → SiteStands key before (after_transitions unused ds) site → is_row_request op ≡ false → casts_in site op reply ≡ [] → Answers before op reply after
     → IsDone c key ds ds site op reply after
@@ -277,7 +276,7 @@ blob_done c key ds site op reply before after are here blob none ans =
 
 -- what a site does at a request
 pub site_done : (c : Config) (key : List ℕ) (ds : List Transition) (site : ℕ) (name : Name) (op : Op) (reply : Reply) (before after : Told) → AreTransitions c unused ds → SiteStands key before (after_transitions unused ds) site
-    → (key_asked op ≡ key → AskedHere name site op (after_transitions unused ds) × CleanOp op) → Answers before op reply after → (more : List Transition) × IsDone c key ds more site op reply after
+    → (key_asked op ≡ key → AskedHere name site op (after_transitions unused ds) × IfWritten IsRow op) → Answers before op reply after → (more : List Transition) × IsDone c key ds more site op reply after
 site_done c key ds site name (ReadRow k) reply before after are here asked ans = elim (key_cases k key) [
   | inl same ↦ read_at c key k ds site reply before after are here same ans
   | inr apart ↦ read_other c key k ds site reply before after are here apart.0 apart.1 ans

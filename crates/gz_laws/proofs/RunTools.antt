@@ -9,6 +9,7 @@ use Rattle.gz_core.specs.declared.requests.Op.{Op}
 use Rattle.gz_core.specs.declared.requests.Op.TheVariants.{WriteRow}
 use Rattle.gz_core.specs.declared.requests.Out.{Out}
 use Rattle.gz_core.specs.declared.requests.Reply.{Reply}
+use Rattle.gz_core.specs.Rows.{IsRow}
 use Rattle.gz_round.specs.declared.hearing.Seen.{Seen}
 use Rattle.gz_round.specs.Sites.{seen_in, written_by}
 use Rattle.gz_history.specs.Answers.{shows}
@@ -16,8 +17,9 @@ use Rattle.gz_history.specs.Legal.{IsBefore}
 use Rattle.gz_history.specs.declared.record.CallRec.{CallRec}
 use Rattle.gz_ledger.specs.Histories.{RowSeen, IsIn}
 use Rattle.gz_ledger.specs.Transitions.{Store, Answered, WriteSent, Transition, late_rows, AreCurrentTransitions}
-use Rattle.gz_laws.specs.Heard.{unused, SeenStands, AskedHere, CleanOp}
+use Rattle.gz_laws.specs.Heard.{unused, SeenStands, AskedHere}
 use Rattle.gz_laws.specs.Runs.{key_asked, RequestStands, IsShownAt, IsRowIn, IsSince}
+use Rattle.gz_laws.specs.Rows.{IfWritten}
 use Rattle.gz_world.specs.States.{RequestAt, State, numbered, sent_request, sent_requests}
 use Rattle.gz_laws.proofs.Growing.{GoesOn}
 use Rattle.gz_laws.proofs.Hearing.{seen_more}
@@ -32,7 +34,7 @@ asked_more st su name site op f h = tt
 pub request_more : (st su : Store) (r : RequestAt) → ((a : Answered) → IsIn a st.replies → IsIn a su.replies) → ((q : WriteSent) → IsIn q st.asked → IsIn q su.asked) → RequestStands st r → RequestStands su r
 request_more st su r f g h = record {
   asked = asked_more st su r.name r.site r.op g h.asked;
-  clean = h.clean;
+  rule = h.rule;
   replies = λ i tick reply e. seen_more st su r.site (seen_in (written_by r.op) reply) f (h.replies i tick reply e);
 }
 
@@ -53,7 +55,7 @@ alike_itself r = record { name = refl; site = refl; op = refl; replies = refl }
 pub alike_stands : (st : Store) (r q : RequestAt) → IsAlike r q → RequestStands st r → RequestStands st q
 alike_stands st r q same h = record {
   asked = subst (λ (o : Op). AskedHere q.name q.site o st) (sym same.op) (subst (λ (s : ℕ). AskedHere q.name s r.op st) (sym same.site) (subst (λ (x : Name). AskedHere x r.site r.op st) (sym same.name) h.asked));
-  clean = subst CleanOp (sym same.op) h.clean;
+  rule = subst (IfWritten IsRow) (sym same.op) h.rule;
   replies = λ i tick reply e.
       subst (λ (o : Op). SeenStands st q.site (seen_in (written_by o) reply)) (sym same.op)
       (subst (λ (s : ℕ). SeenStands st s (seen_in (written_by r.op) reply)) (sym same.site)

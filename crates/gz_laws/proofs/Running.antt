@@ -8,6 +8,7 @@ use Rattle.gz_core.specs.Awaiting.{awaiting}
 use Rattle.gz_config.specs.declared.Config.{Config}
 use Rattle.gz_core.specs.declared.requests.Reply.{Reply}
 use Rattle.gz_core.specs.History.{Asked, Action, GaveUp, is_row_request}
+use Rattle.gz_core.specs.Rows.{IsRow}
 use Rattle.gz_round.specs.Sites.{site_now, as_heard, written_by}
 use Rattle.gz_client.specs.Traces.{AllKeepRules, Awaits}
 use Rattle.gz_site.specs.Told.{Told, Tells, IsEmpty}
@@ -24,7 +25,8 @@ use Rattle.gz_laws.specs.Listed.{AreCallsListed}
 use Rattle.gz_laws.specs.Placed.{ArePlaced}
 use Rattle.gz_world.specs.Reached.{IsOpening, IsReached, opened, stepped, AllTell}
 use Rattle.gz_world.specs.Refusals.{refusal_of}
-use Rattle.gz_laws.specs.Runs.{stored_of, IsCleanStored, IsSentBy, IsRun}
+use Rattle.gz_laws.specs.Runs.{stored_of, IsSentBy, IsRun}
+use Rattle.gz_laws.specs.Rows.{IfKept}
 use Rattle.gz_world.specs.States.{RequestAt, State, tick_of, numbered, with_handed, with_given_up}
 use Rattle.gz_world.specs.Steps.{Answers, DeliversBy, SitesStay, TurnBy, TakesTurn, hears, HasEffect, Does, Skips, WorldStep}
 use Rattle.gz_laws.proofs.Carrying.{carried, awaits_carried}
@@ -178,7 +180,7 @@ opening_run key s o = record {
   transitions = tt;
   sites = λ i told is.
       let empty = empty_site key (s.sites i) told (o.sites i) is in
-      record { stored = sym (ap stored_of (empty.rows key)); used = sym empty.top; clean = subst IsCleanStored (sym (empty.rows key)) tt };
+      record { stored = sym (ap stored_of (empty.rows key)); used = sym empty.top; rule = subst (IfKept IsRow) (sym (empty.rows key)) tt };
   requests = λ n r there is. let bad : numbered [] n ≡ Some r = subst (λ xs. numbered xs n ≡ Some r) o.net there in let k = (numbered_place [] n r bad).1 in cc;
   casts = λ v b x i. ap (λ cs. has_cast cs key v b x i) o.casts;
   sent = λ q i. absurd i;

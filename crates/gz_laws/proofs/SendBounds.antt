@@ -24,10 +24,11 @@ use Rattle.gz_round.specs.Sending.{AreAllowed, IsAllowed, MaySend, MayAsk, MayMa
 use Rattle.gz_round.specs.Sent.{of_step, passes_sent, promise_by, has_promised_at, round_after, top_round, is_notice}
 use Rattle.gz_round.specs.Sites.{SiteNow, site_now, after_sent, is_to}
 use Rattle.gz_round.proofs.LookBacks.{last_promised_at}
-use Rattle.gz_laws.specs.Bounded.{IsColumnWithin, AreColumnsWithin, IsRowWithin, IfWritten}
-use Rattle.gz_laws.proofs.Growing.{allowed_base, clean_made}
+use Rattle.gz_laws.specs.Bounded.{IsColumnWithin, AreColumnsWithin, IsRowWithin}
+use Rattle.gz_laws.specs.Rows.{IfWritten}
+use Rattle.gz_laws.proofs.Growing.{allowed_base, row_made}
 use Rattle.gz_round.proofs.Actions.{is_to_same}
-use Rattle.gz_laws.proofs.RowBounds.{row_wider, columns_with, greatest_within}
+use Rattle.gz_laws.proofs.RowBounds.{row_wider, columns_with, columns_left, greatest_within}
 use Rattle.gz_laws.proofs.Bounding.{AreHeardWithin, last_within, shown_within, next_within, grounded_within, known_within, promised_low}
 
 -- what a call knows and has promised: the rows that it heard are within these bounds, its session's rounds within `used`
@@ -76,12 +77,15 @@ made_columns versions rounds used next c w past ms (Decide v x) before k le more
     let a = k.above in
     let version = (shown_within versions rounds c ms v (name_of x) k.sizes k.heard may.0).below in
     column_made versions rounds next v (Decided x) before h (omega (arith, a, le)) (omega (arith, version)) tt
-made_columns versions rounds used next c w past ms (Trim to x) before k le more may h = absurd may
+made_columns versions rounds used next c w past ms (Trim to x) before k le more may h =
+    let a = k.above in
+    let version = (shown_within versions rounds c ms (to + 1) (name_of x) k.sizes k.heard may.next).below in
+    columns_left (versions + 1) next to (with_column (to + 1) (Decided x) before.columns) (column_made versions rounds next (to + 1) (Decided x) before h (omega (arith, a, le)) (omega (arith, version)) tt)
 
 made_within : (versions rounds used next : ℕ) (c : Config) (w : Caller) (past : List Trace) (ms : List Action) (step : RowStep) (before row : RowAt) → IsCallWithin versions rounds used c past ms → used ≤ next → (is_notice step ≡ false → used + 1 ≤ next)
     → MayMake c w past ms step → IsMade step before row → IsRowWithin versions rounds before → IsRowWithin (versions + 1) next row
 made_within versions rounds used next c w past ms step before row k le more may m h = record {
-  clean = clean_made c w past ms step before row (λ v x shown. (shown_within versions rounds c ms v x k.sizes k.heard shown).above) may m h.clean;
+  rule = row_made c w past ms step before row (λ v x shown. (shown_within versions rounds c ms v x k.sizes k.heard shown).above) may m h.rule;
   columns = subst (λ (r : RowAt). AreColumnsWithin (versions + 1) next r.columns) (sym m.1) (made_columns versions rounds used next c w past ms step before k le more may h);
 }
 
@@ -98,7 +102,7 @@ step_round versions rounds used next c w past ms (FastVote v x) k le more may = 
 step_round versions rounds used next c w past ms (Promise v b) k le more may = let n = k.now in let r = promise_next versions rounds used c w past ms v b k may in let up = more refl in omega (arith, n, r, up, le)
 step_round versions rounds used next c w past ms (ClassicVote v b x) k le more may = let n = k.now in omega (arith, n, le)
 step_round versions rounds used next c w past ms (Decide v x) k le more may = let n = k.now in omega (arith, n, le)
-step_round versions rounds used next c w past ms (Trim to x) k le more may = absurd may
+step_round versions rounds used next c w past ms (Trim to x) k le more may = let n = k.now in omega (arith, n, le)
 
 asks_round : (versions rounds used next : ℕ) (c : Config) (w : Caller) (past : List Trace) (ms : List Action) (now : SiteNow) (op : Op) → IsCallWithin versions rounds used c past ms → used ≤ next → (is_awaited op ≡ true → used + 1 ≤ next) → MayAsk c w past ms now op → round_after (of_step promise_by op) (top_round ms) ≤ next
 asks_round versions rounds used next c w past ms now (WriteRow key expect step row) k le more may = step_round versions rounds used next c w past ms step k le (λ e. more (ap not e)) may.1.guard

@@ -1,8 +1,8 @@
 -- What a client may send, by what its call heard, the machine of agreement may do.
-use Rattle.std.proofs.Common.{◌≡◌, ℕ, inl, inr, List, [], ◌∷◌, Some, None, true, refl, ap, sym, ◌∙◌, subst}
+use Rattle.std.proofs.Common.{◌≡◌, ℕ, ◌≤◌, ◌⊎◌, inl, inr, List, [], ◌∷◌, Some, None, Bool, true, false, refl, ap, sym, ◌∙◌, subst}
 use Rattle.gz_core.proofs.Ballots.{name_refl}
 use Rattle.std.proofs.lemmas.Bool.{eq-eqb, or_left, or_right}
-use Rattle.std.specs.Prelude.{◌==◌, if◌then◌else◌}
+use Rattle.std.specs.Prelude.{Option, ◌==◌, if◌then◌else◌}
 use Rattle.gz_core.specs.Names.{Name, same_name}
 use Rattle.gz_core.specs.Values.{name_of}
 use Rattle.gz_core.specs.Rows.{RowAt}
@@ -14,10 +14,11 @@ use Rattle.gz_core.specs.declared.requests.Op.{Op}
 use Rattle.gz_core.specs.declared.requests.Op.TheVariants.{WriteRow}
 use Rattle.gz_accept.specs.Steps.{fast_voted, promised, classic_voted, decided, trimmed_to}
 use Rattle.gz_accept.proofs.Making.{makes_fast, makes_promise, makes_classic, makes_decision, makes_trim, made}
-use Rattle.gz_core.specs.History.{Action, Sent, Handed, GaveUp, Rested, GaveIn, Caller, Trace}
-use Rattle.gz_round.specs.Sent.{vote_by, of_step, passes_sent, voted_at}
+use Rattle.gz_core.specs.History.{Action, Sent, Handed, GaveUp, Rested, GaveIn, Caller, Trace, is_row_request}
+use Rattle.gz_round.specs.Sent.{vote_by, of_step, or_earlier, passes_sent, voted_at, last_vote}
 use Rattle.gz_round.specs.Shown.{IsClear}
-use Rattle.gz_round.specs.Sending.{IsMade}
+use Rattle.gz_round.specs.Sending.{AreAllowed, MayAsk, MayMake, IsMade}
+use Rattle.gz_round.specs.Sites.{SiteNow, site_now}
 use Rattle.gz_ledger.specs.Histories.{VotesFor}
 use Rattle.gz_ledger.specs.Guards.{IsClearByRows}
 use Rattle.gz_ledger.specs.Transitions.{Store, writes_of}
@@ -65,6 +66,37 @@ sent_votes (Rested ∷ ms) act u x (inl h) votes = absurd h
 sent_votes (Rested ∷ ms) act u x (inr h) votes = sent_votes ms act u x h votes
 sent_votes (GaveIn ∷ ms) act u x (inl h) votes = absurd h
 sent_votes (GaveIn ∷ ms) act u x (inr h) votes = sent_votes ms act u x h votes
+
+-- a call votes at versions from 1 on
+where_named : (b : Bool) (u v : ℕ) → (if b then Some u else None) ≡ Some v → u ≡ v
+where_named true u v e = cc
+where_named false u v e = cc
+
+step_above : (c : Config) (w : Caller) (past : List Trace) (ms : List Action) (step : RowStep) (x : Name) (v : ℕ) → MayMake c w past ms step → vote_by x step ≡ Some v → 1 ≤ v
+step_above c w past ms (FastVote u value) x v may e = subst (λ k. 1 ≤ k) (where_named (same_name (name_of value) x) u v e) may.1.above
+step_above c w past ms (Promise u b) x v may e = cc
+step_above c w past ms (ClassicVote u b value) x v may e = subst (λ k. 1 ≤ k) (where_named (same_name (name_of value) x) u v e) may.above
+step_above c w past ms (Decide u value) x v may e = cc
+step_above c w past ms (Trim to value) x v may e = cc
+
+op_above : (c : Config) (w : Caller) (past : List Trace) (ms : List Action) (now : SiteNow) (op : Op) (x : Name) (v : ℕ) → (is_row_request op ≡ true → MayAsk c w past ms now op) → of_step (vote_by x) op ≡ Some v → 1 ≤ v
+op_above c w past ms now (WriteRow key expect step row) x v may e = step_above c w past ms step x v (may refl).1.guard e
+op_above c w past ms now op x v may e = cc
+
+sooner_or_later : (o earlier : Option ℕ) (v : ℕ) → or_earlier o earlier ≡ Some v → (o ≡ Some v) ⊎ (earlier ≡ Some v)
+sooner_or_later None earlier v e = inr e
+sooner_or_later (Some u) earlier v e = inl e
+
+pub last_vote_above : (c : Config) (w : Caller) (past : List Trace) (ms : List Action) (x : Name) (v : ℕ) → AreAllowed c w past ms → last_vote x ms ≡ Some v → 1 ≤ v
+last_vote_above c w past [] x v allowed e = cc
+last_vote_above c w past (Sent a ∷ ms) x v allowed e = elim (sooner_or_later (of_step (vote_by x) a.op) (last_vote x ms) v e) [
+  | inl now ↦ op_above c w past ms (site_now ms a.site) a.op x v (λ row. (allowed.0 row).asks) now
+  | inr before ↦ last_vote_above c w past ms x v allowed.1 before
+]
+last_vote_above c w past (Handed a reply ∷ ms) x v allowed e = last_vote_above c w past ms x v allowed.1 e
+last_vote_above c w past (GaveUp a ∷ ms) x v allowed e = last_vote_above c w past ms x v allowed.1 e
+last_vote_above c w past (Rested ∷ ms) x v allowed e = last_vote_above c w past ms x v allowed.1 e
+last_vote_above c w past (GaveIn ∷ ms) x v allowed e = last_vote_above c w past ms x v allowed.1 e
 
 -- a call that is clear at a version is so by what it heard
 pub clear_heard : (c : Config) (w : Caller) (past : List Trace) (ms : List Action) (st : Store) (v : ℕ) → Keeps c w past ms st → IsClear c w.name ms v → IsClearByRows c (heard_of ms) (writes_of st.asked) w.name v

@@ -1,10 +1,8 @@
 -- The order of the calls of an object: which calls stand in it, each once, and in which order.
 use Rattle.std.proofs.Common.{◌≡◌, ℕ, zero, suc, ◌<◌, ◌≤◌, ◌⊎◌, inl, inr, List, [], ◌∷◌, ◌++◌, Some, None, true, length, refl, ap, sym, ◌∙◌, subst, arith}
 use Rattle.std.proofs.Math.Numerals.{lt_of_le_of_ne}
-use Rattle.std.proofs.lemmas.Bool.{cases_eq, and_parts, and_from, eqb-true, eq-eqb}
-use Rattle.std.proofs.Common.{rules}
-use Rattle.std.specs.Prelude.{Option, ◌&&◌, is_some, option_map, slice_get}
-use Rattle.std.specs.Cmp.Lexicographic.{same_text}
+use Rattle.std.proofs.lemmas.Bool.{cases_eq, cases_lt, and_parts, and_from, eqb-true, eq-eqb}
+use Rattle.std.specs.Prelude.{Option, ◌&&◌, max, is_some, slice_get}
 use Rattle.std.specs.List.{filter}
 use Rattle.gz_core.specs.Calls.{key_of}
 use Rattle.gz_core.specs.Configurations.{IsConfig}
@@ -13,15 +11,17 @@ use Rattle.gz_core.specs.declared.calls.Answer.{Answer}
 use Rattle.gz_core.specs.declared.calls.Answer.TheVariants.{Ok as Placed, Thin, Short, Bytes, Incomplete, Gone, Absent, Unborn, Collected, Swept, Held, NoQuorum, Contended, Unsure}
 use Rattle.gz_core.specs.declared.calls.Call.{Call}
 use Rattle.gz_core.specs.declared.calls.Call.TheVariants.{Put, Delete, Get, GetAt, Collect}
-use Rattle.gz_history.specs.Answers.{shows, stands, names, read_from, bytes_read, bytes_written, IsWrite, Writes, MayTakeEffect}
+use Rattle.gz_history.specs.Answers.{shows, stands, names, read_from, bytes_read, bytes_written, IsWrite, Writes, MayTakeEffect, AnswersAsked}
 use Rattle.gz_history.specs.Legal.{IsBefore}
 use Rattle.gz_history.specs.Serial.{is_about}
 use Rattle.gz_history.specs.declared.record.CallRec.{CallRec}
 use Rattle.gz_ledger.specs.Histories.{IsIn}
 use Rattle.gz_model.specs.Casts.{IsChosen}
 use Rattle.gz_world.specs.States.{State}
-use Rattle.gz_laws.specs.Serial.{chosen_at, place_of, is_read, is_number, is_read_at, named, reads_at, write_at, order_of, top_of, IsOf, StandsBefore, placed_at, shown_before}
+use Rattle.gz_laws.specs.Serial.{chosen_at, place_of, is_read, is_number, is_read_at, named, reads_at, write_at, order_of, top_of, IsOf, StandsBefore, shown_before}
+use Rattle.gz_laws.proofs.Agreeing.{stands_shows}
 use Rattle.gz_laws.proofs.ChosenAt.{OneChosen, chosen_at_is, is_chosen_at, chosen_low}
+use Rattle.gz_laws.proofs.ReadPlaces.{about_means, about_from, read_no_write, placed_of, place_there, shown_most, shown_found}
 use Rattle.gz_laws.proofs.Ordered.{in_left, in_right, in_cases, in_at, at_of_in, filter_in, in_filter, in_blocks, blocks_in, before_right, before_across, Befores, lefts, rights, each, before_cases, filter_before, blocks_before, blocks_within, InBlocks, one_block, two_blocks, blocks_cases, AreNamedApart, before_at, one_has_name}
 
 -- ---- what is known of the calls of an object
@@ -49,12 +49,25 @@ IsReadAnswer (Some (Contended met)) = Unit {0}
 IsReadAnswer (Some (Unsure why)) = Unit {0}
 IsReadAnswer (Some answer) = ⊥
 
--- the answer is one of its kind of call; no call reads a version by its number, or collects, yet
+abbrev pub IsVersionAnswer : Option Answer → Type 0
+IsVersionAnswer None = Unit {0}
+IsVersionAnswer (Some (Bytes version name bytes)) = Unit {0}
+IsVersionAnswer (Some (Incomplete version name fates)) = Unit {0}
+IsVersionAnswer (Some (Gone version name)) = Unit {0}
+IsVersionAnswer (Some (Unborn latest)) = Unit {0}
+IsVersionAnswer (Some (Collected floor)) = Unit {0}
+IsVersionAnswer (Some (Short stored)) = Unit {0}
+IsVersionAnswer (Some (NoQuorum phase heard)) = Unit {0}
+IsVersionAnswer (Some (Contended met)) = Unit {0}
+IsVersionAnswer (Some (Unsure why)) = Unit {0}
+IsVersionAnswer (Some answer) = ⊥
+
+-- the answer is one of its kind of call; no call collects yet
 abbrev pub Fits : Call → Option Answer → Type 0
 Fits (Put key bytes) answer = IsWriteAnswer answer
 Fits (Delete key) answer = IsWriteAnswer answer
 Fits (Get key) answer = IsReadAnswer answer
-Fits (GetAt key version) answer = ⊥
+Fits (GetAt key version) answer = IsVersionAnswer answer
 Fits (Collect key keep) answer = ⊥
 
 -- the call of a value: a write of the object, that was not answered that it took no effect
@@ -81,6 +94,7 @@ pub record IsSerializable (key : List ℕ) (s : State) : Type 0 where
   pub later : (i end : ℕ) (a : CallRec) → slice_get s.calls i ≡ Some a → a.end ≡ Some end → a.begin < end
   pub answered : (i : ℕ) (a : CallRec) → slice_get s.calls i ≡ Some a → is_some a.end ≡ is_some a.answer
   pub fits : (a : CallRec) → IsOf key s a → Fits a.call a.answer
+  pub asked : (a : CallRec) → IsOf key s a → AnswersAsked a.call a.answer
   -- one value is chosen at a version, from 1 on without a gap, and a value at one version; its call wrote it
   pub one : OneChosen key s
   pub once : (u v : ℕ) (x : Name) → IsChosen s.cfg s.casts key u x → IsChosen s.cfg s.casts key v x → u ≡ v
@@ -95,18 +109,12 @@ pub record IsSerializable (key : List ℕ) (s : State) : Type 0 where
   pub order : (a b : CallRec) (v w : ℕ) → IsOf key s a → IsOf key s b → IsBefore a.end b.begin → shows a.answer ≡ Some v → stands b.call b.answer ≡ Some w → v ≤ w
   pub above : (a b : CallRec) (v w : ℕ) → IsOf key s a → IsOf key s b → IsBefore a.end b.begin → shows a.answer ≡ Some v → IsChosen s.cfg s.casts key w b.name → v < w
 
--- a read of the object that shows this version as the latest one, and ended at this tick
+-- a read of the object that has its place at this version, and ended at this tick
 pub record IsReadOf (key : List ℕ) (s : State) (v tick : ℕ) (a : CallRec) : Type 0 where
   pub of : IsOf key s a
-  pub get : a.call ≡ Get key
-  pub shows_it : shows a.answer ≡ Some v
+  pub reads : is_read a.call ≡ true
+  pub place : place_of key s.calls a ≡ Some v
   pub ended : a.end ≡ Some tick
-
-about_means : (key : List ℕ) (a : CallRec) → is_about key a ≡ true → key_of a.call ≡ key
-about_means key a e = same_text (key_of a.call) key (sym e)
-
-about_from : (key : List ℕ) (a : CallRec) → key_of a.call ≡ key → is_about key a ≡ true
-about_from key a e = search (rules, e)
 
 number_means : (n : ℕ) (o : Option ℕ) → is_number n o ≡ true → o ≡ Some n
 number_means n None e = cc
@@ -119,21 +127,6 @@ number_from n (Some k) e = let same : k ≡ n = cc in eq-eqb k n same
 -- ---- the reads of a version
 
 module _ (key : List ℕ) (s : State) (k : IsSerializable key s) where
-  get_of : (call : Call) (answer : Option Answer) → Fits call answer → key_of call ≡ key → is_read call ≡ true → call ≡ Get key
-  get_of (Put key bytes) answer fits of e = cc
-  get_of (Delete key) answer fits of e = cc
-  get_of (Get own) answer fits of e = ap Get of
-  get_of (GetAt own version) answer fits of e = absurd fits
-  get_of (Collect own keep) answer fits of e = absurd fits
-
-  -- a read has its place at the version that it shows
-  place_shown : (call : Call) (answer : Option Answer) (before : ℕ) → call ≡ Get key → option_map (λ shown. placed_at (stands call answer) shown before) (shows answer) ≡ shows answer
-  place_shown call answer before is = subst (λ (q : Call). option_map (λ shown. placed_at (stands q answer) shown before) (shows answer) ≡ shows answer) (sym is) (own_place (shows answer) before)
-    where
-      own_place : (o : Option ℕ) (before : ℕ) → option_map (λ shown. placed_at o shown before) o ≡ o
-      own_place None before = refl
-      own_place (Some v) before = refl
-
   of_in : (a : CallRec) → IsIn a s.calls → key_of a.call ≡ key → IsOf key s a
   of_in a h own = let at = at_of_in s.calls a h in (at.0, at.1, own)
 
@@ -145,23 +138,16 @@ module _ (key : List ℕ) (s : State) (k : IsSerializable key s) where
       let first = and_parts (is_about key a) (is_read a.call) third.0 in
       let own = about_means key a first.0 in
       let of = of_in a kept.0 own in
-      let get = get_of a.call a.answer (k.fits a of) own first.1 in
-      record {
-        of = of;
-        get = get;
-        shows_it = sym (place_shown a.call a.answer (shown_before key s.calls a.begin) get) ∙ number_means v (place_of key s.calls a) third.1;
-        ended = number_means tick a.end last.1;
-      }
+      record { of = of; reads = first.1; place = number_means v (place_of key s.calls a) third.1; ended = number_means tick a.end last.1 }
 
   read_kept : (v tick : ℕ) (a : CallRec) → IsReadOf key s v tick a → IsIn a (filter (is_read_at key s.calls v tick) s.calls)
   read_kept v tick a r =
       let about = about_from key a r.of.2 in
-      let reads : is_read a.call ≡ true = ap is_read r.get in
-      let place = number_from v (place_of key s.calls a) (place_shown a.call a.answer (shown_before key s.calls a.begin) r.get ∙ r.shows_it) in
+      let place = number_from v (place_of key s.calls a) r.place in
       let ended = number_from tick a.end r.ended in
       in_filter (is_read_at key s.calls v tick) s.calls a (in_at s.calls r.of.0 a r.of.1)
       (and_from (is_about key a && is_read a.call && is_number v (place_of key s.calls a)) (is_number tick a.end)
-      (and_from (is_about key a && is_read a.call) (is_number v (place_of key s.calls a)) (and_from (is_about key a) (is_read a.call) about reads) place) ended)
+      (and_from (is_about key a && is_read a.call) (is_number v (place_of key s.calls a)) (and_from (is_about key a) (is_read a.call) about r.reads) place) ended)
 
   pub reads_found : (v : ℕ) (a : CallRec) → IsIn a (reads_at s key v) → (tick : ℕ) × IsReadOf key s v tick a
   reads_found v a h = let b = in_blocks (λ tick. filter (is_read_at key s.calls v tick) s.calls) (length s.journal) a h in (b.0, read_found v b.0 a b.2)
@@ -240,7 +226,7 @@ module _ (key : List ℕ) (s : State) (k : IsSerializable key s) where
   shown_low : (a : CallRec) (v : ℕ) → IsOf key s a → shows a.answer ≡ Some v → v ≤ top
   shown_low a v of e = elim (k.shown a v of e) [ inl z ↦ omega (arith, z) | inr h ↦ write_low v h.0 h.1 ]
 
-  -- a call whose answer shows a version wrote it, or read it
+  -- a call that stands at a version wrote it, or has its place there as a read
   data ShowsAt (v : ℕ) (a : CallRec) : Type 0 where
     wrote : IsChosen s.cfg s.casts key v a.name → IsWrite a.call → ShowsAt v a
     read : (tick : ℕ) → IsReadOf key s v tick a → ShowsAt v a
@@ -255,12 +241,12 @@ module _ (key : List ℕ) (s : State) (k : IsSerializable key s) where
   wrote_shown own (Some (Unsure why)) v fits e = cc
   wrote_shown own (Some answer) v fits e = absurd fits
 
-  kind_of : (own : Name) (call : Call) (answer : Option Answer) (v : ℕ) → Fits call answer → key_of call ≡ key → shows answer ≡ Some v → (IsWrite call × (names own answer ≡ Some own)) ⊎ (call ≡ Get key)
-  kind_of own (Put q bytes) answer v fits of e = inl (tt, wrote_shown own answer v fits e)
-  kind_of own (Delete q) answer v fits of e = inl (tt, wrote_shown own answer v fits e)
-  kind_of own (Get q) answer v fits of e = inr (ap Get of)
-  kind_of own (GetAt q version) answer v fits of e = absurd fits
-  kind_of own (Collect q keep) answer v fits of e = absurd fits
+  kind_of : (own : Name) (call : Call) (answer : Option Answer) (v : ℕ) → Fits call answer → shows answer ≡ Some v → (IsWrite call × (names own answer ≡ Some own)) ⊎ (is_read call ≡ true)
+  kind_of own (Put q bytes) answer v fits e = inl (tt, wrote_shown own answer v fits e)
+  kind_of own (Delete q) answer v fits e = inl (tt, wrote_shown own answer v fits e)
+  kind_of own (Get q) answer v fits e = inr refl
+  kind_of own (GetAt q version) answer v fits e = inr refl
+  kind_of own (Collect q keep) answer v fits e = absurd fits
 
   answer_there : (answer : Option Answer) (v : ℕ) → shows answer ≡ Some v → is_some answer ≡ true
   answer_there None v e = cc
@@ -270,11 +256,79 @@ module _ (key : List ℕ) (s : State) (k : IsSerializable key s) where
   end_there None e = cc
   end_there (Some tick) e = (tick, refl)
 
-  shows_at : (a : CallRec) (v : ℕ) → IsOf key s a → shows a.answer ≡ Some v → ShowsAt v a
-  shows_at a v of e = elim (kind_of a.name a.call a.answer v (k.fits a of) of.2 e) [
-    | inl w ↦ wrote (k.named a v a.name of e w.1) w.0
-    | inr get ↦ (let end = end_there a.end (k.answered of.0 a of.1 ∙ answer_there a.answer v e) in
-        read end.0 (record { of = of; get = get; shows_it = e; ended = end.1 }))
+  ends_low : (end : Option ℕ) (begin tick : ℕ) → end ≡ Some tick → IsBefore end begin → tick < begin
+  ends_low end begin tick e h = subst (λ (o : Option ℕ). IsBefore o begin) e h
+
+  -- of the version at which a call stands: a call of the object shows it, and ended before whatever that one ended before
+  record IsShownBy (v : ℕ) (a : CallRec) : Type 0 where
+    pub call : CallRec
+    pub of : IsOf key s call
+    pub shows_it : shows call.answer ≡ Some v
+    pub before : (begin : ℕ) → IsBefore a.end begin → IsBefore call.end begin
+
+  shown_by_self : (v : ℕ) (a : CallRec) → IsOf key s a → shows a.answer ≡ Some v → IsShownBy v a
+  shown_by_self v a of e = record { call = a; of = of; shows_it = e; before = λ begin h. h }
+
+  ends_first : (end tick begin : ℕ) (o d : Option ℕ) → o ≡ Some tick → IsBefore d end → end < tick → IsBefore o begin → IsBefore d begin
+  ends_first end tick begin o None e low lt h = absurd low
+  ends_first end tick begin o (Some first) e low lt h = let after = ends_low o begin tick e h in omega (arith, low, lt, after)
+
+  shown_by_shower : (v w tick : ℕ) (a : CallRec) → IsReadOf key s w tick a → v < shown_before key s.calls a.begin → w ≡ max v (shown_before key s.calls a.begin) → IsShownBy w a
+  shown_by_shower v w tick a r lt is =
+      let d = shown_found key s.calls a.begin (omega (arith, lt)) in
+      let same : shown_before key s.calls a.begin ≡ w = omega (arith, lt, is) in
+      let later = k.later r.of.0 tick a r.of.1 r.ended in
+      record { call = d.call; of = of_in d.call d.found d.about; shows_it = d.shows_it ∙ ap Some same; before = λ begin h. ends_first a.begin tick begin a.end d.call.end r.ended d.before later h }
+
+  -- the place of a read
+  pub record IsPlacedRead (w : ℕ) (a : CallRec) : Type 0 where
+    pub version : ℕ
+    pub shows_it : shows a.answer ≡ Some version
+    pub place : (stands a.call a.answer ≡ Some w) ⊎ ((stands a.call a.answer ≡ None) × (w ≡ max version (shown_before key s.calls a.begin)))
+
+  pub placed_read : (w tick : ℕ) (a : CallRec) → IsReadOf key s w tick a → IsPlacedRead w a
+  placed_read w tick a r =
+      let p = placed_of (stands a.call a.answer) (shows a.answer) (shown_before key s.calls a.begin) w r.place in
+      record { version = p.0; shows_it = p.1; place = p.2 }
+
+  -- is at the version that it shows, or above
+  pub place_least : (v w tick : ℕ) (a : CallRec) → IsReadOf key s w tick a → shows a.answer ≡ Some v → v ≤ w
+  place_least v w tick a r e = let p = placed_read w tick a r in elim p.place [
+    | inl latest ↦ (let both : Some v ≡ Some w = sym e ∙ stands_shows a.call a.answer w latest in let same : v ≡ w = cc in omega (arith, same))
+    | inr after ↦ (let both : Some v ≡ Some p.version = sym e ∙ p.shows_it in let same : v ≡ p.version = cc in let is = after.1 in omega (arith, same, is))
+  ]
+
+  -- and a call shows it
+  shown_by : (w tick : ℕ) (a : CallRec) → IsReadOf key s w tick a → IsShownBy w a
+  shown_by w tick a r = let p = placed_read w tick a r in elim p.place [
+    | inl latest ↦ shown_by_self w a r.of (stands_shows a.call a.answer w latest)
+    | inr after ↦ elim (cases_lt p.version (shown_before key s.calls a.begin)) [
+      | inl lt ↦ shown_by_shower p.version w tick a r lt after.1
+      | inr ge ↦ (let is = after.1 in let same : p.version ≡ w = omega (arith, ge, is) in shown_by_self w a r.of (p.shows_it ∙ ap Some same))
+    ]
+  ]
+
+  -- and it is at what was shown before the read began, or above
+  place_after : (a b : CallRec) (v l tick : ℕ) → IsOf key s a → shows a.answer ≡ Some v → IsBefore a.end b.begin → IsReadOf key s l tick b → v ≤ l
+  place_after a b v l tick of e before r = let p = placed_read l tick b r in elim p.place [
+    | inl latest ↦ k.order a b v l of r.of before e latest
+    | inr after ↦ (let low = shown_most key s.calls b.begin a v (in_at s.calls of.0 a of.1) of.2 before e in let is = after.1 in omega (arith, low, is))
+  ]
+
+  -- where a call stands whose answer shows a version: there or above
+  record Stands (a : CallRec) (v : ℕ) : Type 0 where
+    pub version : ℕ
+    pub least : v ≤ version
+    pub here : ShowsAt version a
+    pub by : IsShownBy version a
+
+  shows_at : (a : CallRec) (v : ℕ) → IsOf key s a → shows a.answer ≡ Some v → Stands a v
+  shows_at a v of e = elim (kind_of a.name a.call a.answer v (k.fits a of) e) [
+    | inl w ↦ record { version = v; least = omega arith; here = wrote (k.named a v a.name of e w.1) w.0; by = shown_by_self v a of e }
+    | inr kind ↦ (let end = end_there a.end (k.answered of.0 a of.1 ∙ answer_there a.answer v e) in
+        let place = place_there (stands a.call a.answer) (shows a.answer) (shown_before key s.calls a.begin) v e in
+        let r : IsReadOf key s place.0 end.0 a = record { of = of; reads = kind; place = place.1; ended = end.1 } in
+        record { version = place.0; least = place_least v place.0 end.0 a r e; here = read end.0 r; by = shown_by place.0 end.0 a r })
   ]
 
   -- it stands at that version
@@ -284,8 +338,11 @@ module _ (key : List ℕ) (s : State) (k : IsSerializable key s) where
 
   -- ---- who stands in the order
 
+  stands_low : (a : CallRec) (v : ℕ) → (at : Stands a v) → at.version ≤ top
+  stands_low a v at = shown_low at.by.call at.version at.by.of at.by.shows_it
+
   pub listed : (a : CallRec) (v : ℕ) → IsOf key s a → shows a.answer ≡ Some v → IsIn a (order_of s key)
-  listed a v of e = blocks_in at_version top v a (shown_low a v of e) (shown_here a v of (shows_at a v of e))
+  listed a v of e = let at = shows_at a v of e in blocks_in at_version top at.version a (stands_low a v at) (shown_here a at.version of at.here)
 
   pub chosen_listed : (v : ℕ) (x : Name) → IsChosen s.cfg s.casts key v x → (a : CallRec) × IsIn a (order_of s key) × (a.name ≡ x)
   chosen_listed v x h =
@@ -311,18 +368,12 @@ module _ (key : List ℕ) (s : State) (k : IsSerializable key s) where
 
   standing_call : (v : ℕ) (a : CallRec) → StandsAt v a → IsOf key s a × MayTakeEffect a.answer
   standing_call v a (writes w) = (w.of, w.effect)
-  standing_call v a (reads tick r) = (r.of, effect_shown a.answer v r.shows_it)
+  standing_call v a (reads tick r) = let p = placed_read v tick a r in (r.of, effect_shown a.answer p.version p.shows_it)
 
   pub calls_of : (a : CallRec) → IsIn a (order_of s key) → IsOf key s a × MayTakeEffect a.answer
   calls_of a h = let b = in_blocks at_version top a h in standing_call b.0 a (stands_at b.0 a b.2)
 
   -- ---- in which order
-
-  ends_low : (end : Option ℕ) (begin tick : ℕ) → end ≡ Some tick → IsBefore end begin → tick < begin
-  ends_low end begin tick e h = subst (λ (o : Option ℕ). IsBefore o begin) e h
-
-  stands_latest : (b : CallRec) (v tick : ℕ) → IsReadOf key s v tick b → stands b.call b.answer ≡ Some v
-  stands_latest b v tick r = ap (λ (q : Call). stands q b.answer) r.get ∙ r.shows_it
 
   before_read : (a b : CallRec) (v tick : ℕ) → IsOf key s a → IsBefore a.end b.begin → ShowsAt v a → IsReadOf key s v tick b → StandsBefore (at_version v) a b
   before_read a b v tick of before (wrote h write) r = before_across (write_at s key v) (reads_at s key v) a b (write_here v a.name a h of refl) (reads_kept v tick b r)
@@ -332,22 +383,25 @@ module _ (key : List ℕ) (s : State) (k : IsSerializable key s) where
       before_right (write_at s key v) (reads_at s key v) a b
       (blocks_before (reads_by v) (length s.journal) t tick a b (omega (arith, low, later)) (k.over r.of.0 tick b r.of.1 r.ended) (read_kept v t a q) (read_kept v tick b r))
 
-  before_standing : (a b : CallRec) (v l : ℕ) → IsOf key s a → shows a.answer ≡ Some v → IsBefore a.end b.begin → l ≤ top → IsIn b (at_version l) → StandsAt l b → StandsBefore (order_of s key) a b
-  before_standing a b v l of e before le here (writes w) = blocks_before at_version top v l a b (k.above a b v l of w.of before e w.chosen) le (shown_here a v of (shows_at a v of e)) here
-  before_standing a b v l of e before le here (reads tick r) =
-      let low = k.order a b v l of r.of before e (stands_latest b l tick r) in
-      elim (cases_eq v l) [
-        | inl same ↦ blocks_within at_version top v a b (shown_low a v of e) (before_read a b v tick of before (shows_at a v of e) (subst (λ (u : ℕ). IsReadOf key s u tick b) (sym same) r))
-        | inr ne ↦ blocks_before at_version top v l a b (lt_of_le_of_ne low ne) le (shown_here a v of (shows_at a v of e)) here
+  before_standing : (a b : CallRec) (v l : ℕ) → IsOf key s a → (at : Stands a v) → IsBefore a.end b.begin → l ≤ top → IsIn b (at_version l) → StandsAt l b → StandsBefore (order_of s key) a b
+  before_standing a b v l of at before le here (writes w) =
+      let by = at.by in
+      blocks_before at_version top at.version l a b (k.above by.call b at.version l by.of w.of (by.before b.begin before) by.shows_it w.chosen) le (shown_here a at.version of at.here) here
+  before_standing a b v l of at before le here (reads tick r) =
+      let by = at.by in
+      let low = place_after by.call b at.version l tick by.of by.shows_it (by.before b.begin before) r in
+      elim (cases_eq at.version l) [
+        | inl same ↦ blocks_within at_version top at.version a b (stands_low a v at) (before_read a b at.version tick of before at.here (subst (λ (u : ℕ). IsReadOf key s u tick b) (sym same) r))
+        | inr ne ↦ blocks_before at_version top at.version l a b (lt_of_le_of_ne low ne) le (shown_here a at.version of at.here) here
       ]
 
   pub ordered : (a b : CallRec) (v : ℕ) → IsOf key s a → shows a.answer ≡ Some v → IsIn b (order_of s key) → IsBefore a.end b.begin → StandsBefore (order_of s key) a b
-  ordered a b v of e h before = let l = in_blocks at_version top b h in before_standing a b v l.0 of e before l.1 l.2 (stands_at l.0 b l.2)
+  ordered a b v of e h before = let l = in_blocks at_version top b h in before_standing a b v l.0 of (shows_at a v of e) before l.1 l.2 (stands_at l.0 b l.2)
 
   -- ---- each once
 
-  no_get_writes : (v u tick : ℕ) (a : CallRec) → IsWriteOf v a → IsReadOf key s u tick a → ⊥
-  no_get_writes v u tick a w r = subst IsWrite r.get w.write
+  no_read_writes : (v u tick : ℕ) (a : CallRec) → IsWriteOf v a → IsReadOf key s u tick a → ⊥
+  no_read_writes v u tick a w r = read_no_write a.call r.reads w.write
 
   write_once : (v : ℕ) (a : CallRec) → StandsBefore (write_at s key v) a a → ⊥
   write_once zero a h = absurd h
@@ -367,13 +421,13 @@ module _ (key : List ℕ) (s : State) (k : IsSerializable key s) where
   version_once : (v : ℕ) (a : CallRec) → Befores (write_at s key v) (reads_at s key v) a a → ⊥
   version_once v a (lefts h) = write_once v a h
   version_once v a (rights h) = reads_once v a (blocks_cases (reads_by v) (length s.journal) a a h)
-  version_once v a (each h g) = let r = reads_found v a g in no_get_writes v v r.0 a (found_write v a h) r.1
+  version_once v a (each h g) = let r = reads_found v a g in no_read_writes v v r.0 a (found_write v a h) r.1
 
   at_one : (v u : ℕ) (a : CallRec) → StandsAt v a → StandsAt u a → v ≡ u
   at_one v u a (writes w) (writes x) = k.once v u a.name w.chosen x.chosen
-  at_one v u a (writes w) (reads tick r) = absurd (no_get_writes v u tick a w r)
-  at_one v u a (reads tick r) (writes w) = absurd (no_get_writes u v tick a w r)
-  at_one v u a (reads tick r) (reads t q) = let both : Some v ≡ Some u = sym r.shows_it ∙ q.shows_it in cc
+  at_one v u a (writes w) (reads tick r) = absurd (no_read_writes v u tick a w r)
+  at_one v u a (reads tick r) (writes w) = absurd (no_read_writes u v tick a w r)
+  at_one v u a (reads tick r) (reads t q) = let both : Some v ≡ Some u = sym r.place ∙ q.place in cc
 
   never_twice : (a : CallRec) → InBlocks at_version top a a → ⊥
   never_twice a (one_block v le h) = version_once v a (before_cases (write_at s key v) (reads_at s key v) a a h)

@@ -21,9 +21,9 @@ use Rattle.gz_core.specs.declared.values.Value.{Value}
 use Rattle.gz_core.specs.declared.values.Value.TheVariants.{Tomb, Put as PutOf}
 use Rattle.gz_data.specs.Own.{IsOwn, put_of, record_at}
 use Rattle.gz_round.specs.Sites.{fragment_stands, value_stands}
-use Rattle.gz_laws.specs.Bounded.{IfKept, IfWritten, IfShown, EachRow}
 use Rattle.gz_laws.specs.Valued.{AreGiven, IsGivenKept, IsGivenOp, IsGivenReply, AreValued}
 use Rattle.gz_laws.specs.Runs.{key_asked}
+use Rattle.gz_laws.specs.Rows.{IfKept, IfWritten, IfShown, EachRow}
 use Rattle.gz_laws.proofs.RowBounds.{AreStanding}
 use Rattle.gz_world.specs.States.{State}
 

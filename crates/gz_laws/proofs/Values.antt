@@ -1,6 +1,6 @@
 -- What a step makes has the values of the row that it was made on, and its own.
-use Rattle.std.proofs.Common.{◌≡◌, ℕ, inl, inr, List, [], ◌∷◌, Some, None, true, false, refl, ap, sym, ◌∙◌, subst}
-use Rattle.std.specs.Prelude.{Option, ◌==◌, if◌then◌else◌, slice_get}
+use Rattle.std.proofs.Common.{◌≡◌, ℕ, ◌+◌, ◌≤◌, inl, inr, List, [], ◌∷◌, Some, None, true, false, refl, ap, sym, ◌∙◌, subst, arith}
+use Rattle.std.specs.Prelude.{Option, ◌==◌, if◌then◌else◌, slice_get, filter, nat_lt}
 use Rattle.gz_core.specs.Names.{Name, fast}
 use Rattle.gz_core.specs.Rows.{RowAt, column_in, empty_row}
 use Rattle.gz_core.specs.declared.rows.Column.{Column}
@@ -13,8 +13,8 @@ use Rattle.gz_core.specs.declared.requests.Op.{Op}
 use Rattle.gz_core.specs.declared.requests.Op.TheVariants.{WriteRow}
 use Rattle.gz_core.specs.declared.requests.Reply.{Reply}
 use Rattle.gz_core.specs.declared.requests.Reply.TheVariants.{Row, NoRow, Written}
-use Rattle.gz_accept.specs.Steps.{vote_in, with_column_at}
-use Rattle.gz_accept.proofs.Seen.{column_in_with}
+use Rattle.gz_accept.specs.Steps.{vote_in, with_column, with_column_at}
+use Rattle.gz_accept.proofs.Seen.{column_in_with, column_in_filter}
 use Rattle.gz_round.specs.declared.hearing.Seen.{Seen}
 use Rattle.gz_core.specs.History.{Asked, Action, Sent, Handed, GaveUp, Rested, GaveIn, Caller, Trace}
 use Rattle.gz_round.specs.Rounds.{IsValueKnown}
@@ -31,7 +31,9 @@ use Rattle.gz_laws.proofs.Keeping.{awaited_key}
 use Rattle.gz_round.proofs.Known.{last_heard}
 use Rattle.gz_core.specs.Calls.{key_of}
 use Rattle.gz_laws.specs.Runs.{key_asked}
-use Rattle.std.proofs.lemmas.Option.{same_Some}
+use Rattle.std.proofs.lemmas.Option.{none-some, same_Some}
+use Rattle.std.proofs.lemmas.Bool.{cases_Bool, cases_lt}
+use Rattle.std.proofs.lemmas.Bool.Decides.{nat_tests}
 
 -- a row with another column has the values of the old one, and that column's
 with_given : (c : Config) (calls : List CallRec) (key : List ℕ) (row : RowAt) (v : ℕ) (column : Column) → AreGiven c calls key row → ((x : Value) → column_value (Some column) ≡ Some x → IsGivenTo c calls key x) → AreGiven c calls key (with_column_at row v column)
@@ -41,6 +43,21 @@ with_given c calls key row v column old own = λ u x h.
       | true ↦ λ e. own x e
       | false ↦ λ e. old u x e
     ] k
+
+-- the columns that a collection leaves have the values that they had
+none_left : (to : ℕ) (cs : List (ℕ × Column)) (u : ℕ) → u ≤ to → column_in (filter (λ c. nat_lt to c.0) cs) u ≡ None
+none_left to [] u low = refl
+none_left to (c ∷ cs) u low =
+    elim (cases_Bool (nat_lt to c.0)) [
+      | inl e ↦ let other : (c.0 == u) ≡ false = grind (arith, nat_tests) in rw (e, other) (none_left to cs u low)
+      | inr e ↦ rw e (none_left to cs u low)
+    ]
+
+left_value : (to : ℕ) (cs : List (ℕ × Column)) (u : ℕ) (x : Value) → column_value (column_in (filter (λ c. nat_lt to c.0) cs) u) ≡ Some x → column_value (column_in cs u) ≡ Some x
+left_value to cs u x h = elim (cases_lt to u) [
+  | inl above ↦ sym (ap column_value (column_in_filter to cs u above)) ∙ h
+  | inr low ↦ absurd (none-some x (sym (ap column_value (none_left to cs u low)) ∙ h))
+]
 
 given_same : (c : Config) (calls : List CallRec) (key : List ℕ) (x y : Value) → IsGivenTo c calls key x → Some x ≡ Some y → IsGivenTo c calls key y
 given_same c calls key x y h e = subst (IsGivenTo c calls key) (same_Some x y e) h
@@ -76,7 +93,10 @@ made_given c calls w past ms (ClassicVote v b x) old new own heard may m row =
 made_given c calls w past ms (Decide v x) old new own heard may m row =
     let key = key_of w.call in
     subst (AreGiven c calls key) (sym m.1) (with_given c calls key old v (Decided x) row (λ y e. given_same c calls key x y (known_given c calls w ms v x own heard may.1) e))
-made_given c calls w past ms (Trim to x) old new own heard may m row = absurd may
+made_given c calls w past ms (Trim to x) old new own heard may m row =
+    let key = key_of w.call in
+    let next = with_given c calls key old (to + 1) (Decided x) row (λ y e. given_same c calls key x y (known_given c calls w ms (to + 1) x own heard (inr may.known)) e) in
+    subst (AreGiven c calls key) (sym m.1) (λ u y e. next u y (left_value to (with_column (to + 1) (Decided x) old.columns) u y e))
 
 empty_given : (c : Config) (calls : List CallRec) (key : List ℕ) → AreGiven c calls key empty_row
 empty_given c calls key = λ v x e. cc

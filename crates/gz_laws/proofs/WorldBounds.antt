@@ -32,11 +32,12 @@ use Rattle.gz_world.specs.Refusals.{refusal_of}
 use Rattle.gz_world.specs.States.{RequestAt, State, tick_of, next_of, numbered, with_reply, with_handed, with_given_up, sent_requests}
 use Rattle.gz_world.specs.Steps.{Answers, SessionMoves, BeginsBy, DeliversBy, TurnBy, TakesTurn, HasEffect, Does, Skips, WorldStep, hears}
 use Rattle.gz_world.proofs.Members.{numbered_place}
-use Rattle.gz_laws.specs.Bounded.{IsRowWithin, IfKept, IfWritten, IfShown, EachRow, ArePromisesWithin, AreWithin, IsHeard, CanStand}
+use Rattle.gz_laws.specs.Bounded.{IsRowWithin, ArePromisesWithin, AreWithin, IsHeard, CanStand}
 use Rattle.gz_laws.specs.Carried.{ActionCarried, ActionsCarried, TracesCarried, AreCarried}
 use Rattle.gz_laws.specs.Each.{EachTrace}
 use Rattle.gz_laws.specs.Listed.{AreCallsListed}
 use Rattle.gz_laws.specs.Placed.{ArePlaced}
+use Rattle.gz_laws.specs.Rows.{IfKept, IfWritten, IfShown, EachRow}
 use Rattle.gz_laws.proofs.Bounding.{heard_within}
 use Rattle.gz_laws.proofs.Carrying.{carried}
 use Rattle.gz_laws.proofs.Listing.{listed}

@@ -1,21 +1,18 @@
 -- How far the rows of a world go: no version is above the number of events, and no round above the number of requests, nor
 -- above the number of sites for each event. No value has a fragment elsewhere than at a site. So no row is beyond the
 -- bounds on rows that no run can hold.
-use Rattle.std.specs.Prelude.{ℕ, ◌≡◌, ◌≤◌, true, List, [], ◌∷◌, Option, Some, None, slice_get}
+use Rattle.std.specs.Prelude.{ℕ, ◌≡◌, ◌≤◌, true, List, [], ◌∷◌, Some, slice_get}
 use Rattle.gz_core.specs.Names.{BallotAt}
-use Rattle.gz_core.specs.Rows.{RowAt}
+use Rattle.gz_core.specs.Rows.{RowAt, IsRow}
 use Rattle.gz_core.specs.declared.rows.Column.{Column}
 use Rattle.gz_core.specs.declared.rows.Column.TheVariants.{Open, Decided}
 use Rattle.gz_core.specs.declared.requests.Op.{Op}
-use Rattle.gz_core.specs.declared.requests.Op.TheVariants.{WriteRow}
 use Rattle.gz_core.specs.declared.requests.Reply.{Reply}
-use Rattle.gz_core.specs.declared.requests.Reply.TheVariants.{Row}
 use Rattle.gz_core.specs.History.{Trace}
 use Rattle.gz_round.specs.Sent.{has_promised_at, top_round}
 use Rattle.gz_round.specs.Sites.{can_stand, as_heard, written_by}
-use Rattle.gz_site.specs.Told.{Told}
 use Rattle.gz_laws.specs.Each.{EachTrace}
-use Rattle.gz_laws.specs.Heard.{IsClean}
+use Rattle.gz_laws.specs.Rows.{EachRow}
 use Rattle.gz_world.specs.States.{RequestAt, State, numbered}
 
 -- no promise of a round above this one
@@ -29,27 +26,8 @@ AreColumnsWithin versions rounds [] = Unit {0}
 AreColumnsWithin versions rounds (c ∷ cs) = (c.0 ≤ versions) × (IsColumnWithin rounds c.1 × AreColumnsWithin versions rounds cs)
 
 pub record IsRowWithin (versions rounds : ℕ) (row : RowAt) : Type 0 where
-  pub clean : IsClean row
+  pub rule : IsRow row
   pub columns : AreColumnsWithin versions rounds row.columns
-
--- what holds of a row that a site keeps, of one that a request writes, and of one that a reply shows
-abbrev pub IfKept : (RowAt → Type 0) → Option (ℕ × RowAt) → Type 0
-IfKept P None = Unit {0}
-IfKept P (Some kept) = P kept.1
-
-abbrev pub IfWritten : (RowAt → Type 0) → Op → Type 0
-IfWritten P (WriteRow key expect step row) = P row
-IfWritten P op = Unit {0}
-
-abbrev pub IfShown : (RowAt → Type 0) → Reply → Type 0
-IfShown P (Row etag row) = P row
-IfShown P reply = Unit {0}
-
--- of all rows of a world
-pub record EachRow (P : RowAt → Type 0) (s : State) : Type 0 where
-  pub sites : (i : ℕ) (told : Told) (key : List ℕ) → s.sites i ≡ Some told → IfKept P (told.rows key)
-  pub requests : (n : ℕ) (r : RequestAt) → numbered s.net n ≡ Some r → IfWritten P r.op
-  pub replies : (n place tick : ℕ) (r : RequestAt) (reply : Reply) → numbered s.net n ≡ Some r → slice_get r.replies place ≡ Some (tick, reply) → IfShown P reply
 
 -- a call promised no ballot of a round above this one, and none at a version above the other number
 pub record ArePromisesWithin (versions rounds : ℕ) (t : Trace) : Type 0 where

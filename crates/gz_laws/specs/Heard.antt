@@ -2,7 +2,7 @@
 use Rattle.std.specs.Prelude.{ℕ, ◌≡◌, ◌⊎◌, List, [], ◌∷◌, Option, Some, None}
 use Rattle.gz_core.specs.Names.{Name, BallotAt}
 use Rattle.gz_config.specs.declared.Config.{Config}
-use Rattle.gz_core.specs.Rows.{RowAt, Rises}
+use Rattle.gz_core.specs.Rows.{IsRow}
 use Rattle.gz_core.specs.Slots.{Act, Promises, act_of, slots}
 use Rattle.gz_core.specs.declared.requests.Op.{Op}
 use Rattle.gz_core.specs.declared.requests.Op.TheVariants.{WriteRow}
@@ -28,15 +28,10 @@ heard_of (GaveUp a ∷ ms) = heard_of ms
 heard_of (Rested ∷ ms) = heard_of ms
 heard_of (GaveIn ∷ ms) = heard_of ms
 
--- a row of which nothing was collected, with its versions in their order
-pub record IsClean (row : RowAt) : Type 0 where
-  pub floor : row.floor ≡ 0
-  pub rises : Rises 0 row.columns
-
--- a row that was heard is one of which nothing was collected, and a reply of the store showed it
+-- a row that was heard keeps the rule of rows, and a reply of the store showed it
 abbrev pub SeenStands : Store → ℕ → Option Seen → Type 0
 SeenStands st s None = Unit {0}
-SeenStands st s (Some seen) = IsClean seen.row × (let r : Answered = record { site = s; etag = seen.etag; row = slots seen.row } in IsIn r st.replies)
+SeenStands st s (Some seen) = IsRow seen.row × (let r : Answered = record { site = s; etag = seen.etag; row = slots seen.row } in IsIn r st.replies)
 
 -- the step of the write that an action sends
 abbrev pub IsStepSent : Op → Act → Type 0
@@ -86,11 +81,6 @@ unused s = 0
 abbrev pub AskedHere : Name → ℕ → Op → Store → Type 0
 AskedHere name site (WriteRow key expect step row) st = (q : WriteSent) × (IsAskedOf name site (WriteRow key expect step row) q × IsIn q st.asked)
 AskedHere name site op st = Unit {0}
-
--- the row that a request writes is one of which nothing was collected
-abbrev pub CleanOp : Op → Type 0
-CleanOp (WriteRow key expect step row) = IsClean row
-CleanOp op = Unit {0}
 
 -- what a store knows of a call of its object: it writes its own value, its heard rows were shown, its writes and those of
 -- the store are the same, and each ballot that was promised is of the session that promised it

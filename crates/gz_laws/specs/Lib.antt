@@ -5,6 +5,7 @@ pub mod Bounded
 pub mod Carried
 pub mod Each
 pub mod Exchanged
+pub mod Floors
 pub mod Given
 pub mod Going
 pub mod Heard
@@ -16,6 +17,7 @@ pub mod Pieces
 pub mod Placed
 pub mod Recorded
 pub mod Register
+pub mod Rows
 pub mod Runs
 pub mod Serial
 pub mod Valued

@@ -2,7 +2,7 @@
 use Rattle.std.specs.Prelude.{ℕ, ◌≡◌, ◌⊎◌, List, [], ◌∷◌, ◌++◌, Option, Some, None, slice_get}
 use Rattle.gz_core.specs.Names.{Name, BallotAt}
 use Rattle.gz_core.specs.Calls.{key_of}
-use Rattle.gz_core.specs.Rows.{RowAt}
+use Rattle.gz_core.specs.Rows.{RowAt, IsRow}
 use Rattle.gz_core.specs.Slots.{Act, slots}
 use Rattle.gz_config.specs.declared.Config.{Config}
 use Rattle.gz_core.specs.declared.requests.Op.{Op}
@@ -21,22 +21,19 @@ use Rattle.gz_ledger.specs.Transitions.{Store, Stored, Transition, after_transit
 use Rattle.gz_world.specs.States.{RequestAt, State, numbered}
 use Rattle.gz_laws.specs.Begun.{IsBegunIn}
 use Rattle.gz_laws.specs.Each.{EachTrace}
-use Rattle.gz_laws.specs.Heard.{unused, IsClean, SeenStands, SentStep, AskedHere, CleanOp}
+use Rattle.gz_laws.specs.Heard.{unused, SeenStands, SentStep, AskedHere}
+use Rattle.gz_laws.specs.Rows.{IfKept, IfWritten}
 
 -- the row that a site keeps of the object, and its tag
 abbrev pub stored_of : Option (ℕ × RowAt) → Option Stored
 stored_of None = None
 stored_of (Some kept) = Some (record { etag = kept.0; row = slots kept.1 })
 
-abbrev pub IsCleanStored : Option (ℕ × RowAt) → Type 0
-IsCleanStored None = Unit {0}
-IsCleanStored (Some kept) = IsClean kept.1
-
--- what a site tells of the object is what the store has at its place
+-- what a site tells of the object is what the store has at its place, a row that keeps the rule of rows
 pub record SiteStands (key : List ℕ) (told : Told) (st : Store) (i : ℕ) : Type 0 where
   pub stored : st.stored i ≡ stored_of (told.rows key)
   pub used : st.used i ≡ told.top
-  pub clean : IsCleanStored (told.rows key)
+  pub rule : IfKept IsRow (told.rows key)
 
 -- the object that a request is about
 abbrev pub key_asked : Op → List ℕ
@@ -46,10 +43,10 @@ key_asked (PutBlob blob bytes) = blob.key
 key_asked (GetBlob blob) = blob.key
 key_asked (DropBlob blob) = blob.key
 
--- a request of the object is asked of the store, and its replies are the store's
+-- a request of the object is asked of the store, the row that it writes keeps the rule of rows, and its replies are the store's
 pub record RequestStands (st : Store) (r : RequestAt) : Type 0 where
   pub asked : AskedHere r.name r.site r.op st
-  pub clean : CleanOp r.op
+  pub rule : IfWritten IsRow r.op
   pub replies : (i tick : ℕ) (reply : Reply) → slice_get r.replies i ≡ Some (tick, reply) → SeenStands st r.site (seen_in (written_by r.op) reply)
 
 -- the call of this name is one of the object and sent this step, and where that voted for its own value, it is a write

@@ -9,6 +9,7 @@ ghost use Rattle.gz_laws.specs.Bounded.{AreWithin, CanStand};
 ghost use Rattle.gz_laws.specs.Carried.{AreCarried};
 ghost use Rattle.gz_laws.specs.Each.{EachTrace};
 ghost use Rattle.gz_laws.specs.Exchanged.{AreExchanged};
+ghost use Rattle.gz_laws.specs.Floors.{AreFloorsDue};
 ghost use Rattle.gz_laws.specs.Going.{IsGoingOn};
 ghost use Rattle.gz_laws.specs.Overtaken.{AreOvertaken};
 ghost use Rattle.gz_laws.specs.Placed.{ArePlaced};
@@ -71,6 +72,12 @@ pub fn no_call_gives_in()
     ensures { (s : State) → IsReached s → AllTell s → (session : ℕ) → EachTrace IsGoingOn (s.traces session) }
 {}
 
+/// In a world that is reached and whose sites tell what they hold, a site has collected versions of an object only where a
+/// call of the history is to collect them: so many versions above as that call keeps, or higher, a value is chosen.
+pub fn floors_are_due()
+    ensures { (key : List ℕ) (s : State) → IsReached s → AllTell s → AreFloorsDue key s }
+{}
+
 /// In a world that is reached and whose sites tell what they hold, every value that a row has is one that a call of
 /// the history writes to the row's object: the length of what a put was given and the digests of the records into
 /// which it is cut, or the tombstone of a delete.
@@ -81,7 +88,8 @@ pub fn values_are_given()
 /// The history of a world that is reached and whose sites tell what they hold is legal: two answers that name one
 /// version of an object name one put or delete, each of these is at one version, the versions keep the order of calls
 /// that ended before others began, and a call that reads returns the bytes that the put of its version was given, or
-/// that the object is gone where a delete wrote the version. No call of a world asks for a version by its number yet.
+/// that the object is gone where a delete wrote the version. A call that asks for a version by its number is answered
+/// about that one.
 pub fn legal()
     ensures { (s : State) → IsReached s → AllTell s → IsLegal s.calls }
 {}

@@ -1,12 +1,11 @@
 -- What was shown before a ballot was promised is forced by the ballot's promises.
-use Rattle.std.proofs.Common.{◌≡◌, ℕ, ◌<◌, ◌≤◌, Bool, true, false, List, [], ◌∷◌, ◌++◌, length, Option, Some, None, refl, ap, sym, ◌∙◌, subst, inl, inr, ◌⊎◌, arith}
+use Rattle.std.proofs.Common.{◌≡◌, ℕ, ◌≤◌, true, false, List, [], ◌∷◌, ◌++◌, Some, ap, sym, ◌∙◌, subst, inl, inr, arith}
 use Rattle.std.proofs.lemmas.Bool.{both_ways}
 use Rattle.gz_core.specs.Names.{Name, BallotAt, fast, is_below, same_ballot}
 use Rattle.gz_core.specs.Counts.{count_sites}
-use Rattle.gz_core.specs.Slots.{Promises, VotesClassic}
-use Rattle.gz_core.specs.declared.slots.Slot.TheVariants.{OpenAt}
+use Rattle.gz_core.specs.Slots.{VotesClassic}
 use Rattle.gz_config.specs.declared.Config.{Config}
-use Rattle.gz_core.proofs.Ballots.{below_cases, below_at, same_refl}
+use Rattle.gz_core.proofs.Ballots.{below_cases, below_at}
 use Rattle.gz_core.proofs.Counting.{count_weaker, count_found}
 use Rattle.gz_core.proofs.Quorums.{need_least, need_some, quorums_meet}
 use Rattle.gz_pick.specs.Choices.{pick_of, has_heard_site}
@@ -15,13 +14,13 @@ use Rattle.gz_pick.specs.declared.heard.Pick.TheVariants.{Free}
 use Rattle.gz_model.specs.Choosing.{IsChoosable}
 use Rattle.gz_model.proofs.Choices.{choosable_forced, pick_free}
 use Rattle.gz_model.proofs.Entries.{site_heard, heard_sites}
-use Rattle.gz_ledger.specs.Histories.{IsIn, RowSeen, Write, cast, IsChosenAt, IsShownByRows}
+use Rattle.gz_ledger.specs.Histories.{IsIn, RowSeen, cast, IsChosenAt, IsShownByRows}
 use Rattle.gz_ledger.specs.Guards.{IsPromiseSeen, IsQuorumHeard}
 use Rattle.gz_ledger.specs.Ledgers.{Ledger, Move, Shows, Sends, Takes, after_moves, AreMoves, votes, standing_votes, late_seen}
 use Rattle.gz_ledger.specs.Agreements.{HasQuorums}
-use Rattle.gz_ledger.specs.Transitions.{Transition, AreTransitions, after_transitions, ledger_of, seen_after, sent_after, moves_of, IsUnpromisedByWrites, IsUncastByWrites}
+use Rattle.gz_ledger.specs.Transitions.{Transition, AreTransitions, seen_after, sent_after, moves_of, IsUnpromisedByWrites, IsUncastByWrites}
 use Rattle.gz_ledger.proofs.Follows.{Advances, Follows, advance}
-use Rattle.gz_ledger.proofs.Shown.{IsCast, cast_found, cast_more, shown_more}
+use Rattle.gz_ledger.proofs.Shown.{IsCast, cast_found, cast_more}
 use Rattle.gz_ledger.proofs.Sound.{IsSound, IsChain}
 use Rattle.gz_ledger.proofs.SoundVotes.{are_good, cast_votes, votes_ok, recovered, shown_chosen}
 use Rattle.gz_ledger.proofs.Promised.{promised, unpromised_row}

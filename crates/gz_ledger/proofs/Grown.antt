@@ -7,7 +7,7 @@ use Rattle.gz_core.specs.declared.slots.Slot.TheVariants.{Gone, DecidedAs, OpenA
 use Rattle.gz_config.specs.declared.Config.{Config}
 use Rattle.gz_core.proofs.Counting.{count_weaker}
 use Rattle.gz_model.specs.Choosing.{IsSafe}
-use Rattle.gz_ledger.specs.Histories.{RowSeen, Write, IsProposed, IsPromised}
+use Rattle.gz_ledger.specs.Histories.{RowSeen, Write, IsProposed, IsPromised, IsTrimSent}
 use Rattle.gz_ledger.specs.Ledgers.{Ledger, standing_votes}
 use Rattle.gz_ledger.proofs.Shown.{Includes, chosen_more}
 use Rattle.gz_ledger.proofs.Sound.{IsBuilt, IsVoteSent, SlotOk, ActOk, IsOtherChosen}
@@ -23,8 +23,11 @@ proposed_more sent more v x i p = record { write = p.write; found = i p.write p.
 pub promised_more : (sent more : List Write) (call : Name) (v : ℕ) (b : BallotAt) → Includes sent more → IsPromised sent call v b → IsPromised more call v b
 promised_more sent more call v b i p = record { write = p.write; found = i p.write p.found; same = p.same; promises = p.promises }
 
+trim_more : (sent more : List Write) (v : ℕ) → Includes sent more → IsTrimSent sent v → IsTrimSent more v
+trim_more sent more v i t = record { write = t.write; found = i t.write t.found; to = t.to; value = t.value; trims = t.trims; within = t.within }
+
 pub slot_more : (cfg : Config) (seen more : List RowSeen) (sent many : List Write) (v : ℕ) (slot : Slot) → Includes seen more → Includes sent many → SlotOk cfg seen sent v slot → SlotOk cfg more many v slot
-slot_more cfg seen more sent many v Gone i j h = tt
+slot_more cfg seen more sent many v Gone i j h = trim_more sent many v j h
 slot_more cfg seen more sent many v (DecidedAs x) i j h = (chosen_more cfg seen more v x i h.0, built_more cfg seen more v i h.1)
 slot_more cfg seen more sent many v (OpenAt p None) i j (inl e) = inl e
 slot_more cfg seen more sent many v (OpenAt p None) i j (inr h) = inr (built_more cfg seen more v i h)

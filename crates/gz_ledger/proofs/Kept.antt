@@ -1,5 +1,5 @@
 -- Every run is sound.
-use Rattle.std.proofs.Common.{◌≡◌, ℕ, ◌+◌, true, false, List, [], ◌∷◌, Option, Some, None, refl, ap, ◌∙◌, sym, subst, inl, inr, ◌⊎◌}
+use Rattle.std.proofs.Common.{◌≡◌, ℕ, ◌+◌, ◌≤◌, true, false, List, [], ◌∷◌, Option, Some, None, refl, ap, ◌∙◌, sym, subst, inl, inr, ◌⊎◌}
 use Rattle.std.proofs.lemmas.Bool.{both_ways, cases_eq}
 use Rattle.gz_core.specs.Names.{Name, BallotAt, fast, same_ballot}
 use Rattle.gz_core.specs.Slots.{Act, VotesFast, Promises, VotesClassic, Decides, Trims, Makes, with_slot, trimmed}
@@ -8,7 +8,7 @@ use Rattle.gz_core.specs.declared.slots.Slot.TheVariants.{Gone, DecidedAs, OpenA
 use Rattle.gz_config.specs.declared.Config.{Config}
 use Rattle.gz_core.proofs.Ballots.{same_refl}
 use Rattle.gz_ledger.specs.Acceptors.{Acceptor, new_acceptor, with_acceptor}
-use Rattle.gz_ledger.specs.Histories.{IsIn, RowSeen, Write, VotesFor, IsProposed, IsPromised}
+use Rattle.gz_ledger.specs.Histories.{IsIn, RowSeen, Write, VotesFor, IsProposed, IsPromised, IsTrimSent}
 use Rattle.gz_ledger.specs.Guards.{May}
 use Rattle.gz_ledger.specs.Ledgers.{Ledger, new_ledger, Move, Shows, Sends, Takes, moved, row_of, CanSend, Can, after_moves, AreMoves, standing_votes}
 use Rattle.gz_ledger.specs.Agreements.{HasQuorums}
@@ -196,10 +196,10 @@ each_with P r u slot all new v =
     ]
 
 -- and where versions were collected
-pub each_trimmed : (P : ℕ → Slot → Type 0) (r : Acceptor) (to : ℕ) (x : Name) → ((v : ℕ) → P v (r v)) → ((v : ℕ) → P v Gone) → P (to + 1) (DecidedAs x) → (v : ℕ) → P v (trimmed r to x v)
+pub each_trimmed : (P : ℕ → Slot → Type 0) (r : Acceptor) (to : ℕ) (x : Name) → ((v : ℕ) → P v (r v)) → ((v : ℕ) → v ≤ to → P v Gone) → P (to + 1) (DecidedAs x) → (v : ℕ) → P v (trimmed r to x v)
 each_trimmed P r to x all gone new v =
     elim (trim_cases to v) [
-      | inl l ↦ subst (λ (s : Slot). P v s) (sym (trimmed_gone r to v x l)) (gone v)
+      | inl l ↦ subst (λ (s : Slot). P v s) (sym (trimmed_gone r to v x l)) (gone v l)
       | inr (inl e) ↦ subst (λ (s : Slot). P v s) (sym (trimmed_decided r to v x e)) (subst (λ (k : ℕ). P k (DecidedAs x)) (sym e) new)
       | inr (inr l) ↦ subst (λ (s : Slot). P v s) (sym (trimmed_other r to v x l)) (all v)
     ]
@@ -207,6 +207,10 @@ each_trimmed P r to x all gone new v =
 promised_slot : (cfg : Config) (seen : List RowSeen) (sent : List Write) (v : ℕ) (p b : BallotAt) (vote : Option (BallotAt × Name)) → IsBuilt cfg seen v → SlotOk cfg seen sent v (OpenAt p vote) → SlotOk cfg seen sent v (OpenAt b vote)
 promised_slot cfg seen sent v p b None built h = inr built
 promised_slot cfg seen sent v p b (Some u) built h = h
+
+-- a collection that was sent is one of each version up to its own
+trim_sent : (sent : List Write) (w : Write) (v to : ℕ) (x : Name) → IsIn w sent → w.act ≡ Trims to x → v ≤ to → IsTrimSent sent v
+trim_sent sent w v to x i e low = record { write = w; found = i; to = to; value = x; trims = e; within = low }
 
 -- a step that was sent makes a row that has what stands behind its slots
 made_ok : (cfg : Config) (l : Ledger) (w : Write) (act : Act) (r s : Acceptor) → IsIn w l.sent → w.act ≡ act → ActOk cfg l w.call act → ((v : ℕ) → SlotOk cfg l.seen l.sent v (r v)) → Makes act r s → (v : ℕ) → SlotOk cfg l.seen l.sent v (s v)
@@ -239,7 +243,8 @@ made_ok cfg l w (VotesClassic u b x) r s i e ok all m v =
 made_ok cfg l w (Decides u x) r s i e ok all m v =
     subst (λ (t : Acceptor). SlotOk cfg l.seen l.sent v (t v)) (sym m.1.1.1) (each_with (SlotOk cfg l.seen l.sent) r u (DecidedAs x) all ok v)
 made_ok cfg l w (Trims to x) r s i e ok all m v =
-    subst (λ (t : Acceptor). SlotOk cfg l.seen l.sent v (t v)) (sym m.1.1) (each_trimmed (SlotOk cfg l.seen l.sent) r to x all (λ (u : ℕ). tt) ok v)
+    subst (λ (t : Acceptor). SlotOk cfg l.seen l.sent v (t v)) (sym m.1.1)
+    (each_trimmed (SlotOk cfg l.seen l.sent) r to x all (λ (u : ℕ) (low : u ≤ to). trim_sent l.sent w u to x i e low) ok v)
 
 -- what holds of the new row and of the others holds of each
 pub each_told : (l : Ledger) (w : Write) (P : Acceptor → Type 0) → P w.after → ((s : ℕ) → P (l.told s)) → (s : ℕ) → P (with_acceptor l.told w.site w.after s)

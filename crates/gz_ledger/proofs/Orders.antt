@@ -112,6 +112,7 @@ agreed cfg l so = record {
   once = λ (u v : ℕ) (x : Name) (h : IsShownByRows cfg l.seen u x) (k : IsShownByRows cfg l.seen v x). once cfg l so u v x (shown_chosen cfg l u x so h) (shown_chosen cfg l v x so k);
   settled = settled cfg l so;
   founded = founded cfg l so;
+  collected = λ (v s : ℕ) (e : l.told s v ≡ Gone). subst (λ (slot : Slot). SlotOk cfg l.seen l.sent v slot) e (so.told_ok s v);
   decided = λ (v s : ℕ) (x : Name) (e : l.told s v ≡ DecidedAs x). (subst (λ (slot : Slot). SlotOk cfg l.seen l.sent v slot) e (so.told_ok s v)).0;
   backed = λ (v : ℕ) (x : Name) (h : IsShownByRows cfg l.seen v x). backed cfg l so v x (shown_chosen cfg l v x so h);
 }

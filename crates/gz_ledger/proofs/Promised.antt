@@ -1,12 +1,12 @@
 -- A row that promises a classic ballot tells that the promise was sent.
-use Rattle.std.proofs.Common.{◌≡◌, ℕ, ◌+◌, Bool, true, false, List, [], ◌∷◌, Option, Some, None, refl, ap, sym, ◌∙◌, subst, inl, inr, ◌⊎◌}
+use Rattle.std.proofs.Common.{◌≡◌, ℕ, ◌≤◌, true, false, List, [], ◌∷◌, Option, Some, refl, sym, ◌∙◌, subst, inl, inr, ◌⊎◌}
 use Rattle.gz_core.specs.Names.{Name, BallotAt, fast, same_ballot}
 use Rattle.gz_core.specs.Slots.{Act, VotesFast, Promises, VotesClassic, Decides, Trims, Makes}
 use Rattle.gz_core.specs.declared.slots.Slot.{Slot}
 use Rattle.gz_core.specs.declared.slots.Slot.TheVariants.{Gone, DecidedAs, OpenAt}
 use Rattle.gz_config.specs.declared.Config.{Config}
 use Rattle.gz_core.proofs.Ballots.{same_refl}
-use Rattle.gz_ledger.specs.Acceptors.{Acceptor, with_acceptor}
+use Rattle.gz_ledger.specs.Acceptors.{Acceptor}
 use Rattle.gz_ledger.specs.Histories.{IsIn, RowSeen, Write}
 use Rattle.gz_ledger.specs.Ledgers.{Ledger, Move, Shows, Sends, Takes, row_of, moved, after_moves, Can, AreMoves}
 use Rattle.gz_ledger.specs.Agreements.{HasQuorums}
@@ -46,7 +46,7 @@ made_promised cfg l w (VotesClassic u b x) r s i e ok all m v =
 made_promised cfg l w (Decides u x) r s i e ok all m v =
     subst (λ (t : Acceptor). SlotPromised l.sent v (t v)) (sym m.1.1.1) (each_with (SlotPromised l.sent) r u (DecidedAs x) all tt v)
 made_promised cfg l w (Trims to x) r s i e ok all m v =
-    subst (λ (t : Acceptor). SlotPromised l.sent v (t v)) (sym m.1.1) (each_trimmed (SlotPromised l.sent) r to x all (λ (u : ℕ). tt) tt v)
+    subst (λ (t : Acceptor). SlotPromised l.sent v (t v)) (sym m.1.1) (each_trimmed (SlotPromised l.sent) r to x all (λ (u : ℕ) (low : u ≤ to). tt) tt v)
 
 shown_promised : (l : Ledger) (s : ℕ) → ArePromised l → (e : RowSeen) (v : ℕ) → IsIn e (row_of l s ∷ l.seen) → SlotPromised l.sent v (e.row v)
 shown_promised l s p e v (inl same) = subst (λ (f : RowSeen). SlotPromised l.sent v (f.row v)) (sym same) (p.told s v)

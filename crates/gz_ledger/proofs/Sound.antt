@@ -7,7 +7,7 @@ use Rattle.gz_core.specs.declared.slots.Slot.TheVariants.{Gone, DecidedAs, OpenA
 use Rattle.gz_config.specs.declared.Config.{Config}
 use Rattle.gz_model.specs.Choosing.{IsSafe}
 use Rattle.gz_ledger.specs.Acceptors.{Acceptor}
-use Rattle.gz_ledger.specs.Histories.{IsIn, RowSeen, Write, IsChosenAt, IsProposed, IsPromised}
+use Rattle.gz_ledger.specs.Histories.{IsIn, RowSeen, Write, IsChosenAt, IsProposed, IsPromised, IsTrimSent}
 use Rattle.gz_ledger.specs.Ledgers.{Ledger, standing_votes}
 use Rattle.gz_ledger.specs.Agreements.{HasQuorums}
 use Rattle.gz_ledger.proofs.Follows.{Follows, follows_refl, IsAcceptor}
@@ -30,7 +30,7 @@ pub record IsVoteOk (cfg : Config) (seen : List RowSeen) (sent : List Write) (v 
 
 -- what stands behind a slot
 abbrev pub SlotOk : Config → List RowSeen → List Write → ℕ → Slot → Type 0
-SlotOk cfg seen sent v Gone = Unit {0}
+SlotOk cfg seen sent v Gone = IsTrimSent sent v
 SlotOk cfg seen sent v (DecidedAs x) = IsChosenAt cfg seen v x × IsBuilt cfg seen v
 SlotOk cfg seen sent v (OpenAt p None) = (p ≡ fast) ⊎ IsBuilt cfg seen v
 SlotOk cfg seen sent v (OpenAt p (Some u)) = IsVoteOk cfg seen sent v u

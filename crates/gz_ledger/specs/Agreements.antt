@@ -4,11 +4,11 @@ use Rattle.gz_core.specs.Names.{Name, BallotAt, fast, same_ballot}
 use Rattle.gz_core.specs.Counts.{count_sites}
 use Rattle.gz_core.specs.Configurations.{AreQuorums}
 use Rattle.gz_core.specs.Slots.{VotesClassic}
-use Rattle.gz_core.specs.declared.slots.Slot.TheVariants.{DecidedAs}
+use Rattle.gz_core.specs.declared.slots.Slot.TheVariants.{Gone, DecidedAs}
 use Rattle.gz_config.specs.declared.Config.{Config}
 use Rattle.gz_model.specs.Choosing.{IsSafe}
 use Rattle.gz_ledger.specs.Acceptors.{HasValue}
-use Rattle.gz_ledger.specs.Histories.{IsIn, RowSeen, Write, cast, IsChosenAt, IsShownByRows, IsCurrentByRows, VotesFor, IsProposed}
+use Rattle.gz_ledger.specs.Histories.{IsIn, RowSeen, Write, cast, IsChosenAt, IsShownByRows, IsCurrentByRows, VotesFor, IsProposed, IsTrimSent}
 use Rattle.gz_ledger.specs.Ledgers.{Ledger, Move, Shows, Sends, Takes, after_moves, AreMoves, votes, standing_votes, backs, late_seen}
 
 -- the sizes of the quorums are right
@@ -37,6 +37,8 @@ pub record IsAgreed (cfg : Config) (l : Ledger) : Type 0 where
   pub founded : (v s : ℕ) → 1 ≤ v → HasValue (l.told s (suc v)) → (y : Name) × IsChosenAt cfg l.seen v y
   -- what a site has decided is chosen
   pub decided : (v s : ℕ) (x : Name) → l.told s v ≡ DecidedAs x → IsChosenAt cfg l.seen v x
+  -- what a site has collected, a call sent to be collected
+  pub collected : (v s : ℕ) → l.told s v ≡ Gone → IsTrimSent l.sent v
   -- what is shown is backed by the rows of a classic quorum
   pub backed : (v : ℕ) (x : Name) → IsShownByRows cfg l.seen v x → cfg.qc ≤ count_sites cfg.n (backs l v x)
 

@@ -92,3 +92,12 @@ pub record IsPromised (sent : List Write) (call : Name) (v : ℕ) (b : BallotAt)
   pub found : IsIn write sent
   pub same : write.call ≡ call
   pub promises : write.act ≡ Promises v b
+
+-- a collection of the version was sent: of all versions up to it, or up to one above
+pub record IsTrimSent (sent : List Write) (v : ℕ) : Type 0 where
+  pub write : Write
+  pub found : IsIn write sent
+  pub to : ℕ
+  pub value : Name
+  pub trims : write.act ≡ Trims to value
+  pub within : v ≤ to

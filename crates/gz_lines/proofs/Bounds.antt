@@ -1,14 +1,16 @@
--- The lines of a schedule keep to the bounds of an object.
-use Rattle.std.proofs.Common.{ℕ, ◌≡◌, ◌≤◌, zero, suc, List, [], ◌∷◌, length, refl, sym, subst, arith}
-use Rattle.std.specs.Prelude.{◌==◌, ◌&&◌, Bool, true, false, nat_le, if◌then◌else◌, Vec, Option, Some, None, Result, Ok, Err, IfOk, All, filter_map, map, codes}
+-- The lines of a schedule keep to the bounds of an object and of a version.
+use Rattle.std.proofs.Common.{ℕ, ◌≡◌, ◌^◌, ◌≤◌, ◌<◌, zero, suc, List, [], ◌∷◌, length, refl, sym, subst, arith}
+use Rattle.std.specs.Prelude.{◌==◌, ◌&&◌, Bool, true, false, nat_le, nat_lt, if◌then◌else◌, Vec, Option, Some, None, option_and_then, Result, Ok, Err, IfOk, IfSome, All, filter_map, map, codes}
 use Rattle.std.specs.Result.{result_ok}
 use Rattle.std.specs.List.{slice_split}
 use Rattle.hex.specs.Hex.{decode_of}
 use Rattle.std.proofs.lemmas.Bool.Decides.{nat_tests}
 use Rattle.std.proofs.lemmas.List.Elements.{All-cons, All-nil}
+use Rattle.gz_core.specs.declared.calls.Call.{Call}
 use Rattle.gz_core.specs.declared.calls.Call.TheVariants as calls
 use Rattle.std.specs.declared.alloc.Global.{Global}
 use Rattle.gz_core.specs.declared.texts.TextError.{TextError}
+use Rattle.gz_core.specs.declared.texts.Why.{Why}
 use Rattle.gz_core.specs.declared.texts.Why.TheVariants as whys
 use Rattle.gz_text.specs.declared.faults.Fault.{Fault}
 use Rattle.gz_text.specs.declared.faults.Fault.TheVariants.{Bad, TooLong}
@@ -19,7 +21,7 @@ use Rattle.gz_lines.specs.declared.line.Reading.TheVariants.{Skipped, Faulty, Is
 use Rattle.gz_lines.specs.declared.verbs.Verb.{Verb}
 use Rattle.gz_lines.specs.declared.verbs.Verb.TheVariants as verbs
 use Rattle.gz_text.specs.Texts.{fields_of, lines}
-use Rattle.gz_text.specs.Fields.{number_field, is_word}
+use Rattle.gz_text.specs.Fields.{number_field, is_numeral, value_of, from_one, positive_below, is_word}
 use Rattle.gz_text.specs.Faults.{with, or_bad}
 use Rattle.gz_text.specs.Objects.{within}
 use Rattle.gz_text.specs.Places.{pair_of}
@@ -27,7 +29,7 @@ use Rattle.gz_lines.specs.Bytes.{next, generated, spelled, generated_within, gen
 use Rattle.gz_lines.specs.Counts.{first_of, one_of, two_of, three_of, counted}
 use Rattle.gz_lines.specs.Verbs.{verb_of}
 use Rattle.gz_lines.specs.Grammar.{number_in, session_in, key_in, list_in, number_alone, session_alone, settle_without, settle_by, line_from, is_or_faulty, reading_for, reading_by, read_line}
-use Rattle.gz_lines.specs.Schedule.{IsBoundedLine, line_of, readings, Reads}
+use Rattle.gz_lines.specs.Schedule.{IsBoundedCall, IsBoundedLine, line_of, readings, Reads}
 
 -- what follows from a value that was read has a property
 with-ok : {A B : Type 0} (r : Result A Fault) (f : A → Result B Fault) (P : B → Type 0) → ((a : A) → IfOk (f a) P) → IfOk (with r f) P
@@ -100,6 +102,33 @@ get-bounded fields =
     (λ p. with-ok (session_in p.0) (λ session. with (key_in p.1) (λ key. Ok (Begin session (calls.Get key)))) IsBoundedLine
     (λ session. with-ok (key_in p.1) (λ key. Ok (Begin session (calls.Get key))) IsBoundedLine (λ key. tt)))
 
+-- a number from 1 on below a bound is at least 1, and below it
+from_one-bounded : (t : Bool) (n bound : ℕ) → n < bound → (t ≡ true → 1 ≤ n) → IfSome (if t then Some n else None) (λ x. (1 ≤ x) × (x < bound))
+from_one-bounded true n bound below least = (least refl, below)
+from_one-bounded false n bound below least = tt
+
+below-bounded : (t : Bool) (n bound : ℕ) → (t ≡ true → n < bound) → IfSome (option_and_then from_one (if t then Some n else None)) (λ x. (1 ≤ x) × (x < bound))
+below-bounded true n bound below = from_one-bounded (nat_le 1 n) n bound (below refl) (λ h. grind (arith, nat_tests))
+below-bounded false n bound below = tt
+
+positive-bounded : (bound : ℕ) (field : List ℕ) → IfSome (positive_below bound field) (λ x. (1 ≤ x) × (x < bound))
+positive-bounded bound field = below-bounded (is_numeral field && nat_lt (value_of field) bound) (value_of field) bound (λ h. grind (arith, nat_tests))
+
+known-or-bad : {A : Type 0} (o : Option A) (why : Why) (P : A → Type 0) → IfSome o P → IfOk (or_bad why o) P
+known-or-bad None why P h = tt
+known-or-bad (Some a) why P h = h
+
+-- a line of a session, a key and a number from 1 on below a bound
+bound-bounded : (fields : List (List ℕ)) (bound : ℕ) (f : List ℕ → ℕ → Call) → ((key : List ℕ) (n : ℕ) → (1 ≤ n) × (n < bound) → IsBoundedCall (f key n))
+    → IfOk (counted (three_of fields) (λ p. with (session_in p.0) (λ session. with (key_in p.1) (λ key. with (or_bad whys.Number (positive_below bound p.2)) (λ n. Ok (Begin session (f key n))))))) IsBoundedLine
+bound-bounded fields bound f h =
+    let after : (List ℕ × List ℕ × List ℕ) → ℕ → List ℕ → Result Line Fault = λ p session key. with (or_bad whys.Number (positive_below bound p.2)) (λ n. Ok (Begin session (f key n))) in
+    counted-ok (three_of fields) (λ p. with (session_in p.0) (λ session. with (key_in p.1) (λ key. after p session key))) IsBoundedLine
+    (λ p. with-ok (session_in p.0) (λ session. with (key_in p.1) (λ key. after p session key)) IsBoundedLine
+    (λ session. with-ok (key_in p.1) (λ key. after p session key) IsBoundedLine
+    (λ key. with-known (or_bad whys.Number (positive_below bound p.2)) (λ n. Ok (Begin session (f key n))) (λ n. (1 ≤ n) × (n < bound)) IsBoundedLine
+    (known-or-bad (positive_below bound p.2) whys.Number (λ n. (1 ≤ n) × (n < bound)) (positive-bounded bound p.2)) (λ n known. h key n known))))
+
 reply-bounded : (fields : List (List ℕ)) → IfOk (line_from verbs.Reply fields) IsBoundedLine
 reply-bounded fields =
     counted-ok (two_of fields) (λ p. with (number_in p.0) (λ n. with (number_in p.1) (λ which. Ok (Reply n which)))) IsBoundedLine
@@ -127,6 +156,7 @@ line-bounded verbs.Session fields = if-ok (length fields == 1) (Ok OpenSession) 
 line-bounded verbs.Put fields = put-bounded fields
 line-bounded verbs.Delete fields = delete-bounded fields
 line-bounded verbs.Get fields = get-bounded fields
+line-bounded verbs.GetAt fields = bound-bounded fields (2 ^ 32) (λ key version. calls.GetAt key version) (λ key version known. known)
 line-bounded verbs.Deliver fields = number-bounded (number_alone fields) (λ n. Deliver n) (λ n. tt)
 line-bounded verbs.Reply fields = reply-bounded fields
 line-bounded verbs.GiveUp fields = number-bounded (number_alone fields) (λ n. GiveUp n) (λ n. tt)

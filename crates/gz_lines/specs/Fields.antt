@@ -7,6 +7,10 @@ use Rattle.gz_text.specs.Fields.{number_field, positive_below}
 abbrev pub session_field : List ℕ → Option ℕ
 session_field field = positive_below (2 ^ 32) field
 
+-- a version that a line may ask for
+abbrev pub version_field : List ℕ → Option ℕ
+version_field field = positive_below (2 ^ 32) field
+
 -- a site: a number below 16
 abbrev pub below_sixteen : ℕ → Option ℕ
 below_sixteen n = if nat_lt n 16 then Some n else None

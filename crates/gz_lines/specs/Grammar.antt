@@ -13,7 +13,7 @@ use Rattle.gz_lines.specs.declared.verbs.Verb.TheVariants as verbs
 use Rattle.gz_text.specs.Texts.{fields_of}
 use Rattle.gz_text.specs.Fields.{number_field, key_field, is_word}
 use Rattle.gz_text.specs.Faults.{with, or_bad}
-use Rattle.gz_lines.specs.Fields.{session_field, sites_field}
+use Rattle.gz_lines.specs.Fields.{session_field, version_field, sites_field}
 use Rattle.gz_lines.specs.Bytes.{bytes_in}
 use Rattle.gz_lines.specs.Counts.{first_of, one_of, two_of, three_of, counted}
 use Rattle.gz_lines.specs.Verbs.{verb_of}
@@ -24,6 +24,9 @@ number_in field = or_bad whys.Number (number_field field)
 
 abbrev pub session_in : List ℕ → Result ℕ Fault
 session_in field = or_bad whys.Number (session_field field)
+
+abbrev pub version_in : List ℕ → Result ℕ Fault
+version_in field = or_bad whys.Number (version_field field)
 
 abbrev pub key_in : List ℕ → Result (List ℕ) Fault
 key_in field = or_bad whys.Key (key_field field)
@@ -53,6 +56,10 @@ delete_line fields = counted (two_of fields) (λ p. with (session_in p.0) (λ se
 -- `get S KEY`
 abbrev pub get_line : List (List ℕ) → Result Line Fault
 get_line fields = counted (two_of fields) (λ p. with (session_in p.0) (λ session. with (key_in p.1) (λ key. Ok (Begin session (calls.Get key)))))
+
+-- `getat S KEY V`
+abbrev pub get_at_line : List (List ℕ) → Result Line Fault
+get_at_line fields = counted (three_of fields) (λ p. with (session_in p.0) (λ session. with (key_in p.1) (λ key. with (version_in p.2) (λ version. Ok (Begin session (calls.GetAt key version))))))
 
 -- `deliver N`, `giveup N`, `take N`
 abbrev pub deliver_line : List (List ℕ) → Result Line Fault
@@ -93,6 +100,7 @@ line_from verbs.Session fields = open_line fields
 line_from verbs.Put fields = put_line fields
 line_from verbs.Delete fields = delete_line fields
 line_from verbs.Get fields = get_line fields
+line_from verbs.GetAt fields = get_at_line fields
 line_from verbs.Deliver fields = deliver_line fields
 line_from verbs.Reply fields = reply_line fields
 line_from verbs.GiveUp fields = give_up_line fields

@@ -1,9 +1,10 @@
 -- Which texts are schedules, and the first line of a text that keeps it from being one.
-use Rattle.std.specs.Prelude.{ℕ, ◌≡◌, ◌-◌, ◌<◌, ◌≤◌, Vec, List, length, map, filter_map, Option, Some, None, option_and_then, Result, Ok, Err, slice_get}
+use Rattle.std.specs.Prelude.{ℕ, ◌≡◌, ◌-◌, ◌^◌, ◌<◌, ◌≤◌, Vec, List, length, map, filter_map, Option, Some, None, option_and_then, Result, Ok, Err, slice_get}
 use Rattle.std.specs.declared.alloc.Global.{Global}
+use Rattle.gz_core.specs.declared.calls.Call.{Call}
+use Rattle.gz_core.specs.declared.calls.Call.TheVariants.{Put, Delete, Get, GetAt, Collect}
 use Rattle.gz_core.specs.declared.texts.TextError.{TextError}
 use Rattle.gz_core.specs.declared.texts.TextError.TheVariants.{Bad, TooLong, NoMemory}
-use Rattle.gz_round.specs.Starting.{IsWithin}
 use Rattle.gz_text.specs.declared.faults.Fault.{Fault}
 use Rattle.gz_text.specs.declared.faults.Fault.TheVariants as faults
 use Rattle.gz_text.specs.Faults.{told_number}
@@ -14,10 +15,18 @@ use Rattle.gz_lines.specs.declared.line.Reading.{Reading}
 use Rattle.gz_lines.specs.declared.line.Reading.TheVariants.{Skipped, Faulty, Is}
 use Rattle.gz_lines.specs.Grammar.{read_line}
 
--- the line's call keeps to the bounds of an object
+-- a call keeps to the bounds that lines have, of an object's bytes and of a version; no line asks for a collection yet
+abbrev pub IsBoundedCall : Call → Type 0
+IsBoundedCall (Put key bytes) = length bytes ≤ 1048576
+IsBoundedCall (Delete key) = Unit {0}
+IsBoundedCall (Get key) = Unit {0}
+IsBoundedCall (GetAt key version) = (1 ≤ version) × (version < 2 ^ 32)
+IsBoundedCall (Collect key keep) = ⊥
+
+-- the line's call keeps to them
 abbrev pub IsBoundedLine : Line → Type 0
 IsBoundedLine OpenSession = Unit {0}
-IsBoundedLine (Begin session call) = IsWithin call
+IsBoundedLine (Begin session call) = IsBoundedCall call
 IsBoundedLine (Deliver n) = Unit {0}
 IsBoundedLine (Reply n which) = Unit {0}
 IsBoundedLine (GiveUp n) = Unit {0}

@@ -2,11 +2,11 @@
 use Rattle.std.specs.Prelude.{ℕ, ◌||◌, Bool, if◌then◌else◌, List, Option, Some, None, codes}
 use Rattle.gz_text.specs.Fields.{is_word}
 use Rattle.gz_lines.specs.declared.verbs.Verb.{Verb}
-use Rattle.gz_lines.specs.declared.verbs.Verb.TheVariants.{Session, Put, Delete, Get, Deliver, Reply, GiveUp, Take, Crash, Settle, Drain, Unbuilt}
+use Rattle.gz_lines.specs.declared.verbs.Verb.TheVariants.{Session, Put, Delete, Get, GetAt, Deliver, Reply, GiveUp, Take, Crash, Settle, Drain, Unbuilt}
 
 -- lines that can't be played yet
 abbrev pub is_unbuilt : List ℕ → Bool
-is_unbuilt field = is_word (codes "getat") field || is_word (codes "collect") field || is_word (codes "lose") field || is_word (codes "rot") field
+is_unbuilt field = is_word (codes "collect") field || is_word (codes "lose") field || is_word (codes "rot") field
 
 abbrev pub other_verb_of : List ℕ → Option Verb
 other_verb_of field =
@@ -31,4 +31,5 @@ verb_of field =
     else (if is_word (codes "put") field then Some Put
     else (if is_word (codes "delete") field then Some Delete
     else (if is_word (codes "get") field then Some Get
-    else request_verb_of field)))
+    else (if is_word (codes "getat") field then Some GetAt
+    else request_verb_of field))))

@@ -1,9 +1,9 @@
-//! The forms of fields: sessions and sites; numbers and keys are those of every text.
+//! The forms of fields: sessions, versions and sites; numbers and keys are those of every text.
 ghost use Rattle.std.specs.Prelude.{◌≡◌, IfOk, map, filter_map};
 ghost use Rattle.gz_text.specs.Fields.{number_field};
-ghost use Rattle.gz_lines.specs.Fields.{session_field, site_of, sites_field};
+ghost use Rattle.gz_lines.specs.Fields.{session_field, version_field, site_of, sites_field};
 
-use gz_core::{Items, Session, SiteId};
+use gz_core::{Items, Session, SiteId, Version};
 use gz_text::cut;
 use gz_text::fields::positive;
 pub use gz_text::fields::{key, number};
@@ -15,6 +15,14 @@ pub fn session(field: &[u8]) -> Option<Session>
 {
     let number = positive(field)?;
     Some(Session(number))
+}
+
+/// A version: a number from 1 on.
+pub fn version(field: &[u8]) -> Option<Version>
+    ensures { result ≡ version_field field.now }
+{
+    let number = positive(field)?;
+    Some(Version(number as u64))
 }
 
 /// A site: a number below 16.

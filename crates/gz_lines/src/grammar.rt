@@ -1,14 +1,14 @@
 //! What a line of a schedule reads as. The first fault from the left is told: first that of the word, then that of the
 //! number of fields, then that of a field.
 ghost use Rattle.std.specs.Prelude.{◌≡◌, IfOk, map};
-ghost use Rattle.gz_lines.specs.Grammar.{open_line, put_line, delete_line, get_line, reply_line, settle_without, settle_line, line_from, reading_of, read_line, key_in, list_in};
+ghost use Rattle.gz_lines.specs.Grammar.{open_line, put_line, delete_line, get_line, get_at_line, reply_line, settle_without, settle_line, line_from, reading_of, read_line, key_in, list_in};
 ghost use Rattle.gz_lines.specs.Counts.{three_of};
 
 use crate::bytes::bytes;
 use crate::counts::{first, one, three, two};
 use crate::fields;
 use crate::line::{Line, Reading};
-use crate::numbers::{crash, deliver, drain, give_up, number, session, settle_all, take};
+use crate::numbers::{crash, deliver, drain, give_up, number, session, settle_all, take, version};
 use crate::verbs::{Verb, verb_of};
 use gz_core::{Call, Items, Key, SiteId, Why};
 use gz_text::{Fault, cut};
@@ -47,6 +47,7 @@ fn line(alloc: Global, verb: Verb, fields: &[&[u8]]) -> Result<Result<Line, Faul
         Verb::Put => put(alloc, fields),
         Verb::Delete => delete(alloc, fields),
         Verb::Get => get(alloc, fields),
+        Verb::GetAt => get_at(alloc, fields),
         Verb::Deliver => Ok(deliver(fields)),
         Verb::Reply => Ok(reply(fields)),
         Verb::GiveUp => Ok(give_up(fields)),
@@ -123,6 +124,28 @@ fn get(alloc: Global, fields: &[&[u8]]) -> Result<Result<Line, Fault>, AllocErro
         Err(fault) => return Ok(Err(fault)),
     };
     let call = Call::Get { key };
+    Ok(Ok(Line::Begin { session, call }))
+}
+
+fn get_at(alloc: Global, fields: &[&[u8]]) -> Result<Result<Line, Fault>, AllocError>
+    ensures { IfOk result (λ line. line ≡ get_at_line (map (λ x. x.now) fields.now)) }
+{
+    let Some((owner, key, version_field)) = three(fields) else {
+        return Ok(Err(Fault::Bad(Why::Count)));
+    };
+    let session = match session(owner) {
+        Ok(session) => session,
+        Err(fault) => return Ok(Err(fault)),
+    };
+    let key = match key_in(alloc, key)? {
+        Ok(key) => key,
+        Err(fault) => return Ok(Err(fault)),
+    };
+    let version = match version(version_field) {
+        Ok(version) => version,
+        Err(fault) => return Ok(Err(fault)),
+    };
+    let call = Call::GetAt { key, version };
     Ok(Ok(Line::Begin { session, call }))
 }
 

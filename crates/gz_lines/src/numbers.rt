@@ -1,11 +1,11 @@
-//! Lines of a word and a number, which take no memory.
+//! Numbers in lines, and lines of a word and a number. None takes memory.
 ghost use Rattle.std.specs.Prelude.{◌≡◌, [], map};
-ghost use Rattle.gz_lines.specs.Grammar.{number_in, session_in, number_alone, session_alone, deliver_line, give_up_line, take_line, crash_line, drain_line, settle_by};
+ghost use Rattle.gz_lines.specs.Grammar.{number_in, session_in, version_in, number_alone, session_alone, deliver_line, give_up_line, take_line, crash_line, drain_line, settle_by};
 
 use crate::counts::one;
 use crate::fields;
 use crate::line::Line;
-use gz_core::{Items, Session, Why};
+use gz_core::{Items, Session, Version, Why};
 use gz_text::Fault;
 use std::alloc::Global;
 
@@ -25,6 +25,16 @@ pub fn session(field: &[u8]) -> Result<Session, Fault>
 {
     match fields::session(field) {
         Some(session) => Ok(session),
+        None => Err(Fault::Bad(Why::Number)),
+    }
+}
+
+/// A version.
+pub fn version(field: &[u8]) -> Result<Version, Fault>
+    ensures { result ≡ version_in field.now }
+{
+    match fields::version(field) {
+        Some(version) => Ok(version),
         None => Err(Fault::Bad(Why::Number)),
     }
 }

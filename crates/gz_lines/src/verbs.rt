@@ -9,6 +9,7 @@ pub enum Verb {
     Put,
     Delete,
     Get,
+    GetAt,
     Deliver,
     Reply,
     GiveUp,
@@ -16,7 +17,7 @@ pub enum Verb {
     Crash,
     Settle,
     Drain,
-    /// A line that can't be played yet: `getat`, `collect`, `lose`, `rot`.
+    /// A line that can't be played yet: `collect`, `lose`, `rot`.
     Unbuilt,
 }
 
@@ -32,6 +33,8 @@ pub fn verb_of(word: &[u8]) -> Option<Verb>
         Some(Verb::Delete)
     } else if word == b"get".as_slice() {
         Some(Verb::Get)
+    } else if word == b"getat".as_slice() {
+        Some(Verb::GetAt)
     } else {
         request_verb_of(word)
     }
@@ -64,8 +67,7 @@ fn other_verb_of(word: &[u8]) -> Option<Verb>
         Some(Verb::Settle)
     } else if word == b"drain".as_slice() {
         Some(Verb::Drain)
-    } else if word == b"getat".as_slice()
-        || word == b"collect".as_slice()
+    } else if word == b"collect".as_slice()
         || word == b"lose".as_slice()
         || word == b"rot".as_slice()
     {

@@ -1,12 +1,12 @@
 -- What happens beside the rows of a call, once they are done with or while they wait: requests for blobs, and that its row requests
 -- rest. What was heard and sent of rows stays, and so does what they come to.
-use Rattle.std.proofs.Common.{◌≡◌, ℕ, ◌+◌, ◌<◌, ◌≤◌, max, Bool, false, cond, List, [], ◌∷◌, Some, None, is_some, refl, sym, ap, ◌∙◌, inl, inr, arith, leb}
+use Rattle.std.proofs.Common.{◌≡◌, ℕ, ◌+◌, ◌<◌, ◌≤◌, max, Bool, false, ◌==◌, cond, List, [], ◌∷◌, Some, None, is_some, refl, sym, ap, ◌∙◌, inl, inr, arith, leb}
 use Rattle.gz_core.specs.Names.{Name}
 use Rattle.gz_core.specs.Values.{name_of}
 use Rattle.gz_core.specs.Rows.{RowAt}
 use Rattle.gz_core.specs.declared.values.Value.{Value}
 use Rattle.gz_core.specs.declared.calls.Answer.{Answer}
-use Rattle.gz_core.specs.declared.calls.Answer.TheVariants.{Absent, NoQuorum, Contended, Unsure}
+use Rattle.gz_core.specs.declared.calls.Answer.TheVariants.{Absent, Unborn, Collected, NoQuorum, Contended, Unsure}
 use Rattle.gz_core.specs.declared.calls.UnsureWhy.{UnsureWhy}
 use Rattle.gz_core.specs.declared.calls.UnsureWhy.TheVariants.{NoQuorum as UnsureNoQuorum, Contended as UnsureContended, Trimmed as UnsureTrimmed}
 use Rattle.gz_core.specs.declared.calls.Phase.{Phase}
@@ -19,18 +19,21 @@ use Rattle.gz_round.specs.declared.outcome.Outcome.{Outcome}
 use Rattle.gz_round.specs.declared.outcome.Outcome.TheVariants.{Goes, Placed, Learnt, Ends}
 use Rattle.gz_core.specs.History.{Asked, Action, Sent, Rested, Caller, Trace, is_row_request, asked_of, sent_from}
 use Rattle.gz_round.specs.Sites.{SiteNow, site_now, known, row_seen, is_about_rows, AreBlobs, WasHeard}
-use Rattle.gz_round.specs.Sent.{met, voted, phase_of, top_round}
-use Rattle.gz_round.specs.Shown.{heard_at, IsShown, IsCurrent, IsValueHeard}
+use Rattle.gz_round.specs.Sent.{met, voted, last_vote, phase_of, top_round}
+use Rattle.gz_round.specs.Shown.{heard_at, IsShown, IsCurrent, HasFloor, IsValueHeard}
+use Rattle.gz_round.specs.Targets.{target_of}
 use Rattle.gz_round.specs.Rounds.{top_rounds, rounds_used}
 use Rattle.gz_round.specs.Sending.{AreAllowed, MayRest}
 use Rattle.gz_round.specs.Counting.{outs, known_count, IsGoing, WasSent, IsNoticed}
-use Rattle.gz_round.specs.Causes.{EndsBy, ComesTo, IsChosenOwn, IsLearnt, IsCutOff, IsOvertaken, UnsureCause, is_blank}
+use Rattle.gz_round.specs.Causes.{EndsBy, ComesTo, IsChosenOwn, IsLearnt, IsUnborn, IsCutOff, IsOvertaken, UnsureCause, is_blank}
 use Rattle.gz_round.specs.Standing.{Runs, AreAskedAgain}
 use Rattle.gz_round.specs.Following.{Ready, AreDone}
 use Rattle.gz_round.proofs.Lists.{count_same}
 use Rattle.gz_round.proofs.Heard.{heard_at_more}
 use Rattle.gz_round.proofs.Askable.{ahead_askable}
-use Rattle.gz_round.proofs.Blobs.{blob_site, blob_met, blob_voted, blob_phase, blob_round, blob_allowed, blob_ready, blob_again, blob_runs}
+use Rattle.gz_round.proofs.Targets.{asked_by}
+use Rattle.gz_round.proofs.Votes.{voted_last}
+use Rattle.gz_round.proofs.Blobs.{blob_site, blob_met, blob_vote, blob_phase, blob_round, blob_allowed, blob_ready, blob_again, blob_runs}
 
 -- nothing of rows has happened in between, but that row requests may rest
 pub record IsBeside (ms ns : List Action) : Type 0 where
@@ -38,7 +41,7 @@ pub record IsBeside (ms ns : List Action) : Type 0 where
   pub out : (s : ℕ) → (site_now ns s).out ≡ (site_now ms s).out
   pub unanswered : (s : ℕ) → (site_now ns s).unanswered ≡ (site_now ms s).unanswered
   pub met : met ns ≡ met ms
-  pub voted : (x : Name) → voted x ns ≡ voted x ms
+  pub vote : (x : Name) → last_vote x ns ≡ last_vote x ms
   pub phase : phase_of ns ≡ phase_of ms
   pub round : top_round ns ≡ top_round ms
   pub counted : (c : Config) (p : RowAt → Bool) → heard_at c p ms ≤ heard_at c p ns
@@ -46,7 +49,7 @@ pub record IsBeside (ms ns : List Action) : Type 0 where
   pub sent : (a : Asked) → WasSent ms a → WasSent ns a
 
 pub beside_refl : (ms : List Action) → IsBeside ms ms
-beside_refl ms = record { row = λ s. refl; out = λ s. refl; unanswered = λ s. refl; met = refl; voted = λ x. refl; phase = refl; round = refl; counted = λ c p. omega arith; heard = λ s row h. h; sent = λ a h. h }
+beside_refl ms = record { row = λ s. refl; out = λ s. refl; unanswered = λ s. refl; met = refl; vote = λ x. refl; phase = refl; round = refl; counted = λ c p. omega arith; heard = λ s row h. h; sent = λ a h. h }
 
 pub beside_trans : (ms ns os : List Action) → IsBeside ms ns → IsBeside ns os → IsBeside ms os
 beside_trans ms ns os h k = record {
@@ -54,7 +57,7 @@ beside_trans ms ns os h k = record {
   out = λ (s : ℕ). k.out s ∙ h.out s;
   unanswered = λ (s : ℕ). k.unanswered s ∙ h.unanswered s;
   met = k.met ∙ h.met;
-  voted = λ (x : Name). k.voted x ∙ h.voted x;
+  vote = λ (x : Name). k.vote x ∙ h.vote x;
   phase = k.phase ∙ h.phase;
   round = k.round ∙ h.round;
   counted = λ (c : Config) (p : RowAt → Bool). omega (arith, h.counted c p, k.counted c p);
@@ -69,7 +72,7 @@ beside_blob m ms e = record {
   out = λ (s : ℕ). ap (λ now. now.out) (blob_site m ms s e);
   unanswered = λ (s : ℕ). ap (λ now. now.unanswered) (blob_site m ms s e);
   met = blob_met m ms e;
-  voted = λ (x : Name). blob_voted x m ms e;
+  vote = λ (x : Name). blob_vote x m ms e;
   phase = blob_phase m ms e;
   round = blob_round m ms e;
   counted = λ (c : Config) (p : RowAt → Bool). heard_at_more c p m ms;
@@ -79,7 +82,7 @@ beside_blob m ms e = record {
 
 -- row requests rest
 pub beside_rested : (ms : List Action) → IsBeside ms (Rested ∷ ms)
-beside_rested ms = record { row = λ s. refl; out = λ s. refl; unanswered = λ s. refl; met = refl; voted = λ x. refl; phase = refl; round = refl; counted = λ (c : Config) (p : RowAt → Bool). heard_at_more c p Rested ms; heard = λ s row w. inr w; sent = λ a w. inr w }
+beside_rested ms = record { row = λ s. refl; out = λ s. refl; unanswered = λ s. refl; met = refl; vote = λ x. refl; phase = refl; round = refl; counted = λ (c : Config) (p : RowAt → Bool). heard_at_more c p Rested ms; heard = λ s row w. inr w; sent = λ a w. inr w }
 
 -- requests for blobs
 abbrev pub AreBlobOuts : List Out → Type 0
@@ -122,6 +125,9 @@ pub again_sent : (c : Config) (first : ℕ) (outs : List Out) (ms : List Action)
 again_sent c first [] ms e h = h
 again_sent c first (o ∷ os) ms e h = again_sent c (first + 1) os (Sent (asked_of first o) ∷ ms) e.1 (blob_again c (Sent (asked_of first o)) ms e.0 h)
 
+voted_beside : (x : Name) (ms ns : List Action) → IsBeside ms ns → voted x ns ≡ voted x ms
+voted_beside x ms ns b = sym (voted_last x ns) ∙ (ap (λ o. is_some o) (b.vote x) ∙ voted_last x ms)
+
 pub rounds_beside : (past : List Trace) (ms ns : List Action) → IsBeside ms ns → rounds_used past ns ≡ rounds_used past ms
 rounds_beside past ms ns b = ap (λ (n : ℕ). max (top_rounds past) n) b.round
 
@@ -159,7 +165,7 @@ pub chosen_beside : (c : Config) (w : Caller) (ms ns : List Action) (v : ℕ) �
 chosen_beside c w ms ns v b h = (h.0, h.1, shown_beside c ms ns v w.name b h.2)
 
 pub learnt_beside : (c : Config) (w : Caller) (ms ns : List Action) (v : ℕ) (x : Value) → IsBeside ms ns → IsLearnt c w ms v x → IsLearnt c w ns v x
-learnt_beside c w ms ns v x b h = record { reads = h.reads; shown = shown_beside c ms ns v (name_of x) b h.shown; current = current_beside c ms ns v b h.current; heard = value_beside ms ns v x b h.heard }
+learnt_beside c w ms ns v x b h = record { reads = h.reads; asked = asked_by c (target_of w.call) ms ns v (current_beside c ms ns v b) h.asked; shown = shown_beside c ms ns v (name_of x) b h.shown; heard = value_beside ms ns v x b h.heard }
 
 pub noticed_beside : (c : Config) (w : Caller) (ms ns : List Action) (v : ℕ) → IsBeside ms ns → IsNoticed c w ms v → IsNoticed c w ns v
 noticed_beside c w ms ns v b h s l kept quiet seen last x own done =
@@ -177,16 +183,25 @@ cut_beside c ms ns phase heard b h =
 overtaken_beside : (c : Config) (ms ns : List Action) (m : ℕ) → IsBeside ms ns → IsOvertaken c ms m → IsOvertaken c ns m
 overtaken_beside c ms ns m b h = (let same = b.met in omega (arith, h.0), h.1 ∙ sym b.met)
 
-unsure_beside : (c : Config) (ms ns : List Action) (why : UnsureWhy) → IsBeside ms ns → UnsureCause c ms why → UnsureCause c ns why
-unsure_beside c ms ns (UnsureNoQuorum phase heard) b h = cut_beside c ms ns phase heard b h
-unsure_beside c ms ns (UnsureContended m) b h = overtaken_beside c ms ns m b h
-unsure_beside c ms ns (UnsureTrimmed floor) b h = absurd h
+floor_beside : (c : Config) (ms ns : List Action) (floor : ℕ) → IsBeside ms ns → HasFloor c ms floor → HasFloor c ns floor
+floor_beside c ms ns floor b h = omega (arith, h, b.counted c (λ r. r.floor == floor))
+
+unsure_beside : (c : Config) (w : Caller) (ms ns : List Action) (why : UnsureWhy) → IsBeside ms ns → UnsureCause c w ms why → UnsureCause c w ns why
+unsure_beside c w ms ns (UnsureNoQuorum phase heard) b h = cut_beside c ms ns phase heard b h
+unsure_beside c w ms ns (UnsureContended m) b h = overtaken_beside c ms ns m b h
+unsure_beside c w ms ns (UnsureTrimmed floor) b h =
+    (going_beside c ms ns b h.0, record { version = h.1.version; voted = b.vote w.name ∙ h.1.voted; gone = h.1.gone; heard = floor_beside c ms ns floor b h.1.heard })
+
+unborn_beside : (c : Config) (w : Caller) (ms ns : List Action) (latest : ℕ) → IsBeside ms ns → IsUnborn c w ms latest → IsUnborn c w ns latest
+unborn_beside c w ms ns latest b h = record { reads = h.reads; version = h.version; asked = h.asked; above = h.above; current = current_beside c ms ns latest b h.current; shown = elim h.shown [ inl none ↦ inl none | inr k ↦ inr (k.0, shown_beside c ms ns latest k.0 b k.1) ] }
 
 pub ends_beside : (c : Config) (w : Caller) (ms ns : List Action) (answer : Answer) → IsBeside ms ns → EndsBy c w ms answer → EndsBy c w ns answer
-ends_beside c w ms ns Absent b h = (going_beside c ms ns b h.0, (h.1.0, omega (arith, h.1.1, b.counted c is_blank)))
-ends_beside c w ms ns (NoQuorum phase heard) b h = (b.voted w.name ∙ h.0, cut_beside c ms ns phase heard b h.1)
-ends_beside c w ms ns (Contended m) b h = (b.voted w.name ∙ h.0, overtaken_beside c ms ns m b h.1)
-ends_beside c w ms ns (Unsure why) b h = (b.voted w.name ∙ h.0, unsure_beside c ms ns why b h.1)
+ends_beside c w ms ns Absent b h = (going_beside c ms ns b h.0, record { reads = h.1.reads; asked = h.1.asked; blank = omega (arith, h.1.blank, b.counted c is_blank) })
+ends_beside c w ms ns (Unborn latest) b h = (going_beside c ms ns b h.0, unborn_beside c w ms ns latest b h.1)
+ends_beside c w ms ns (Collected floor) b h = (going_beside c ms ns b h.0, record { reads = h.1.reads; version = h.1.version; asked = h.1.asked; gone = h.1.gone; heard = floor_beside c ms ns floor b h.1.heard })
+ends_beside c w ms ns (NoQuorum phase heard) b h = (voted_beside w.name ms ns b ∙ h.0, cut_beside c ms ns phase heard b h.1)
+ends_beside c w ms ns (Contended m) b h = (voted_beside w.name ms ns b ∙ h.0, overtaken_beside c ms ns m b h.1)
+ends_beside c w ms ns (Unsure why) b h = (voted_beside w.name ms ns b ∙ h.0, unsure_beside c w ms ns why b h.1)
 ends_beside c w ms ns answer b h = absurd h
 
 -- what the rows of a call come to

@@ -1,5 +1,5 @@
 -- What happens to requests for blobs leaves all that a call knows of rows, and what it keeps of them.
-use Rattle.std.proofs.Common.{◌≡◌, ℕ, ◌+◌, ◌<◌, max, true, false, ◌&&◌, ◌==◌, List, [], ◌∷◌, Option, Some, None, is_some, refl, sym, ap, ◌∙◌, subst, inl, inr, arith}
+use Rattle.std.proofs.Common.{◌≡◌, ℕ, ◌+◌, ◌<◌, max, false, ◌&&◌, ◌==◌, List, [], ◌∷◌, Option, Some, None, is_some, refl, sym, ap, ◌∙◌, subst, inl, inr, ◌⊎◌, arith}
 use Rattle.std.proofs.lemmas.Bool.{cond-false, true≢false}
 use Rattle.gz_config.specs.declared.Config.{Config}
 use Rattle.gz_core.specs.declared.requests.RowStep.{RowStep}
@@ -7,25 +7,24 @@ use Rattle.gz_core.specs.declared.requests.Op.{Op}
 use Rattle.gz_core.specs.declared.requests.Op.TheVariants.{WriteRow}
 use Rattle.gz_round.specs.declared.run.Run.{Run}
 use Rattle.gz_core.specs.History.{Action, Sent, Handed, GaveUp, Rested, GaveIn, Caller, Trace, is_row_request}
-use Rattle.gz_round.specs.Sites.{rows_known, site_now, unheard, concerns, is_about_rows, AreBlobs, known, heard_in, seen_in, written_by, is_changed}
-use Rattle.gz_round.specs.Sent.{vote_by, phase_by, promise_by, of_step, of_sent, or_earlier, last_sent, phase_or_look, round_after, top_round, voted, phase_of, overtakes, met}
+use Rattle.gz_round.specs.Sites.{site_now, unheard, concerns, is_about_rows, AreBlobs, known, heard_in, seen_in, written_by, is_changed}
+use Rattle.gz_round.specs.Sent.{vote_by, phase_by, promise_by, of_step, of_sent, or_earlier, last_sent, phase_or_look, round_after, top_round, last_vote, phase_of, overtakes, met}
 use Rattle.gz_round.specs.Rounds.{cast_by, top_rounds}
-use Rattle.gz_round.specs.Sending.{IsAllowed, AreAllowed, MayRead, NoEvidence}
+use Rattle.gz_round.specs.Sending.{IsAllowed, AreAllowed, MayRead, IsUndecided}
 use Rattle.gz_round.specs.Counting.{outs, known_count, IsGoing}
 use Rattle.gz_round.specs.Standing.{Stands, IsSound, AreAskedAgain, Runs, mark_of}
 use Rattle.gz_core.specs.Names.{Name, BallotAt}
-use Rattle.gz_pick.specs.Looks.{highest_of}
 use Rattle.gz_round.specs.declared.run.Stage.{Stage}
 use Rattle.gz_round.specs.declared.run.Stage.TheVariants.{Look, Fast, Prepare, Accept}
-use Rattle.gz_round.specs.Goals.{IsUnmet, AreServed, stage_step}
+use Rattle.gz_round.specs.Goals.{looked_in, IsUnmet, IsSkipping, AreServed, stage_step}
 use Rattle.gz_round.specs.Following.{Ready}
 use Rattle.gz_round.proofs.Lists.{count_same}
 use Rattle.gz_round.proofs.Actions.{now_other}
-use Rattle.gz_round.proofs.Known.{evident_same}
+use Rattle.gz_round.proofs.Known.{undecided_same, skipping_same}
 use Rattle.gz_round.proofs.Notices.{unnoticed_more, blob_tells}
 use Rattle.gz_round.proofs.Askable.{askably_still, askable_same}
 use Rattle.gz_round.proofs.Serves.{settled_more}
-use Rattle.gz_round.proofs.Stages.{IsQuiet, AreKnownBy, unsent, stage_more}
+use Rattle.gz_round.proofs.Stages.{IsQuiet, AreKnownBy, stage_more}
 
 -- it concerns no site
 pub blob_other : (m : Action) (s : ℕ) → is_about_rows m ≡ false → concerns m s ≡ false
@@ -60,16 +59,15 @@ pub blob_unsent : {T : Type 0} (f : RowStep → Option T) (m : Action) → is_ab
 blob_unsent f (Sent a) e = op_unwritten f a.op e
 blob_unsent f m e = refl
 
-pub blob_voted : (x : Name) (m : Action) (ms : List Action) → is_about_rows m ≡ false → voted x (m ∷ ms) ≡ voted x ms
-blob_voted x m ms e = unsent (vote_by x) (λ u. true) m ms (blob_unsent (vote_by x) m e)
+pub blob_vote : (x : Name) (m : Action) (ms : List Action) → is_about_rows m ≡ false → last_vote x (m ∷ ms) ≡ last_vote x ms
+blob_vote x m ms e = ap (λ o. or_earlier o (last_vote x ms)) (blob_unsent (vote_by x) m e)
 
 pub blob_phase : (m : Action) (ms : List Action) → is_about_rows m ≡ false → phase_of (m ∷ ms) ≡ phase_of ms
 blob_phase m ms e = ap (λ o. phase_or_look (or_earlier o (last_sent phase_by ms))) (blob_unsent phase_by m e)
 
 blob_quiet : (w : Caller) (m : Action) (ms : List Action) → is_about_rows m ≡ false → IsQuiet w m ms
 blob_quiet w m ms e = record {
-  voted = blob_voted w.name m ms e;
-  voted_at = λ (u : ℕ). unsent (vote_by w.name) (λ k. k == u) m ms (blob_unsent (vote_by w.name) m e);
+  vote = blob_unsent (vote_by w.name) m e;
   phase = blob_phase m ms e;
   promise = blob_unsent promise_by m e;
   cast = blob_unsent cast_by m e;
@@ -99,8 +97,10 @@ blob_stands c w past run m ms e h =
     record {
       name_is = h.name_is;
       key_is = h.key_is;
+      target_is = h.target_is;
       own_is = h.own_is;
       named = h.named;
+      writes = h.writes;
       knows = record {
         rows_len = h.knows.rows_len;
         marks_len = h.knows.marks_len;
@@ -108,7 +108,7 @@ blob_stands c w past run m ms e h =
         marks = λ (s : ℕ) (l : s < c.n). h.knows.marks s l ∙ ap (λ now. Some (mark_of now)) (sym (blob_site m ms s e));
       };
       met_is = h.met_is ∙ sym (blob_met m ms e);
-      voted_is = h.voted_is ∙ sym quiet.voted;
+      vote_is = h.vote_is ∙ sym (blob_vote w.name m ms e);
       wrote_is = h.wrote_is ∙ sym quiet.phase;
       round_is = h.round_is ∙ ap (λ (n : ℕ). max (top_rounds past) n) (sym (blob_round m ms e));
       sites = λ (s : ℕ). subst (λ now. IsSound now s) (sym (blob_site m ms s e)) (h.sites s);
@@ -135,17 +135,22 @@ blob_going c m ms e h =
     record { few = omega arith; enough = omega arith }
 
 -- the goal of a phase stays unmet
-blob_evidence : (c : Config) (m : Action) (ms : List Action) (v : ℕ) → is_about_rows m ≡ false → NoEvidence c ms v → NoEvidence c (m ∷ ms) v
-blob_evidence c m ms v e none x evident = none x (evident_same c (rows_known (m ∷ ms)) (rows_known ms) v x (λ (s : ℕ) (l : s < c.n). ap known (blob_site m ms s e)) evident)
+blob_undecided : (c : Config) (m : Action) (ms : List Action) (v : ℕ) → is_about_rows m ≡ false → IsUndecided c ms v → IsUndecided c (m ∷ ms) v
+blob_undecided c m ms v e h = undecided_same c ms (m ∷ ms) v (λ (s : ℕ). ap known (blob_site m ms s e)) h
 
 blob_unmet : (c : Config) (run : Run) (m : Action) (ms : List Action) (stage : Stage) → is_about_rows m ≡ false → IsUnmet c run stage ms → IsUnmet c run stage (m ∷ ms)
 blob_unmet c run m ms Look e (inl few) =
     let same : known_count c (m ∷ ms) ≡ known_count c ms = count_same c.n (λ s. is_some (known (site_now (m ∷ ms) s))) (λ s. is_some (known (site_now ms s))) (λ (s : ℕ) (l : s < c.n). ap (λ now. is_some (known now)) (blob_site m ms s e)) in
     inl (omega arith)
-blob_unmet c run m ms Look e (inr none) = inr (none.0, blob_evidence c m ms (highest_of run.rows) e none.1)
-blob_unmet c run m ms (Fast v) e none = blob_evidence c m ms v e none
-blob_unmet c run m ms (Prepare v b found) e none = blob_evidence c m ms v e none
-blob_unmet c run m ms (Accept v b x) e none = blob_evidence c m ms v e none
+blob_unmet c run m ms Look e (inr none) = inr (none.0, blob_undecided c m ms (looked_in run) e none.1)
+blob_unmet c run m ms (Fast v) e none = blob_undecided c m ms v e none
+blob_unmet c run m ms (Prepare v b found) e none = blob_undecided c m ms v e none
+blob_unmet c run m ms (Accept v b x) e none = blob_undecided c m ms v e none
+
+-- or just begun above a floor
+blob_phase_unmet : (c : Config) (run : Run) (m : Action) (ms : List Action) (stage : Stage) → is_about_rows m ≡ false → IsUnmet c run stage ms ⊎ IsSkipping c stage ms → IsUnmet c run stage (m ∷ ms) ⊎ IsSkipping c stage (m ∷ ms)
+blob_phase_unmet c run m ms stage e (inl unmet) = inl (blob_unmet c run m ms stage e unmet)
+blob_phase_unmet c run m ms stage e (inr skipping) = inr (skipping_same c ms (m ∷ ms) stage (λ (s : ℕ). ap known (blob_site m ms s e)) skipping)
 
 -- and all that may be asked was asked
 blob_served : (c : Config) (w : Caller) (m : Action) (ms : List Action) (step : Option RowStep) → is_about_rows m ≡ false → AreServed c w ms step → AreServed c w (m ∷ ms) step
@@ -164,7 +169,7 @@ blob_runs c w past run m ms e h =
     record {
       stands = blob_stands c w past run m ms e h.stands;
       stage = stage_more c w past m ms run.stage (blob_known m ms e) (blob_quiet w m ms e) h.stage;
-      unmet = blob_unmet c run m ms run.stage e h.unmet;
+      unmet = blob_phase_unmet c run m ms run.stage e h.unmet;
       few = h.few;
       ahead = h.ahead;
       served = blob_served c w m ms (stage_step run) e h.served;

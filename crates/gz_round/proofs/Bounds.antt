@@ -35,7 +35,7 @@ step_below c w past ms (FastVote v x) r used high allowed may = omega arith
 step_below c w past ms (Promise v b) r used high allowed may = omega (arith, promise_below c w past ms v b r used high allowed may.round)
 step_below c w past ms (ClassicVote v b x) r used high allowed may = omega arith
 step_below c w past ms (Decide v x) r used high allowed may = omega arith
-step_below c w past ms (Trim to x) r used high allowed may = absurd may
+step_below c w past ms (Trim to x) r used high allowed may = omega arith
 
 op_below : (c : Config) (w : Caller) (past : List Trace) (ms : List Action) (now : SiteNow) (op : Op) (r : ℕ) → rounds_used past ms < r → 2 ^ 31 ≤ r → AreAllowed c w past ms → (is_row_request op ≡ true → MayAsk c w past ms now op) → max (top_rounds past) (round_after (of_step promise_by op) (top_round ms)) < r + 1
 op_below c w past ms now (WriteRow key expect step row) r used high allowed may = step_below c w past ms step r used high allowed (may refl).1.guard

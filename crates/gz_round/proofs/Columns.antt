@@ -72,6 +72,10 @@ stand_columns n row h =
 pub stands_low : (n : ℕ) (row : RowAt) → can_stand n row ≡ true → row_top row < 2 ^ 62
 stands_low n row h = low_columns n row.columns (stand_columns n row h)
 
+-- nor has it a floor beyond those
+pub stands_floor : (n : ℕ) (row : RowAt) → can_stand n row ≡ true → row.floor < 2 ^ 62
+stands_floor n row h = ltb-true row.floor (2 ^ 62) (and_parts (nat_lt row.floor (2 ^ 62)) (nat_lt (length row.columns) (2 ^ 22) && list_all (entry_stands n) row.columns) h).0
+
 round_column : (n : ℕ) (column : Column) → column_stands n column ≡ true → slot_round (slot_of (Some column)) < 2 ^ 31
 round_column n (Open promise vote) h = ltb-true promise.round (2 ^ 31) (and_parts (nat_lt promise.round (2 ^ 31)) (vote_stands n vote) h).0
 round_column n (Decided value) h = omega arith

@@ -12,15 +12,16 @@ use Rattle.gz_round.specs.Causes.{EndsBy, IsCutOff, IsOvertaken}
 use Rattle.gz_round.specs.Standing.{Stands}
 use Rattle.gz_round.specs.Acting.{contended_of, cut_off_of}
 use Rattle.gz_round.proofs.Known.{known_counted}
+use Rattle.gz_round.proofs.Votes.{voted_is}
 
 -- a call that was overtaken as often as it tries
 pub contended_cause : (c : Config) (w : Caller) (past : List Trace) (run : Run) (ms : List Action) → Stands c w past run ms → c.tries ≤ run.met → EndsBy c w ms (contended_of run)
 contended_cause c w past run ms h often =
     let met_is = h.met_is in
     let overtaken : IsOvertaken c ms run.met = (omega arith, met_is) in
-    elim (cases_Bool run.voted) [
-      | inl e ↦ subst (EndsBy c w ms) (sym (cond-true run.voted (Unsure (UnsureContended run.met)) (Contended run.met) e)) (sym h.voted_is ∙ e, overtaken)
-      | inr e ↦ subst (EndsBy c w ms) (sym (cond-false run.voted (Unsure (UnsureContended run.met)) (Contended run.met) e)) (sym h.voted_is ∙ e, overtaken)
+    elim (cases_Bool (is_some run.last_vote)) [
+      | inl e ↦ subst (EndsBy c w ms) (sym (cond-true (is_some run.last_vote) (Unsure (UnsureContended run.met)) (Contended run.met) e)) (sym (voted_is c w past run ms h) ∙ e, overtaken)
+      | inr e ↦ subst (EndsBy c w ms) (sym (cond-false (is_some run.last_vote) (Unsure (UnsureContended run.met)) (Contended run.met) e)) (sym (voted_is c w past run ms h) ∙ e, overtaken)
     ]
 
 -- a call with too few sites left
@@ -29,7 +30,7 @@ cut_off_cause c w past run ms h few lost =
     let met_is = h.met_is in
     let heard : ℕ = count_by (λ row. is_some row) run.rows in
     let cut : IsCutOff c ms run.wrote (count_by (λ row. is_some row) run.rows) = record { few = omega arith; lost = lost; phase_is = h.wrote_is; heard_is = known_counted c run ms h.knows } in
-    elim (cases_Bool run.voted) [
-      | inl e ↦ subst (EndsBy c w ms) (sym (cond-true run.voted (Unsure (UnsureNoQuorum run.wrote (count_by (λ row. is_some row) run.rows))) (NoQuorum run.wrote (count_by (λ row. is_some row) run.rows)) e)) (sym h.voted_is ∙ e, cut)
-      | inr e ↦ subst (EndsBy c w ms) (sym (cond-false run.voted (Unsure (UnsureNoQuorum run.wrote (count_by (λ row. is_some row) run.rows))) (NoQuorum run.wrote (count_by (λ row. is_some row) run.rows)) e)) (sym h.voted_is ∙ e, cut)
+    elim (cases_Bool (is_some run.last_vote)) [
+      | inl e ↦ subst (EndsBy c w ms) (sym (cond-true (is_some run.last_vote) (Unsure (UnsureNoQuorum run.wrote (count_by (λ row. is_some row) run.rows))) (NoQuorum run.wrote (count_by (λ row. is_some row) run.rows)) e)) (sym (voted_is c w past run ms h) ∙ e, cut)
+      | inr e ↦ subst (EndsBy c w ms) (sym (cond-false (is_some run.last_vote) (Unsure (UnsureNoQuorum run.wrote (count_by (λ row. is_some row) run.rows))) (NoQuorum run.wrote (count_by (λ row. is_some row) run.rows)) e)) (sym (voted_is c w past run ms h) ∙ e, cut)
     ]

@@ -1,7 +1,7 @@
 -- What follows from the rows that are known.
-use Rattle.std.proofs.Common.{◌≡◌, ◌≢◌, ℕ, ◌+◌, ◌<◌, ◌≤◌, Bool, true, false, ◌&&◌, ◌||◌, ◌==◌, List, [], ◌∷◌, length, Option, Some, None, is_some, MatchOption, refl, sym, ap, ◌∙◌, subst, inl, inr, arith, leb}
+use Rattle.std.proofs.Common.{◌≡◌, ◌≢◌, ℕ, ◌+◌, ◌<◌, ◌≤◌, Bool, true, false, ◌==◌, List, [], ◌∷◌, length, Option, Some, None, is_some, MatchOption, refl, sym, ap, ◌∙◌, subst, inl, inr, arith, leb}
 use Rattle.std.specs.List.{slice_get, list_all}
-use Rattle.std.proofs.lemmas.Bool.{cases_Bool, cases_eq, cond-true, cond-false, and_parts, and_from, true≢false, false≢true, both_ways, or_cases, or_left, or_right, le-leb, leb-true, eqb-true, eq-eqb}
+use Rattle.std.proofs.lemmas.Bool.{cases_Bool, cases_eq, cases_lt, cond-true, cond-false, and_parts, and_from, true≢false, false≢true, both_ways, le-leb, leb-true, eqb-true, eq-eqb}
 use Rattle.std.proofs.lemmas.Option.{same_Some, none-some, slice_get_within}
 use Rattle.gz_core.specs.Names.{Name, BallotAt, same_ballot, fast}
 use Rattle.gz_core.specs.Rows.{RowAt, column_in}
@@ -14,29 +14,33 @@ use Rattle.gz_core.specs.Slots.{slot_of}
 use Rattle.gz_core.proofs.SlotNames.{decision_named, vote_named}
 use Rattle.gz_pick.specs.Evidences.{votes_for, decides, IsEvidence, row_at, is_for, is_named}
 use Rattle.gz_round.specs.declared.run.Run.{Run}
-use Rattle.gz_round.specs.declared.following.Next.TheVariants.{Vote as VoteAt, Chosen}
-use Rattle.gz_core.specs.History.{Action, Sent, Handed, GaveUp, Rested, GaveIn, Caller, Trace}
+use Rattle.gz_round.specs.declared.run.Target.{Target}
+use Rattle.gz_round.specs.declared.run.Target.TheVariants.{Latest, At}
+use Rattle.gz_round.specs.declared.following.Next.TheVariants.{Vote as VoteAt, Chosen, Learnt as LearntNext, Absent as AbsentNext, Unborn as UnbornNext, Collected as CollectedNext}
+use Rattle.gz_core.specs.History.{Action, Caller, Trace}
 use Rattle.gz_round.specs.Sites.{some_heard}
-use Rattle.gz_core.specs.declared.requests.RowStep.{RowStep}
-use Rattle.gz_core.specs.declared.requests.RowStep.TheVariants.{FastVote, Promise, ClassicVote, Decide, Trim}
-use Rattle.gz_core.specs.declared.requests.Op.{Op}
-use Rattle.gz_core.specs.declared.requests.Op.TheVariants.{WriteRow}
 use Rattle.gz_core.specs.declared.calls.Phase.TheVariants.{Look as NotBegun}
-use Rattle.gz_round.specs.Sent.{voted, voted_at, vote_by, phase_by, promise_by, of_step, of_sent, or_earlier, last_sent, passes_sent, phase_of, phase_or_look, has_promised_at, IsUnpromised}
-use Rattle.gz_round.specs.Shown.{heard_at, IsShown, IsCurrent, IsClear}
-use Rattle.gz_round.specs.Sending.{MayFastVote}
+use Rattle.gz_round.specs.Sent.{voted, voted_at, phase_of}
+use Rattle.gz_round.specs.Shown.{heard_at, IsShown, IsCurrent, HasFloor}
+use Rattle.gz_round.specs.Targets.{target_of, looked_at, IsAim, IsAskedFor}
+use Rattle.gz_round.specs.Floors.{top_floor_of, AreRows, NoneAskedIn, AreNoneAsked, IsAskedBelow}
+use Rattle.gz_round.specs.Sending.{IsUndecided}
 use Rattle.gz_round.specs.Causes.{is_blank, rows_known}
 use Rattle.gz_round.specs.Counting.{known_count}
 use Rattle.gz_round.specs.declared.run.Stage.{Stage}
 use Rattle.gz_round.specs.declared.run.Stage.TheVariants.{Look, Fast, Prepare, Accept}
-use Rattle.gz_round.specs.Standing.{Stands, StageStands}
+use Rattle.gz_round.specs.Standing.{Knows, Stands, StageStands, WritesLatest, AreVotesBelow, AreVotesUpTo, IsVoteNext}
 use Rattle.gz_round.specs.Evidence.{NoneEvident, EvidentAt}
 use Rattle.gz_round.specs.Following.{NoEvidence, NextMeans, MayPass, IsUnwritten, IsFound, IsStageAt, is_topless, is_blank_known}
-use Rattle.gz_round.specs.Goals.{IsUnmet}
+use Rattle.gz_round.specs.Goals.{IsUnmet, looked_in}
 use Rattle.gz_round.proofs.Lists.{all_at}
 use Rattle.gz_round.proofs.Heard.{counted_heard, heard_means, heard_passes}
 use Rattle.gz_round.proofs.Columns.{named_top, top_highest}
-use Rattle.gz_round.proofs.Known.{listed_shown, known_current, known_heard}
+use Rattle.gz_round.proofs.Known.{listed_shown, known_current, known_heard, none_evident}
+use Rattle.gz_round.proofs.Votes.{unvoted_clear, voted_some}
+use Rattle.gz_round.proofs.Unpromised.{looks_unpromised, unpromised_from}
+use Rattle.gz_round.proofs.Targets.{looked_aim, vote_passes, writes_current}
+use Rattle.gz_round.proofs.HeardFloors.{some_row, floors_highest, none_gone, top_floor_heard}
 
 placed : (rows : List (Option RowAt)) (s : ℕ) (row : RowAt) (o : Option (Option RowAt)) → slice_get rows s ≡ o → row_at rows s ≡ Some row → slice_get rows s ≡ Some (Some row)
 placed rows s row None e h = absurd (none-some row (sym (rw e refl) ∙ h))
@@ -81,47 +85,53 @@ heard_weaker c p q ms h = count_weaker c.n (some_heard p ms) (some_heard q ms) (
 counted_weaker : (c : Config) (ms : List Action) (v u : ℕ) → v ≤ u → heard_at c (λ r. leb (row_top r) v) ms ≤ heard_at c (λ r. leb (row_top r) u) ms
 counted_weaker c ms v u l = heard_weaker c (λ r. leb (row_top r) v) (λ r. leb (row_top r) u) ms (λ (r : RowAt) (k : leb (row_top r) v ≡ true). le-leb (row_top r) u (omega (arith, leb-true (row_top r) v k)))
 
-current_next : (c : Config) (ms : List Action) (v u : ℕ) → v ≤ u → IsCurrent c ms v → IsCurrent c ms u
+pub current_next : (c : Config) (ms : List Action) (v u : ℕ) → v ≤ u → IsCurrent c ms v → IsCurrent c ms u
 current_next c ms v u l h = omega (arith, h, counted_weaker c ms v u l)
 
--- another value is chosen, and the call may vote at the next version
-pub other_means : (c : Config) (w : Caller) (past : List Trace) (run : Run) (ms : List Action) (v s : ℕ) → Stands c w past run ms → MayPass c w ms v → (e : EvidentAt c run.rows v s) → (row_name e.row v ≡ Some run.name → ⊥) → MayFastVote c w ms (v + 1)
-other_means c w past run ms v s h m e other =
-    let shown : IsShown c ms v e.name = listed_shown c run ms h.knows v e.name e.evident in
-    let differs : e.name ≢ w.name = λ (k : e.name ≡ w.name). other (e.named ∙ ap (λ (x : Name). Some x) (k ∙ sym h.name_is)) in
-    record {
-      above = omega arith;
-      current = current_next c ms v (v + 1) (omega arith) m.current;
-      next = inr (v, e.name, refl, shown);
-      clear = λ (u : ℕ) (n : u ≢ v + 1) (k : voted_at w.name ms u ≡ true). elim (cases_eq u v) [
-        | inl same ↦ (e.name, differs, subst (λ (z : ℕ). IsShown c ms z e.name) (sym same) shown)
-        | inr apart ↦ m.clear u apart k
-      ];
-    }
+none_own : (o : Option Value) (t : Target) (version : ℕ) → ((x : Value) → o ≡ Some x → t ≡ Latest) → t ≡ At version → o ≡ None
+none_own None t version latest at = refl
+none_own (Some x) t version latest at = let apart : ◌≡◌ {A = Target} Latest (At version) = sym (latest x refl) ∙ at in absurd (cc)
 
--- no promise above a version is none above a later one
-pub unpromised_from : (ms : List Action) (v u : ℕ) → v ≤ u → IsUnpromised ms v → IsUnpromised ms u
-unpromised_from ms v u l h k d m = h k d (omega arith)
+-- one that asks for a version by its number writes nothing
+pub reads_at : (c : Config) (w : Caller) (past : List Trace) (run : Run) (ms : List Action) (version : ℕ) → Stands c w past run ms → run.target ≡ At version → w.own ≡ None
+reads_at c w past run ms version h at = none_own w.own (target_of w.call) version h.writes (sym h.target_is ∙ at)
 
--- a call that may vote may pass on
-pub pass_from : (c : Config) (w : Caller) (ms : List Action) (v : ℕ) → MayFastVote c w ms v → IsUnpromised ms v → MayPass c w ms v
-pass_from c w ms v h later = record { above = h.above; current = h.current; clear = h.clear; later = unpromised_from ms v (v + 1) (omega arith) later }
+pub votes_up : (w : Caller) (ms : List Action) (v : ℕ) → AreVotesBelow w ms v → AreVotesUpTo w ms v
+votes_up w ms v below u k = inl (below u k)
 
-some_passes : (o : Option ℕ) (u : ℕ) → passes_sent (λ k. k == u) o ≡ true → passes_sent (λ k. true) o ≡ true
-some_passes None u h = absurd (false≢true h)
-some_passes (Some k) u h = refl
-
-voted_some : (x : Name) (ms : List Action) (u : ℕ) → voted_at x ms u ≡ true → voted x ms ≡ true
-voted_some x [] u h = absurd (false≢true h)
-voted_some x (m ∷ ms) u h =
-    elim (or_cases (passes_sent (λ k. k == u) (of_sent (vote_by x) m)) (voted_at x ms u) h) [
-      | inl e ↦ or_left (passes_sent (λ k. true) (of_sent (vote_by x) m)) (voted x ms) (some_passes (of_sent (vote_by x) m) u e)
-      | inr e ↦ or_right (passes_sent (λ k. true) (of_sent (vote_by x) m)) (voted x ms) (voted_some x ms u e)
+pub votes_later : (w : Caller) (ms : List Action) (v u : ℕ) → v < u → AreVotesUpTo w ms v → AreVotesBelow w ms u
+votes_later w ms v u l votes t k =
+    elim (votes t k) [
+      | inl low ↦ omega arith
+      | inr last ↦ (let same = last.0 in omega arith)
     ]
 
--- a call that hasn't voted is clear everywhere
-pub unvoted_clear : (c : Config) (x : Name) (ms : List Action) (v : ℕ) → voted x ms ≡ false → IsClear c x ms v
-unvoted_clear c x ms v h u n k = absurd (both_ways (voted x ms) h (voted_some x ms u k))
+-- another value is chosen, and the call may vote at the next version
+pub other_means : (c : Config) (w : Caller) (past : List Trace) (run : Run) (ms : List Action) (v s : ℕ) → Stands c w past run ms → is_some run.own ≡ true → MayPass c w ms v → (e : EvidentAt c run.rows v s) → (row_name e.row v ≡ Some run.name → ⊥) → IsVoteNext c w ms (v + 1) × AreVotesBelow w ms (v + 1)
+other_means c w past run ms v s h some m e other =
+    let shown : IsShown c ms v e.name = listed_shown c run ms h.knows v e.name e.evident in
+    let differs : e.name ≢ w.name = λ (k : e.name ≡ w.name). other (e.named ∙ ap (λ (x : Name). Some x) (k ∙ sym h.name_is)) in
+    let own = own_of c w past run ms h some in
+    let below : AreVotesBelow w ms (v + 1) = votes_later w ms v (v + 1) (omega arith) m.votes in (
+      record {
+        may = record {
+          above = omega arith;
+          current = current_next c ms v (v + 1) (omega arith) (writes_current c w ms v own.0 h.writes own.1 m.aim);
+          next = inr (v, e.name, refl, shown);
+          clear = λ (u : ℕ) (n : u ≢ v + 1) (k : voted_at w.name ms u ≡ true). elim (cases_eq u v) [
+            | inl same ↦ (e.name, differs, subst (λ (z : ℕ). IsShown c ms z e.name) (sym same) shown)
+            | inr apart ↦ m.clear u apart k
+          ];
+        };
+        own = own;
+        unpromised = m.later;
+        votes = votes_up w ms (v + 1) below;
+      },
+      below,
+    )
+
+unvoted_below : (w : Caller) (ms : List Action) (v : ℕ) → voted w.name ms ≡ false → AreVotesBelow w ms v
+unvoted_below w ms v h u k = absurd (both_ways (voted w.name ms) h (voted_some w.name ms u k))
 
 for_some : (b : BallotAt) (x : Name) (o : Option (BallotAt × Name)) → is_for b x o ≡ true → (vote : BallotAt × Name) × (o ≡ Some vote)
 for_some b x None h = absurd (false≢true h)
@@ -169,77 +179,97 @@ topless_highest (Some row ∷ rows) e =
 pub highest_positive : (rows : List (Option RowAt)) → list_all is_topless rows ≡ false → 1 ≤ highest_of rows
 highest_positive rows h = elim (cases_eq (highest_of rows) 0) [ inl e ↦ absurd (both_ways (list_all is_topless rows) h (topless_highest rows e)) | inr n ↦ omega arith ]
 
-some_row : (o : Option RowAt) → is_some o ≡ true → (row : RowAt) × (o ≡ Some row)
-some_row None h = absurd (false≢true h)
-some_row (Some row) h = (row, refl)
-
-step_unpromised : (step : RowStep) (ms : List Action) (u : ℕ) (d : BallotAt) → phase_or_look (or_earlier (phase_by step) (last_sent phase_by ms)) ≡ NotBegun → has_promised_at ms u d ≡ false → (passes_sent (λ p. (p.0 == u) && same_ballot p.1 d) (promise_by step) || has_promised_at ms u d) ≡ false
-step_unpromised (FastVote v x) ms u d e h = h
-step_unpromised (Promise v b) ms u d e h = absurd (cc)
-step_unpromised (ClassicVote v b x) ms u d e h = h
-step_unpromised (Decide v x) ms u d e h = h
-step_unpromised (Trim to x) ms u d e h = h
-
-earlier_looks : (step : RowStep) (ms : List Action) → phase_or_look (or_earlier (phase_by step) (last_sent phase_by ms)) ≡ NotBegun → phase_of ms ≡ NotBegun
-earlier_looks (FastVote v x) ms e = absurd (cc)
-earlier_looks (Promise v b) ms e = absurd (cc)
-earlier_looks (ClassicVote v b x) ms e = absurd (cc)
-earlier_looks (Decide v x) ms e = e
-earlier_looks (Trim to x) ms e = absurd (cc)
-
-op_unpromised : (op : Op) (ms : List Action) (u : ℕ) (d : BallotAt) → phase_or_look (or_earlier (of_step phase_by op) (last_sent phase_by ms)) ≡ NotBegun → (phase_of ms ≡ NotBegun → has_promised_at ms u d ≡ false) → (passes_sent (λ p. (p.0 == u) && same_ballot p.1 d) (of_step promise_by op) || has_promised_at ms u d) ≡ false
-op_unpromised (WriteRow key expect step row) ms u d e h = step_unpromised step ms u d e (h (earlier_looks step ms e))
-op_unpromised op ms u d e h = h e
-
-none_promised : (ms : List Action) (u : ℕ) (d : BallotAt) → phase_of ms ≡ NotBegun → has_promised_at ms u d ≡ false
-none_promised [] u d e = refl
-none_promised (Sent a ∷ ms) u d e = op_unpromised a.op ms u d e (none_promised ms u d)
-none_promised (Handed a reply ∷ ms) u d e = none_promised ms u d e
-none_promised (GaveUp a ∷ ms) u d e = none_promised ms u d e
-none_promised (Rested ∷ ms) u d e = none_promised ms u d e
-none_promised (GaveIn ∷ ms) u d e = none_promised ms u d e
-
--- a call that has sent no row write has promised nothing
-pub looks_unpromised : (ms : List Action) (v : ℕ) → phase_of ms ≡ NotBegun → IsUnpromised ms v
-looks_unpromised ms v e u d l = none_promised ms u d e
+blank_low : (c : Config) (ms : List Action) (v : ℕ) → heard_at c is_blank ms ≤ heard_at c (λ r. leb (row_top r) v) ms
+blank_low c ms v = heard_weaker c is_blank (λ r. leb (row_top r) v) ms (λ (r : RowAt) (k : is_blank r ≡ true). let top : row_top r ≡ 0 = eqb-true (row_top r) 0 (and_parts (row_top r == 0) (r.floor == 0) k).0 in le-leb (row_top r) v (omega arith))
 
 -- an object that was never written is voted for at its first version
 pub first_means : (c : Config) (w : Caller) (past : List Trace) (run : Run) (ms : List Action) → Stands c w past run ms → IsUnwritten c w ms → is_some run.own ≡ true → NextMeans c w run ms (VoteAt 1)
 first_means c w past run ms h f some =
-    let low : heard_at c is_blank ms ≤ heard_at c (λ r. leb (row_top r) 1) ms = heard_weaker c is_blank (λ r. leb (row_top r) 1) ms (λ (r : RowAt) (k : is_blank r ≡ true). let top : row_top r ≡ 0 = eqb-true (row_top r) 0 (and_parts (row_top r == 0) (r.floor == 0) k).0 in le-leb (row_top r) 1 (omega arith)) in
-    (record { above = omega arith; current = omega (arith, f.blank, low); next = inl refl; clear = unvoted_clear c w.name ms 1 f.unvoted }, f.none, own_of c w past run ms h some, unpromised_from ms 0 1 (omega arith) f.unpromised)
+    let below : AreVotesBelow w ms 1 = unvoted_below w ms 1 f.unvoted in (
+      record {
+        may = record { above = omega arith; current = omega (arith, f.blank, blank_low c ms 1); next = inl refl; clear = unvoted_clear c w.name ms 1 f.unvoted };
+        own = own_of c w past run ms h some;
+        unpromised = unpromised_from ms 0 1 (omega arith) f.unpromised;
+        votes = votes_up w ms 1 below;
+      },
+      below,
+      f.none.evident,
+    )
+
+-- to a call that reads the latest version it is absent
+pub absent_means : (c : Config) (w : Caller) (past : List Trace) (run : Run) (ms : List Action) → Stands c w past run ms → IsUnwritten c w ms → is_some run.own ≡ false → run.target ≡ Latest → NextMeans c w run ms AbsentNext
+absent_means c w past run ms h f none latest = record { reads = no_own c w past run ms h none; asked = sym h.target_is ∙ latest; blank = f.blank }
+
+-- and no version of it is born, whatever its number
+pub unborn_means : (c : Config) (w : Caller) (past : List Trace) (run : Run) (ms : List Action) (version : ℕ) → Stands c w past run ms → IsUnwritten c w ms → run.target ≡ At version → 1 ≤ version → NextMeans c w run ms (UnbornNext 0)
+unborn_means c w past run ms version h f at above = record {
+  reads = reads_at c w past run ms version h at;
+  version = version;
+  asked = sym h.target_is ∙ at;
+  above = omega arith;
+  current = omega (arith, f.blank, blank_low c ms 0);
+  shown = inl refl;
+}
 
 -- the known rows of a classic quorum show nothing
 pub first_from : (c : Config) (w : Caller) (past : List Trace) (run : Run) (ms : List Action) → IsConfig c → Stands c w past run ms → voted w.name ms ≡ false → phase_of ms ≡ NotBegun → list_all is_blank_known run.rows ≡ true → list_all is_topless run.rows ≡ true → c.qc ≤ known_count c ms → IsUnwritten c w ms
 first_from c w past run ms config h unvoted looks blank topless enough =
+    let listed : (s : ℕ) (row : RowAt) → s < c.n → rows_known ms s ≡ Some row → slice_get run.rows s ≡ Some (Some row) = λ (s : ℕ) (row : RowAt) (l : s < c.n) (e : rows_known ms s ≡ Some row). h.knows.rows s l ∙ ap (λ o. Some o) e in
     let counted : known_count c ms ≤ heard_at c is_blank ms = counted_heard c is_blank (λ s. is_some (rows_known ms s)) ms (λ (s : ℕ) (l : s < c.n) (k : is_some (rows_known ms s) ≡ true).
     let w = some_row (rows_known ms s) k in
-    let listed : slice_get run.rows s ≡ Some (Some w.0) = h.knows.rows s l ∙ ap (λ o. Some o) w.1 in
-    (w.0, known_heard ms s w.0 w.1, all_at is_blank_known run.rows s (Some w.0) blank listed)) in
+    (w.0, known_heard ms s w.0 w.1, all_at is_blank_known run.rows s (Some w.0) blank (listed s w.0 l w.1))) in
     record {
       blank = omega arith;
       unvoted = unvoted;
       unpromised = looks_unpromised ms 0 looks;
-      none = none_above c ms 1 config (λ (s : ℕ) (row : RowAt) (l : s < c.n) (e : rows_known ms s ≡ Some row).
-          let listed : slice_get run.rows s ≡ Some (Some row) = h.knows.rows s l ∙ ap (λ o. Some o) e in
-          let top : row_top row ≡ 0 = eqb-true (row_top row) 0 (all_at is_topless run.rows s (Some row) topless listed) in
-          omega arith);
+      none = record {
+        evident = none_above c ms 1 config (λ (s : ℕ) (row : RowAt) (l : s < c.n) (e : rows_known ms s ≡ Some row).
+            let top : row_top row ≡ 0 = eqb-true (row_top row) 0 (all_at is_topless run.rows s (Some row) topless (listed s row l e)) in
+            omega arith);
+        gone = λ (s : ℕ) (row : RowAt) (l : s < c.n) (e : rows_known ms s ≡ Some row).
+            let floor : row.floor ≡ 0 = eqb-true row.floor 0 (and_parts (row_top row == 0) (row.floor == 0) (all_at is_blank_known run.rows s (Some row) blank (listed s row l e))).1 in
+            omega arith;
+      };
     }
 
--- the call may work at the highest version that the known rows of a classic quorum show
-pub latest_from : (c : Config) (w : Caller) (past : List Trace) (run : Run) (ms : List Action) → Stands c w past run ms → voted w.name ms ≡ false → phase_of ms ≡ NotBegun → list_all is_topless run.rows ≡ false → c.qc ≤ known_count c ms → MayPass c w ms (highest_of run.rows)
-latest_from c w past run ms h unvoted looks shown enough = record {
-  above = highest_positive run.rows shown;
-  current = known_current c run ms h.knows (highest_of run.rows) enough (λ (s : ℕ) (row : RowAt) (e : slice_get run.rows s ≡ Some (Some row)). top_highest run.rows s row e);
-  clear = unvoted_clear c w.name ms (highest_of run.rows) unvoted;
-  later = looks_unpromised ms (highest_of run.rows + 1) looks;
+highest_current : (c : Config) (run : Run) (ms : List Action) → Knows c run ms → c.qc ≤ known_count c ms → IsCurrent c ms (highest_of run.rows)
+highest_current c run ms k enough = known_current c run ms k (highest_of run.rows) enough (λ (s : ℕ) (row : RowAt) (e : slice_get run.rows s ≡ Some (Some row)). top_highest run.rows s row e)
+
+looked_above : (target : Target) (rows : List (Option RowAt)) → AreRows rows → NoneAskedIn target rows → 1 ≤ highest_of rows → (1 ≤ looked_at target (highest_of rows)) × (top_floor_of rows < looked_at target (highest_of rows))
+looked_above Latest rows are asked shown = elim (cases_lt 0 (top_floor_of rows)) [ inl l ↦ (omega arith, omega (arith, floors_highest rows are (omega arith))) | inr l ↦ (omega arith, omega arith) ]
+looked_above (At version) rows are asked shown = elim (cases_lt 0 (top_floor_of rows)) [ inl l ↦ (omega arith, omega (arith, asked, floors_highest rows are (omega arith))) | inr l ↦ (omega (arith, asked), omega (arith, asked)) ]
+
+-- the call may work at the version at which it looks, where the known rows of a classic quorum show some version
+pub looked_from : (c : Config) (w : Caller) (past : List Trace) (run : Run) (ms : List Action) → Stands c w past run ms → voted w.name ms ≡ false → phase_of ms ≡ NotBegun → list_all is_topless run.rows ≡ false → AreNoneAsked run → c.qc ≤ known_count c ms → MayPass c w ms (looked_in run)
+looked_from c w past run ms h unvoted looks shown asked enough = record {
+  above = (looked_above run.target run.rows asked.0 asked.1 (highest_positive run.rows shown)).0;
+  aim = subst (λ (t : Target). IsAim c t ms (looked_in run)) h.target_is (looked_aim c run.target ms (highest_of run.rows) (highest_current c run ms h.knows enough));
+  clear = unvoted_clear c w.name ms (looked_in run) unvoted;
+  later = looks_unpromised ms (looked_in run + 1) looks;
+  votes = votes_up w ms (looked_in run) (unvoted_below w ms (looked_in run) unvoted);
+}
+
+-- where no value is known to be chosen there, `Look` goes on
+pub looked_unmet : (c : Config) (run : Run) (ms : List Action) → Knows c run ms → list_all is_topless run.rows ≡ false → AreNoneAsked run → NoneEvident c run.rows (looked_in run) → IsUnmet c run Look ms
+looked_unmet c run ms k shown asked none =
+    let above = looked_above run.target run.rows asked.0 asked.1 (highest_positive run.rows shown) in
+    inr (highest_positive run.rows shown, record { evident = none_evident c run ms k (looked_in run) none; gone = none_gone c run ms (looked_in run) k above.1 })
+
+-- the version that is asked for was collected
+pub collected_means : (c : Config) (w : Caller) (past : List Trace) (run : Run) (ms : List Action) (floor : ℕ) → Stands c w past run ms → IsAskedBelow run floor → 1 ≤ known_count c ms → NextMeans c w run ms (CollectedNext floor)
+collected_means c w past run ms floor h a some = record {
+  reads = reads_at c w past run ms a.asked h a.target;
+  version = a.asked;
+  asked = sym h.target_is ∙ a.target;
+  gone = a.gone;
+  heard = subst (HasFloor c ms) (sym a.top) (top_floor_heard c run ms h.knows some);
 }
 
 -- a call that writes nothing has learnt the value
-pub found_means : (c : Config) (w : Caller) (past : List Trace) (run : Run) (ms : List Action) (v s : ℕ) → Stands c w past run ms → MayPass c w ms v → EvidentAt c run.rows v s → is_some run.own ≡ false → IsFound c w run ms v s
-found_means c w past run ms v s h l e none = record {
-  reads = no_own c w past run ms h none;
-  current = l.current;
+pub found_means : (c : Config) (w : Caller) (past : List Trace) (run : Run) (ms : List Action) (v s : ℕ) → Stands c w past run ms → IsAskedFor c (target_of w.call) ms v → EvidentAt c run.rows v s → w.own ≡ None → IsFound c w run ms v s
+found_means c w past run ms v s h asked e none = record {
+  reads = none;
+  asked = asked;
   name = e.name;
   shown = listed_shown c run ms h.knows v e.name e.evident;
   inside = e.inside;
@@ -248,16 +278,39 @@ found_means c w past run ms v s h l e none = record {
   named = e.named;
 }
 
--- where no value is known to be chosen at its version, a phase hasn't reached its goal
-pub unmet_at : (c : Config) (run : Run) (ms : List Action) (v : ℕ) (stage : Stage) → IsStageAt stage v → NoEvidence c ms v → IsUnmet c run stage ms
+-- the value that was found is that of the version that is asked for: the latest
+pub latest_found : (c : Config) (w : Caller) (past : List Trace) (run : Run) (ms : List Action) (v s : ℕ) → Stands c w past run ms → MayPass c w ms v → EvidentAt c run.rows v s → is_some run.own ≡ false → run.target ≡ Latest → NextMeans c w run ms (LearntNext v s)
+latest_found c w past run ms v s h m e none latest =
+    let is : target_of w.call ≡ Latest = sym h.target_is ∙ latest in
+    let current : IsCurrent c ms v = subst (λ (t : Target). IsAim c t ms v) is m.aim in
+    found_means c w past run ms v s h (subst (λ (t : Target). IsAskedFor c t ms v) (sym is) current) e (no_own c w past run ms h none)
+
+-- or that of the number
+pub number_found : (c : Config) (w : Caller) (past : List Trace) (run : Run) (ms : List Action) (v s : ℕ) → Stands c w past run ms → EvidentAt c run.rows v s → run.target ≡ At v → NextMeans c w run ms (LearntNext v s)
+number_found c w past run ms v s h e at =
+    let is : target_of w.call ≡ At v = sym h.target_is ∙ at in
+    found_means c w past run ms v s h (subst (λ (t : Target). IsAskedFor c t ms v) (sym is) refl) e (reads_at c w past run ms v h at)
+
+-- or else the version that is asked for lies above
+pub later_unborn : (c : Config) (w : Caller) (past : List Trace) (run : Run) (ms : List Action) (v s version : ℕ) → Stands c w past run ms → MayPass c w ms v → EvidentAt c run.rows v s → run.target ≡ At version → version ≢ v → NextMeans c w run ms (UnbornNext v)
+later_unborn c w past run ms v s version h m e at apart =
+    let is : target_of w.call ≡ At version = sym h.target_is ∙ at in
+    let aim : IsAim c (At version) ms v = subst (λ (t : Target). IsAim c t ms v) is m.aim in
+    elim aim [
+      | inl same ↦ absurd (apart (sym same))
+      | inr low ↦ record { reads = reads_at c w past run ms version h at; version = version; asked = is; above = low.0; current = low.1; shown = inr (e.name, listed_shown c run ms h.knows v e.name e.evident) }
+    ]
+
+-- where no value is known to be chosen at its version, and none of that version was collected, a phase hasn't reached its goal
+pub unmet_at : (c : Config) (run : Run) (ms : List Action) (v : ℕ) (stage : Stage) → IsStageAt stage v → IsUndecided c ms v → IsUnmet c run stage ms
 unmet_at c run ms v Look at none = absurd at
-unmet_at c run ms v (Fast u) at none = subst (NoEvidence c ms) (sym at) none
-unmet_at c run ms v (Prepare u b found) at none = subst (NoEvidence c ms) (sym at) none
-unmet_at c run ms v (Accept u b x) at none = subst (NoEvidence c ms) (sym at) none
+unmet_at c run ms v (Fast u) at none = subst (IsUndecided c ms) (sym at) none
+unmet_at c run ms v (Prepare u b found) at none = subst (IsUndecided c ms) (sym at) none
+unmet_at c run ms v (Accept u b x) at none = subst (IsUndecided c ms) (sym at) none
 
 -- a call that works at a version may pass on from there
-pub pass_at : (c : Config) (w : Caller) (past : List Trace) (ms : List Action) (v : ℕ) (stage : Stage) → IsStageAt stage v → StageStands c w past stage ms → MayPass c w ms v
-pass_at c w past ms v Look at s = absurd at
-pass_at c w past ms v (Fast u) at s = subst (MayPass c w ms) at (pass_from c w ms u s.0 s.2)
-pass_at c w past ms v (Prepare u b found) at s = subst (MayPass c w ms) at s.0.works.pass
-pass_at c w past ms v (Accept u b x) at s = subst (MayPass c w ms) at s.1.works.pass
+pub pass_at : (c : Config) (w : Caller) (past : List Trace) (ms : List Action) (v : ℕ) (stage : Stage) → WritesLatest w → IsStageAt stage v → StageStands c w past stage ms → MayPass c w ms v
+pass_at c w past ms v Look latest at s = absurd at
+pass_at c w past ms v (Fast u) latest at s = subst (MayPass c w ms) at (vote_passes c w ms u latest s)
+pass_at c w past ms v (Prepare u b found) latest at s = subst (MayPass c w ms) at s.0.works.pass
+pass_at c w past ms v (Accept u b x) latest at s = subst (MayPass c w ms) at s.1.works.pass

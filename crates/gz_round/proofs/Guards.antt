@@ -14,11 +14,11 @@ use Rattle.gz_core.specs.declared.requests.Op.TheVariants.{WriteRow}
 use Rattle.gz_core.proofs.Ballots.{same_means, name_means}
 use Rattle.gz_core.specs.History.{Asked, Action, Sent, Caller, Trace}
 use Rattle.gz_round.specs.Sent.{vote_by, promise_by, of_step, or_earlier, passes_sent, voted_at, has_promised_at, last_promise, top_round, round_after}
-use Rattle.gz_round.specs.Shown.{IsClear}
+use Rattle.gz_round.specs.Shown.{IsClear, IsValueHeard}
 use Rattle.gz_round.specs.Rounds.{MayPromise, MayClassicVote, MayPropose, IsLeft, IsPromiseHeard, passed_since, ClassicCast, cast_by, has_classic_cast, is_promise, IsValueKnown, round_known, greatest, next_round, rounds_used, top_rounds}
 use Rattle.gz_pick.specs.declared.heard.Heard.{Heard}
 use Rattle.gz_round.specs.Sites.{rows_known}
-use Rattle.gz_round.specs.Sending.{MayFastVote, MayMake}
+use Rattle.gz_round.specs.Sending.{MayFastVote, MayTrim, MayMake}
 use Rattle.gz_round.specs.Following.{MayMakeOf}
 use Rattle.gz_round.proofs.Known.{known_after_sent}
 use Rattle.gz_round.proofs.LookBacks.{back_more}
@@ -58,7 +58,7 @@ clear_vote c x ms a v only clear u n h =
     ]
 
 -- the version that a request votes at, where the step votes at one
-only_vote : (x : Name) (op : Op) (v : ℕ) (value : Value) (u : ℕ) → IsOf op (Some (FastVote v value)) → passes_sent (λ k. k == u) (of_step (vote_by x) op) ≡ true → v ≡ u
+pub only_vote : (x : Name) (op : Op) (v : ℕ) (value : Value) (u : ℕ) → IsOf op (Some (FastVote v value)) → passes_sent (λ k. k == u) (of_step (vote_by x) op) ≡ true → v ≡ u
 only_vote x (WriteRow key expect step row) v value u is h = vote_version x v u value (subst (λ s. passes_sent (λ k. k == u) (vote_by x s) ≡ true) (sym (same_Some (FastVote v value) step (is.writes step refl))) h)
 only_vote x op v value u is h = absurd (false≢true h)
 
@@ -153,10 +153,14 @@ left_kept : (c : Config) (w : Caller) (ms : List Action) (a : Asked) (v : ℕ) (
 left_kept c w ms a v b heard value is (inl h) = inl h
 left_kept c w ms a v b heard value is (inr h) = inr (h.0, propose_kept c w ms a v b value is h.1)
 
--- a value that is known stays so
+-- a value that was heard stays so
+heard_kept : (ms : List Action) (a : Asked) (v : ℕ) (value : Value) → IsValueHeard ms v value → IsValueHeard (Sent a ∷ ms) v value
+heard_kept ms a v value h = (h.0, h.1, inr h.2, h.3)
+
+-- and so does one that is known
 known_kept : (w : Caller) (ms : List Action) (a : Asked) (v : ℕ) (value : Value) → IsValueKnown w ms v value → IsValueKnown w (Sent a ∷ ms) v value
 known_kept w ms a v value (inl own) = inl own
-known_kept w ms a v value (inr h) = inr (h.0, h.1, inr h.2, h.3)
+known_kept w ms a v value (inr h) = inr (heard_kept ms a v value h)
 
 pub classic_kept : (c : Config) (w : Caller) (ms : List Action) (a : Asked) (v : ℕ) (b : BallotAt) (value : Value) → IsOf a.op (Some (ClassicVote v b value)) → MayClassicVote c w ms v b value → MayClassicVote c w (Sent a ∷ ms) v b value
 classic_kept c w ms a v b value is h = record {
@@ -172,13 +176,23 @@ classic_kept c w ms a v b value is h = record {
   back = λ reads free. back_more c (Sent a) ms v b (Some value) h.promised (h.back reads free);
 }
 
+trim_kept : (c : Config) (w : Caller) (ms : List Action) (a : Asked) (to : ℕ) (value : Value) → MayTrim c w ms to value → MayTrim c w (Sent a ∷ ms) to value
+trim_kept c w ms a to value h = record {
+  above = h.above;
+  keep = h.keep;
+  collects = h.collects;
+  kept = h.kept;
+  next = h.next;
+  known = heard_kept ms a (to + 1) value h.known;
+}
+
 -- a guard that holds goes on to hold
 pub may_kept : (c : Config) (w : Caller) (past : List Trace) (ms : List Action) (a : Asked) (step : RowStep) → IsOf a.op (Some step) → MayMake c w past ms step → MayMake c w past (Sent a ∷ ms) step
 may_kept c w past ms a (FastVote v value) is h = (h.0, fast_kept c w ms a v value is h.1)
 may_kept c w past ms a (Promise v b) is h = promise_kept c w past ms a v b is h
 may_kept c w past ms a (ClassicVote v b value) is h = classic_kept c w ms a v b value is h
 may_kept c w past ms a (Decide v value) is h = (h.0, known_kept w ms a v value h.1)
-may_kept c w past ms a (Trim to value) is h = h
+may_kept c w past ms a (Trim to value) is h = trim_kept c w ms a to value h
 
 pub may_kept_of : (c : Config) (w : Caller) (past : List Trace) (ms : List Action) (a : Asked) (step : Option RowStep) → IsOf a.op step → MayMakeOf c w past ms step → MayMakeOf c w past (Sent a ∷ ms) step
 may_kept_of c w past ms a None is h = tt

@@ -6,6 +6,7 @@ use Rattle.gz_core.specs.Rows.{RowAt}
 use Rattle.gz_core.specs.Counts.{count_sites}
 use Rattle.gz_config.specs.declared.Config.{Config}
 use Rattle.gz_core.proofs.Counting.{count_weaker, count_within}
+use Rattle.gz_pick.proofs.Counts.{count_one}
 use Rattle.gz_pick.specs.Looks.{row_top}
 use Rattle.gz_pick.specs.Evidences.{votes_for, decides}
 use Rattle.gz_round.specs.declared.hearing.Seen.{Seen}
@@ -61,6 +62,10 @@ heard_passes p (m ∷ ms) s row (inl k) h =
     let test : passes p (heard_in m) ≡ true = subst (λ o. passes p o ≡ true) (sym e) (subst (λ r. p r ≡ true) (sym same) h) in
     or_left (passes p (heard_in m) && concerns m s) (some_heard p ms s) (and_from (passes p (heard_in m)) (concerns m s) test k.1)
 heard_passes p (m ∷ ms) s row (inr k) h = or_right (passes p (heard_in m) && concerns m s) (some_heard p ms s) (heard_passes p ms s row k h)
+
+-- where one row that passes was heard, at least one is counted
+pub heard_one : (c : Config) (p : RowAt → Bool) (ms : List Action) (s : ℕ) (row : RowAt) → s < c.n → WasHeard ms s row → p row ≡ true → 1 ≤ heard_at c p ms
+heard_one c p ms s row l w h = count_one c.n (some_heard p ms) s l (heard_passes p ms s row w h)
 
 -- what is counted of the heard rows is counted of whatever the heard rows show
 pub heard_counted : (c : Config) (p : RowAt → Bool) (q : ℕ → Bool) (ms : List Action) → ((s : ℕ) (row : RowAt) → s < c.n → WasHeard ms s row → p row ≡ true → q s ≡ true) → heard_at c p ms ≤ count_sites c.n q

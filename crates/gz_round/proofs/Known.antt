@@ -11,6 +11,8 @@ use Rattle.gz_pick.specs.Looks.{row_top, highest_of}
 use Rattle.gz_pick.specs.Evidences.{votes_for, decides, IsEvident, row_at}
 use Rattle.gz_round.specs.declared.hearing.Seen.{Seen}
 use Rattle.gz_round.specs.declared.run.Run.{Run}
+use Rattle.gz_round.specs.declared.run.Stage.{Stage}
+use Rattle.gz_round.specs.declared.run.Stage.TheVariants.{Look, Fast, Prepare, Accept}
 use Rattle.gz_core.specs.History.{Asked, Action, Sent, Handed, GaveUp, Rested, GaveIn, Caller, Trace}
 use Rattle.gz_round.specs.Sites.{SiteNow, site_now, after, after_reply, after_sent, known, row_seen, seen_in, written_by, is_changed, concerns, is_about_rows, heard_in, WasHeard}
 use Rattle.gz_round.specs.Shown.{heard_at, IsShown, IsCurrent}
@@ -18,7 +20,8 @@ use Rattle.gz_round.specs.Counting.{known_count, outs}
 use Rattle.gz_round.specs.Causes.{rows_known}
 use Rattle.gz_round.specs.Standing.{Knows, Stands, mark_of}
 use Rattle.gz_round.specs.Evidence.{NoneEvident}
-use Rattle.gz_round.specs.Following.{NoEvidence}
+use Rattle.gz_round.specs.Sending.{NoEvidence, NoneGone, IsUndecided}
+use Rattle.gz_round.specs.Goals.{IsSkipping}
 use Rattle.gz_round.proofs.Lists.{count_same, count_told}
 use Rattle.gz_round.proofs.Actions.{concerns_rows, heard_row, now_here, now_other, each_site}
 use Rattle.gz_round.proofs.Heard.{counted_heard}
@@ -137,6 +140,26 @@ evident_same c rows others v x same (inl k) =
 evident_same c rows others v x same (inr k) =
     let counted : count_sites c.n (λ s. decides x v (rows s)) ≡ count_sites c.n (λ s. decides x v (others s)) = count_same c.n (λ s. decides x v (rows s)) (λ s. decides x v (others s)) (λ (s : ℕ) (l : s < c.n). ap (decides x v) (same s l)) in
     inr (omega (arith, k, counted))
+
+-- and so does it whether work at a version goes on
+pub gone_same : (c : Config) (ms ns : List Action) (v : ℕ) → ((s : ℕ) → rows_known ns s ≡ rows_known ms s) → NoneGone c ms v → NoneGone c ns v
+gone_same c ms ns v same h s row l e = h s row l (sym (same s) ∙ e)
+
+evidence_same : (c : Config) (ms ns : List Action) (v : ℕ) → ((s : ℕ) → rows_known ns s ≡ rows_known ms s) → NoEvidence c ms v → NoEvidence c ns v
+evidence_same c ms ns v same h x e = h x (evident_same c (rows_known ns) (rows_known ms) v x (λ (s : ℕ) (l : s < c.n). same s) e)
+
+pub undecided_same : (c : Config) (ms ns : List Action) (v : ℕ) → ((s : ℕ) → rows_known ns s ≡ rows_known ms s) → IsUndecided c ms v → IsUndecided c ns v
+undecided_same c ms ns v same h = record {
+  evident = evidence_same c ms ns v same h.evident;
+  gone = gone_same c ms ns v same h.gone;
+}
+
+pub skipping_same : (c : Config) (ms ns : List Action) (stage : Stage) → ((s : ℕ) → rows_known ns s ≡ rows_known ms s) → IsSkipping c stage ms → IsSkipping c stage ns
+skipping_same c ms ns (Fast v) same (inl h) = inl ((h.0.0, h.0.1, h.0.2, same h.0.0 ∙ h.0.3, h.0.4), gone_same c ms ns v same h.1)
+skipping_same c ms ns (Fast v) same (inr h) = inr ((h.0.0, h.0.1, h.0.2, same h.0.0 ∙ h.0.3, h.0.4), evidence_same c ms ns v same h.1)
+skipping_same c ms ns Look same h = h
+skipping_same c ms ns (Prepare v b found) same h = h
+skipping_same c ms ns (Accept v b x) same h = h
 
 -- what the list makes evident is shown
 pub listed_shown : (c : Config) (run : Run) (ms : List Action) → Knows c run ms → (v : ℕ) (x : Name) → IsEvident c.n c.qc c.qf (row_at run.rows) v x → IsShown c ms v x

@@ -6,8 +6,10 @@ pub mod Awaits
 pub mod Beside
 pub mod Blobs
 pub mod Bounds
+pub mod Casts
 pub mod Columns
 pub mod Endings
+pub mod HeardFloors
 pub mod Follows
 pub mod GivingIn
 pub mod Guards
@@ -20,6 +22,8 @@ pub mod Notices
 pub mod Numbers
 pub mod Opens
 pub mod Passes
+pub mod PastFloors
+pub mod Rising
 pub mod Prepares
 pub mod Proposals
 pub mod Replies
@@ -27,6 +31,9 @@ pub mod Sends
 pub mod Serves
 pub mod Stages
 pub mod Starts
+pub mod Targets
 pub mod Turns
 pub mod Unread
+pub mod Unpromised
 pub mod Untaken
+pub mod Votes

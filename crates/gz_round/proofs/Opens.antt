@@ -53,7 +53,7 @@ opens c w past run new ms first sent config blobs r look asks left =
     record {
       stands = asks.stands;
       stage = subst (λ st. StageStands c w past st (sent_from first sent ms)) (sym stage_is) (stage_kept c w past run new ms (sent_from first sent ms) Look r.stands asks.stands left (earlier_sent first sent ms) refl s tt tt);
-      unmet = subst (λ st. IsUnmet c new st (sent_from first sent ms)) (sym stage_is) unmet;
+      unmet = inl (subst (λ st. IsUnmet c new st (sent_from first sent ms)) (sym stage_is) unmet);
       few = subst (λ st. IsFewIn c new st) (sym stage_is) tt;
       ahead = subst (λ st. is_overtaken_in new st ≡ false) (sym stage_is) refl;
       again = again_from c w (sent_from first sent ms) None asks.served;

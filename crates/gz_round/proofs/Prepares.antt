@@ -2,7 +2,7 @@
 use Rattle.std.proofs.Common.{◌≡◌, ◌≢◌, ℕ, zero, suc, ◌+◌, ◌<◌, ◌≤◌, ◌^◌, Bool, true, false, ◌&&◌, ◌==◌, List, [], ◌∷◌, Option, Some, None, is_some, refl, sym, ap, ◌∙◌, subst, inl, inr, ◌⊎◌, arith, leb, count_by, not, ltb-false, true≢false}
 use Rattle.std.specs.List.{slice_get, list_any}
 use Rattle.std.specs.Prelude.{nat_lt}
-use Rattle.std.proofs.lemmas.Bool.{cases_Bool, cases_lt, cond-true, cond-false, false≢true, both_ways, or_cases, or_right, and_parts, ltb-true, eqb-true, false_from_ne_true, le-leb, leb-true, or_from}
+use Rattle.std.proofs.lemmas.Bool.{cases_Bool, cases_lt, cond-true, false≢true, both_ways, or_cases, or_right, and_parts, ltb-true, eqb-true, false_from_ne_true, le-leb, or_from}
 use Rattle.std.proofs.lemmas.Bool.Decides.{nat_tests}
 use Rattle.std.proofs.lemmas.Option.{same_Some, none-some, slice_get_within}
 use Rattle.gz_core.specs.Names.{Name, BallotAt, same_ballot, same_name}
@@ -27,31 +27,36 @@ use Rattle.gz_pick.specs.Looks.{row_top, highest_of}
 use Rattle.gz_round.specs.declared.run.Run.{Run}
 use Rattle.gz_round.specs.declared.run.Stage.{Stage}
 use Rattle.gz_round.specs.declared.run.Stage.TheVariants.{Look, Fast, Prepare, Accept}
+use Rattle.gz_round.specs.declared.outcome.Outcome.{Outcome}
 use Rattle.gz_round.specs.declared.outcome.Outcome.TheVariants.{Goes, Ends}
 use Rattle.gz_core.specs.History.{Action, Sent, Handed, GaveUp, Rested, GaveIn, Caller, Trace, is_row_request, sent_from, Asked}
-use Rattle.gz_round.specs.Sites.{SiteNow, site_now, some_heard, known}
+use Rattle.gz_round.specs.Sites.{SiteNow, site_now, known}
 use Rattle.gz_round.specs.Sent.{promise_by, of_step, of_sent, passes_sent, some_sent, has_promised, has_promised_at, IsUnpromised, top_round, round_after}
-use Rattle.gz_round.specs.Shown.{heard_at}
+use Rattle.gz_round.specs.Shown.{heard_at, IsCurrent}
+use Rattle.gz_round.specs.Targets.{IsAim}
 use Rattle.gz_round.specs.LookBack.{lowest_vote, IsLookedBack}
 use Rattle.gz_round.specs.Rounds.{IsUnused, ClassicCast, cast_by, has_classic_cast, passed_since, above_known, round_known, slot_round, slot_promises_above, greatest, next_round, top_rounds, slot_promises, promises_known}
-use Rattle.gz_round.specs.Sending.{Collected, IsBarred, IsIdle, NoEvidence, NoneAbove, AreAllowed, MayAsk, MayMake, rows_known, MayRead}
+use Rattle.gz_round.specs.Sending.{IsUndecided, IsIdle, NoneAbove, AreAllowed, MayAsk, MayMake, rows_known, MayRead}
 use Rattle.gz_round.specs.Counting.{known_count, IsGoing}
+use Rattle.gz_round.specs.Starting.{MakeNoStep}
 use Rattle.gz_round.specs.Asking.{IsLeftBy}
 use Rattle.gz_round.specs.Standing.{Knows, Stands, StageStands, ArePassed, IsWorking, MayPass, IsWaiting, Runs}
 use Rattle.gz_round.specs.Following.{Asks, HasAsked, IsAwaitedBy, HasTurned}
 use Rattle.gz_round.specs.Acting.{Prepares, RunsOut, Carries, IsBallotAbove, round_in, given_in_of, prepared_of, is_waiting, ended_of, ended_in, working_version, version_in, IsAskableAt, IsPreparable}
-use Rattle.gz_round.specs.Goals.{AreServed, IsUnmet, is_overtaken, is_overtaken_in, AreAskableAbove, IsFewIn, IsOvertakenAskably, step_in}
+use Rattle.gz_round.specs.Goals.{AreServed, looked_in, IsUnmet, is_overtaken, is_overtaken_in, AreAskableAbove, IsFewIn, IsOvertakenAskably, step_in}
 use Rattle.gz_round.proofs.Lists.{any_found, none_found, any_counted}
-use Rattle.gz_round.proofs.Heard.{heard_passes}
+use Rattle.gz_round.proofs.Heard.{heard_one}
 use Rattle.gz_round.proofs.AsHeard.{heard_stands}
 use Rattle.gz_round.proofs.Known.{listed_known, known_heard, known_current, known_last}
 use Rattle.gz_round.proofs.Columns.{top_highest, highest_reached, stands_round}
-use Rattle.gz_round.proofs.Follows.{unvoted_clear, looks_unpromised, unpromised_from, pass_from}
+use Rattle.gz_round.proofs.Votes.{unvoted_clear, unvoted_up_to}
+use Rattle.gz_round.proofs.Unpromised.{looks_unpromised, unpromised_from}
+use Rattle.gz_round.proofs.Targets.{looked_low, looked_aim, vote_passes}
 use Rattle.gz_round.proofs.Arms.{stands_stage}
 use Rattle.gz_round.proofs.LookBacks.{before_none, back_sent_from, begun_new, begun_heard}
-use Rattle.gz_round.proofs.Untaken.{count_one, undecided_known, fresh_taken, open_taken}
+use Rattle.gz_round.proofs.Untaken.{undecided_known, kept_known, fresh_taken, open_taken}
 use Rattle.gz_round.proofs.Turns.{again_from, waits_from, idle_of, heard_from, quorum_known, none_passed, untaken_from}
-use Rattle.gz_round.proofs.GivingIn.{given_in_turned}
+use Rattle.gz_round.proofs.Passes.{none_stepless}
 use Rattle.gz_round.specs.declared.hearing.Seen.{Seen}
 use Rattle.gz_pick.specs.Evidences.{is_in}
 
@@ -104,7 +109,7 @@ step_cast c w past ms (ClassicVote u d x) v b y may e =
     let both : ((u == v) ≡ true) × (same_ballot d b ≡ true) = and_parts (u == v) (same_ballot d b) outer.0 in
     subst (λ (k : ℕ). has_promised_at ms k b ≡ true) (eqb-true u v both.0) (subst (λ (k : BallotAt). has_promised_at ms u k ≡ true) (same_means d b both.1) may.promised)
 step_cast c w past ms (Decide u x) v b y may e = absurd (false≢true e)
-step_cast c w past ms (Trim to x) v b y may e = absurd may
+step_cast c w past ms (Trim to x) v b y may e = absurd (false≢true e)
 
 op_cast : (c : Config) (w : Caller) (past : List Trace) (ms : List Action) (now : SiteNow) (op : Op) (v : ℕ) (b : BallotAt) (y : Name) → (is_row_request op ≡ true → MayAsk c w past ms now op) → passes_sent (λ k. (k.version == v) && same_ballot k.ballot b && same_name k.name y) (of_step cast_by op) ≡ true → has_promised_at ms v b ≡ true
 op_cast c w past ms now (WriteRow key expect step row) v b y may e = step_cast c w past ms step v b y (may refl).1.guard e
@@ -202,12 +207,12 @@ pub none_above_new : (c : Config) (run : Run) (ms : List Action) (v : ℕ) (b : 
 none_above_new c run ms v b k l s row i e = low_above (slots row v) b (low_listed c run ms v b s row k l i e)
 
 -- what a call looks back at as it prepares a ballot, whatever it sends at that event
-pub looked_back : (c : Config) (w : Caller) (past : List Trace) (run : Run) (ms : List Action) (first : ℕ) (sent more : List Out) (v : ℕ) (b : BallotAt) (found : Option Value) → Prepares c w past run (sent_from first sent ms) v → IsBallotAbove run v b → found ≡ lowest_vote c.n v (sent_from first sent ms) → IsLookedBack c (sent_from first more ms) v b found
-looked_back c w past run ms first sent more v b found p n e =
+pub looked_back : (c : Config) (w : Caller) (past : List Trace) (run : Run) (ms : List Action) (first : ℕ) (sent : List Out) (v : ℕ) (b : BallotAt) (found : Option Value) → Prepares c w past run ms v → IsBallotAbove run v b → found ≡ lowest_vote c.n v ms → IsLookedBack c (sent_from first sent ms) v b found
+looked_back c w past run ms first sent v b found p n e =
     let round = n.round in
     let used = p.stands.round_is in
-    let unpromised : has_promised_at (sent_from first sent ms) v b ≡ false = unpromised_at_above (sent_from first sent ms) v b (omega arith) in
-    e ∙ (ap (lowest_vote c.n v) (sym (before_none v b (sent_from first sent ms) unpromised)) ∙ (back_sent_from c first sent ms v b ∙ sym (back_sent_from c first more ms v b)))
+    let unpromised : has_promised_at ms v b ≡ false = unpromised_at_above ms v b (omega arith) in
+    e ∙ (ap (lowest_vote c.n v) (sym (before_none v b ms unpromised)) ∙ sym (back_sent_from c first sent ms v b))
 
 -- what is kept while the new ballot is promised
 pub prepared_asks : (c : Config) (w : Caller) (past : List Trace) (run : Run) (ms : List Action) (v : ℕ) (b : BallotAt) (found : Option Value) → Prepares c w past run ms v → IsBallotAbove run v b → Asks c w past (record run { stage = Prepare v b found }) ms (Some (Promise v b))
@@ -238,14 +243,10 @@ known_some : (o : Option RowAt) → is_some o ≡ true → (row : RowAt) × (o �
 known_some None e = absurd (false≢true e)
 known_some (Some row) e = (row, refl)
 
--- where no known row takes a ballot above all that they promise, each has its version collected
-prepared_gone : (c : Config) (new : Run) (ns : List Action) (v : ℕ) (b : BallotAt) → Knows c new ns → NoEvidence c ns v → round_in v new.rows < b.round → ((s : ℕ) (row : RowAt) → s < c.n → rows_known ns s ≡ Some row → promise_answer row v b ≢ Done) →
-    (s : ℕ) (row : RowAt) → s < c.n → rows_known ns s ≡ Some row → v ≤ row.floor
-prepared_gone c new ns v b k none low untaken s row l e =
-    elim (cases_Bool (leb v row.floor)) [
-      | inl gone ↦ leb-true v row.floor gone
-      | inr kept ↦ absurd (untaken s row l e (fresh_taken row v b kept (undecided_known c ns v s row none l e) (low_listed c new ns v b s row k low l e)))
-    ]
+-- a known row takes a ballot above all that they promise
+prepared_taken : (c : Config) (new : Run) (ns : List Action) (v : ℕ) (b : BallotAt) → Knows c new ns → IsUndecided c ns v → round_in v new.rows < b.round → ((s : ℕ) (row : RowAt) → s < c.n → rows_known ns s ≡ Some row → promise_answer row v b ≢ Done) →
+    (s : ℕ) (row : RowAt) → s < c.n → rows_known ns s ≡ Some row → ⊥
+prepared_taken c new ns v b k none low untaken s row l e = untaken s row l e (fresh_taken row v b (kept_known c ns v s row none l e) (undecided_known c ns v s row none l e) (low_listed c new ns v b s row k low l e))
 
 -- a row is known while a call can go on that has heard every site
 known_one : (c : Config) (ns : List Action) (v : ℕ) → IsConfig c → IsGoing c ns → IsIdle c ns v → (s : ℕ) × (row : RowAt) × (s < c.n) × (rows_known ns s ≡ Some row)
@@ -315,7 +316,7 @@ prepared_ahead new v b found used low =
     or_from (nat_lt new.round b.round) (list_any (above_known v b) new.rows) round (none_low (above_known v b) new.rows v b (low_above_known v b) low)
 
 -- the call goes on to wait for promises
-prepared_runs : (c : Config) (w : Caller) (past : List Trace) (run new : Run) (ms : List Action) (v : ℕ) (b : BallotAt) (found : Option Value) (ns : List Action) → IsConfig c → Prepares c w past run ms v → IsBallotAbove run v b → IsGoing c ns → NoEvidence c ns v → (w.own ≡ None → IsLookedBack c ns v b found) →
+prepared_runs : (c : Config) (w : Caller) (past : List Trace) (run new : Run) (ms : List Action) (v : ℕ) (b : BallotAt) (found : Option Value) (ns : List Action) → IsConfig c → Prepares c w past run ms v → IsBallotAbove run v b → IsGoing c ns → IsUndecided c ns v → (w.own ≡ None → IsLookedBack c ns v b found) →
     HasAsked c w past new ms ns (Some (Promise v b)) → IsLeftBy (record run { stage = Prepare v b found }) new (Some (Promise v b)) → is_waiting new ≡ true → Runs c w past new ns
 prepared_runs c w past run new ms v b found ns config p n going none back asked left e =
     let round = n.round in
@@ -326,7 +327,7 @@ prepared_runs c w past run new ms v b found ns config p n going none back asked 
     record {
       stands = asked.stands;
       stage = subst (λ st. StageStands c w past st ns) (sym left.stage) (asked.held.0, none_passed c ns v b asked.held.1, λ reads last. back reads);
-      unmet = subst (λ st. IsUnmet c new st ns) (sym left.stage) none;
+      unmet = inl (subst (λ st. IsUnmet c new st ns) (sym left.stage) none);
       few = subst (λ st. IsFewIn c new st) (sym left.stage) (inr (prepared_few c new.rows v b config low));
       ahead = subst (λ st. is_overtaken_in new st ≡ false) (sym left.stage) (prepared_ahead new v b found used low);
       again = again_from c w ns (Some (Promise v b)) asked.served;
@@ -337,7 +338,7 @@ prepared_runs c w past run new ms v b found ns config p n going none back asked 
     }
 
 -- once the new ballot was promised at each site that takes it, the call waits, or gives in
-pub prepared_turned : (c : Config) (w : Caller) (past : List Trace) (run new : Run) (ms : List Action) (v : ℕ) (b : BallotAt) (found : Option Value) (ns : List Action) → IsConfig c → Prepares c w past run ms v → IsBallotAbove run v b → IsGoing c ns → NoEvidence c ns v → (w.own ≡ None → IsLookedBack c ns v b found) →
+pub prepared_turned : (c : Config) (w : Caller) (past : List Trace) (run new : Run) (ms : List Action) (v : ℕ) (b : BallotAt) (found : Option Value) (ns : List Action) → IsConfig c → Prepares c w past run ms v → IsBallotAbove run v b → IsGoing c ns → IsUndecided c ns v → (w.own ≡ None → IsLookedBack c ns v b found) →
     HasAsked c w past new ms ns (Some (Promise v b)) → IsLeftBy (record run { stage = Prepare v b found }) new (Some (Promise v b)) → HasTurned c w past new ns (prepared_of new)
 prepared_turned c w past run new ms v b found ns config p n going none back asked left =
     let round = n.round in
@@ -349,45 +350,49 @@ prepared_turned c w past run new ms v b found ns config p n going none back aske
       | inr e ↦ (
           let awaits : (s : ℕ) → s < c.n → (site_now ns s).awaits ≡ None = λ (s : ℕ) (l : s < c.n). idle_of c new ns s (site_now ns s).awaits k.knows e l refl in
           let idle : IsIdle c ns v = record { awaits = awaits; heard = heard_from c w ns (Some (Promise v b)) asked.served awaits; undecided = none } in
-          let gone = prepared_gone c new ns v b k.knows none low (untaken_from c w ns (Promise v b) refl asked.served awaits) in
           let one = known_one c ns v config going idle in
-          let pass = asked.held.0.works.pass in
-          let barred : IsBarred c ns v = record { current = pass.current; later = pass.later; gone = gone } in
-          subst (HasTurned c w past new ns) (sym (cond-false (is_waiting new) Goes (Ends (given_in_of new)) e))
-          (given_in_turned c w past new ns config k going (Collected v b (record { going = going; idle = idle; promise = asked.may; gone = (one.0, one.1, one.2, one.3, gone one.0 one.1 one.2 one.3); works = inr barred }))))
+          absurd (prepared_taken c new ns v b k.knows none low (untaken_from c w ns (Promise v b) refl asked.served awaits) one.0 one.1 one.2 one.3))
     ]
 
-heard_one : (c : Config) (p : RowAt → Bool) (ms : List Action) (s : ℕ) (row : RowAt) → s < c.n → rows_known ms s ≡ Some row → p row ≡ true → 1 ≤ heard_at c p ms
-heard_one c p ms s row l e h = count_one c.n (some_heard p ms) s l (heard_passes p ms s row (known_heard ms s row e) h)
+-- where the call gives in, nothing was sent
+pub prepared_stepless : (new : Run) (send : List Out) (outcome : Outcome) → (is_waiting new ≡ false → send ≡ []) → outcome ≡ prepared_of new → outcome ≢ Goes → MakeNoStep send
+prepared_stepless new send outcome idle is ended =
+    elim (cases_Bool (is_waiting new)) [
+      | inl e ↦ absurd (ended (is ∙ cond-true (is_waiting new) Goes (Ends (given_in_of new)) e))
+      | inr e ↦ subst MakeNoStep (sym (idle e)) none_stepless
+    ]
 
 unpromised_passed : (ms : List Action) (v u : ℕ) → v ≤ u → IsUnpromised ms v → (d : BallotAt) → has_promised_at ms u d ≡ true → passed_since u d ms ≡ true
 unpromised_passed ms v u l h d e = absurd (both_ways (has_promised_at ms u d) (h u d l) e)
 
-ended_prepares : (c : Config) (w : Caller) (past : List Trace) (run : Run) (ms : List Action) (stage : Stage) → run.stage ≡ stage → RunsOut c w past run ms → ended_in run stage ≡ None → Prepares c w past run ms (version_in stage (highest_of run.rows))
+ended_prepares : (c : Config) (w : Caller) (past : List Trace) (run : Run) (ms : List Action) (stage : Stage) → run.stage ≡ stage → RunsOut c w past run ms → ended_in run stage ≡ None → Prepares c w past run ms (version_in stage (looked_in run))
 ended_prepares c w past run ms Look at r e =
     let s : StageStands c w past Look ms = subst (λ st. StageStands c w past st ms) at r.stage in
-    let above : 1 ≤ highest_of run.rows = subst (λ st. 1 ≤ version_in st (highest_of run.rows)) at r.above in
-    let none : NoEvidence c ms (highest_of run.rows) = subst (λ st. NoEvidence c ms (version_in st (highest_of run.rows))) at r.none in
+    let above : 1 ≤ looked_in run = subst (λ st. 1 ≤ version_in st (looked_in run)) at r.above in
+    let low : looked_in run ≤ highest_of run.rows = looked_low run.target (highest_of run.rows) in
+    let none : IsUndecided c ms (looked_in run) = subst (λ st. IsUndecided c ms (version_in st (looked_in run))) at r.none in
     let enough : c.qc ≤ known_count c ms = quorum_known c ms r.heard r.going.enough in
     let unpromised : IsUnpromised ms 0 = looks_unpromised ms 0 s.1 in
-    let pass : MayPass c w ms (highest_of run.rows) = record {
+    let current : IsCurrent c ms (highest_of run.rows) = known_current c run ms r.stands.knows (highest_of run.rows) enough (λ (site : ℕ) (row : RowAt) (k : slice_get run.rows site ≡ Some (Some row)). top_highest run.rows site row k) in
+    let pass : MayPass c w ms (looked_in run) = record {
       above = above;
-      current = known_current c run ms r.stands.knows (highest_of run.rows) enough (λ (site : ℕ) (row : RowAt) (k : slice_get run.rows site ≡ Some (Some row)). top_highest run.rows site row k);
-      clear = unvoted_clear c w.name ms (highest_of run.rows) s.0;
-      later = unpromised_from ms 0 (highest_of run.rows + 1) (omega arith) unpromised;
+      aim = subst (λ t. IsAim c t ms (looked_in run)) r.stands.target_is (looked_aim c run.target ms (highest_of run.rows) current);
+      clear = unvoted_clear c w.name ms (looked_in run) s.0;
+      later = unpromised_from ms 0 (looked_in run + 1) (omega arith) unpromised;
+      votes = unvoted_up_to w ms (looked_in run) s.0;
     } in
-    let begun : 1 ≤ heard_at c (λ r. leb (highest_of run.rows) (row_top r)) ms = elim (highest_reached run.rows) [
+    let begun : 1 ≤ heard_at c (λ r. leb (looked_in run) (row_top r)) ms = elim (highest_reached run.rows) [
       | inl zero_is ↦ absurd (omega arith)
       | inr k ↦ (
           let inside : k.0 < c.n = let len = r.stands.knows.rows_len in omega (arith, slice_get_within run.rows k.0 (Some k.1) k.2) in
           let top = k.3 in
-          heard_one c (λ row. leb (highest_of run.rows) (row_top row)) ms k.0 k.1 inside (listed_known c run ms r.stands.knows k.0 k.1 inside k.2) (le-leb (highest_of run.rows) (row_top k.1) (omega arith)))
+          heard_one c (λ row. leb (looked_in run) (row_top row)) ms k.0 k.1 inside (known_heard ms k.0 k.1 (listed_known c run ms r.stands.knows k.0 k.1 inside k.2)) (le-leb (looked_in run) (row_top k.1) (omega arith)))
     ] in
-    record { stands = r.stands; going = r.going; unnoticed = r.unnoticed; askable = inl (r.idle, r.again); pass = pass; grounded = inr begun; passed = unpromised_passed ms 0 (highest_of run.rows) (omega arith) unpromised; begun = λ reads. begun; none = none }
+    record { stands = r.stands; going = r.going; unnoticed = r.unnoticed; askable = inl (r.idle, r.again); pass = pass; grounded = inr begun; passed = unpromised_passed ms 0 (looked_in run) (omega arith) unpromised; begun = λ reads. begun; none = none }
 ended_prepares c w past run ms (Fast v) at r e =
     let s : StageStands c w past (Fast v) ms = subst (λ st. StageStands c w past st ms) at r.stage in
-    let none : NoEvidence c ms v = subst (λ st. NoEvidence c ms (version_in st (highest_of run.rows))) at r.none in
-    record { stands = r.stands; going = r.going; unnoticed = r.unnoticed; askable = inl (r.idle, r.again); pass = pass_from c w ms v s.0 s.2; grounded = inl s.0.next; passed = unpromised_passed ms v v (omega arith) s.2; begun = λ reads. absurd (none-some s.1.0 (sym reads ∙ s.1.1)); none = none }
+    let none : IsUndecided c ms v = subst (λ st. IsUndecided c ms (version_in st (looked_in run))) at r.none in
+    record { stands = r.stands; going = r.going; unnoticed = r.unnoticed; askable = inl (r.idle, r.again); pass = vote_passes c w ms v r.stands.writes s; grounded = inl s.may.next; passed = unpromised_passed ms v v (omega arith) s.unpromised; begun = λ reads. absurd (none-some s.own.0 (sym reads ∙ s.own.1)); none = none }
 ended_prepares c w past run ms (Prepare v b found) at r e = absurd (none-some _ (sym e))
 ended_prepares c w past run ms (Accept v b x) at r e = absurd (none-some _ (sym e))
 
@@ -442,19 +447,19 @@ askable_accept c w past run ms v b x at p e =
     let askable : IsOvertakenAskably c run (Accept v b x) ms = subst (λ st. IsOvertakenAskably c run st ms) at p.acts.ready.above in
     askable_listed c run ms v b p.acts.ready.stands.knows askable e
 
-lost_prepares : (c : Config) (w : Caller) (past : List Trace) (run : Run) (ms : List Action) (stage : Stage) → run.stage ≡ stage → Carries c w past run ms → is_overtaken_in run stage ≡ true → Prepares c w past run ms (version_in stage (highest_of run.rows))
+lost_prepares : (c : Config) (w : Caller) (past : List Trace) (run : Run) (ms : List Action) (stage : Stage) → run.stage ≡ stage → Carries c w past run ms → is_overtaken_in run stage ≡ true → Prepares c w past run ms (version_in stage (looked_in run))
 lost_prepares c w past run ms Look at p e = absurd (false≢true e)
 lost_prepares c w past run ms (Fast v) at p e = absurd (false≢true e)
 lost_prepares c w past run ms (Prepare v b found) at p e =
     let h = p.acts.ready.stands in
     let s : StageStands c w past (Prepare v b found) ms = subst (λ st. StageStands c w past st ms) at p.acts.ready.stage in
-    let none : NoEvidence c ms v = subst (λ st. IsUnmet c run st ms) at p.acts.unmet in
+    let none : IsUndecided c ms v = subst (λ st. IsUnmet c run st ms) at p.acts.unmet in
     let why : (run.round < b.round) ⊎ (list_any (above_known v b) run.rows ≡ true) = elim (or_cases (nat_lt run.round b.round) (list_any (above_known v b) run.rows) e) [ inl l ↦ inl (ltb-true run.round b.round l) | inr k ↦ inr k ] in
     record { stands = h; going = p.acts.going; unnoticed = p.acts.ready.unnoticed; askable = inr (askable_prepare c w past run ms v b found at p e); pass = s.0.works.pass; grounded = s.0.works.grounded; passed = λ (d : BallotAt) (k : has_promised_at ms v d ≡ true). passed_by c w past run ms v b d h s.0.works s.1 why k; begun = λ reads. begun_heard c ms v b (s.0.works.begun reads); none = none }
 lost_prepares c w past run ms (Accept v b x) at p e =
     let h = p.acts.ready.stands in
     let s : StageStands c w past (Accept v b x) ms = subst (λ st. StageStands c w past st ms) at p.acts.ready.stage in
-    let none : NoEvidence c ms v = subst (λ st. IsUnmet c run st ms) at p.acts.unmet in
+    let none : IsUndecided c ms v = subst (λ st. IsUnmet c run st ms) at p.acts.unmet in
     record { stands = h; going = p.acts.going; unnoticed = p.acts.ready.unnoticed; askable = inr (askable_accept c w past run ms v b x at p e); pass = s.1.works.pass; grounded = s.1.works.grounded; passed = λ (d : BallotAt) (k : has_promised_at ms v d ≡ true). passed_by c w past run ms v b d h s.1.works s.2 (inr e) k; begun = λ reads. begun_heard c ms v b (s.1.works.begun reads); none = none }
 
 -- a call prepares again where its ballot leads no further

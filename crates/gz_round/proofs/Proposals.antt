@@ -32,11 +32,12 @@ use Rattle.gz_round.specs.Sent.{last_promise}
 use Rattle.gz_round.specs.LookBack.{or_next, IsLookedBack}
 use Rattle.gz_round.specs.Rounds.{MayClassicVote, MayPropose, IsPromiseHeard, IsLeft, promises_known, slot_promises, has_classic_cast, rounds_used, IsValueKnown}
 use Rattle.gz_round.specs.Causes.{row_value, column_value, vote_value}
-use Rattle.gz_round.specs.Sending.{NoEvidence, MayGiveIn, NoValue}
+use Rattle.gz_round.specs.Sending.{IsUndecided, MayGiveIn, NoValue}
 use Rattle.gz_round.specs.Standing.{Knows, Stands, StageStands, MayPass}
 use Rattle.gz_round.specs.Choosing.{promised_vote, heard_vote, IsHeardIn, AreHeardIn, IsProposal}
 use Rattle.gz_round.specs.Acting.{IsGoalUnmet, Carries, ChoiceMeans, choice_of}
 use Rattle.gz_round.specs.Goals.{IsFewIn, IsUnmet, IsOvertakenAskably}
+use Rattle.gz_round.proofs.Targets.{writes_current}
 use Rattle.gz_round.proofs.Known.{listed_known, known_heard}
 use Rattle.gz_round.proofs.LookBacks.{back_heard, last_promised_at}
 use Rattle.gz_round.proofs.Arms.{stands_stage}
@@ -225,7 +226,7 @@ free_may : (c : Config) (w : Caller) (past : List Trace) (run : Run) (ms : List 
 free_may c w past run ms v b found x (Some y) is h pass back e =
     let same : y ≡ x = next_some run.own found x y (h.own_is ∙ is) e in
     let own : w.own ≡ Some x = is ∙ ap (λ z. Some z) same in
-    (inl (own, pass.current, pass.clear), inl own, λ reads. absurd (none-some x (sym reads ∙ own)))
+    (inl (own, writes_current c w ms v x h.writes own pass.aim, pass.clear), inl own, λ reads. absurd (none-some x (sym reads ∙ own)))
 free_may c w past run ms v b found x None is h pass back e =
     let same : found ≡ Some x = sym (e ∙ next_none run.own found (h.own_is ∙ is)) in
     let looked : IsLookedBack c ms v b (Some x) = subst (IsLookedBack c ms v b) same (back is) in
@@ -263,7 +264,7 @@ chosen_carries : (c : Config) (w : Caller) (past : List Trace) (run : Run) (ms :
     Carries c w past (record run { stage = Accept v b x }) ms
 chosen_carries c w past run ms v b found heard x at a reached are enough proposed =
     let s : StageStands c w past (Prepare v b found) ms = subst (λ st. StageStands c w past st ms) at a.ready.stage in
-    let unmet : NoEvidence c ms v = subst (λ st. IsUnmet c run st ms) at a.unmet in
+    let unmet : IsUndecided c ms v = subst (λ st. IsUnmet c run st ms) at a.unmet in
     let askable : IsOvertakenAskably c run (Prepare v b found) ms = subst (λ st. IsOvertakenAskably c run st ms) at a.ready.above in
     let last = was_last past ms v b run.round a.ready.stands.round_is reached s.0.used in
     let may = proposed_may c w past run ms v b found heard x a.ready.stands s.0.works.pass (λ reads. s.2 reads last) are.rows_are proposed in
@@ -285,7 +286,7 @@ chosen_carries c w past run ms v b found heard x at a reached are enough propose
     }
 
 -- a quorum promises the ballot, and the call has no value to vote for
-nothing_gives_in : (c : Config) (w : Caller) (past : List Trace) (run : Run) (ms : List Action) (v : ℕ) (b : BallotAt) (found : Option Value) (heard : List Heard) → run.stage ≡ Prepare v b found → IsGoalUnmet c w past run ms → b.round ≤ run.round → AreHeardIn c run.rows v b heard c.n → c.qc ≤ length heard → IsProposal c run v found heard None → MayGiveIn c w past ms
+nothing_gives_in : (c : Config) (w : Caller) (past : List Trace) (run : Run) (ms : List Action) (v : ℕ) (b : BallotAt) (found : Option Value) (heard : List Heard) → run.stage ≡ Prepare v b found → IsGoalUnmet c w past run ms → b.round ≤ run.round → AreHeardIn c run.rows v b heard c.n → c.qc ≤ length heard → IsProposal c run v found heard None → MayGiveIn c w ms
 nothing_gives_in c w past run ms v b found heard at a reached are enough proposed =
     let s : StageStands c w past (Prepare v b found) ms = subst (λ st. StageStands c w past st ms) at a.ready.stage in
     let none = proposed_none c w past run ms v b found heard a.ready.stands proposed in

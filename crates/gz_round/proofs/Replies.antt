@@ -13,7 +13,7 @@ use Rattle.gz_round.specs.declared.run.Mark.{Mark}
 use Rattle.gz_round.specs.declared.run.Run.{Run}
 use Rattle.gz_core.specs.History.{Asked, Action, Handed, GaveUp, Caller, Trace, is_row_request}
 use Rattle.gz_round.specs.Sites.{SiteNow, site_now, after_reply, known, row_seen, written_by, as_heard, seen_in, is_changed}
-use Rattle.gz_round.specs.Sent.{met, voted, phase_of, top_round}
+use Rattle.gz_round.specs.Sent.{met, last_vote, phase_of, top_round}
 use Rattle.gz_round.specs.Rounds.{top_rounds}
 use Rattle.gz_round.specs.Sending.{IsAllowed, IsAwaitedOf}
 use Rattle.gz_round.specs.Noting.{left_run, noted_by, written_at, written_of, IsReplyNoted}
@@ -95,16 +95,17 @@ ended_met run at mark row None false = refl
 pub record IsElse (old new : Run) : Type 0 where
   pub name : new.name ≡ old.name
   pub key : new.key ≡ old.key
+  pub target : new.target ≡ old.target
   pub own : new.own ≡ old.own
-  pub voted : new.voted ≡ old.voted
+  pub vote : new.last_vote ≡ old.last_vote
   pub wrote : new.wrote ≡ old.wrote
   pub round : new.round ≡ old.round
   pub stage : new.stage ≡ old.stage
 
 pub ended_else : (run : Run) (at : ℕ) (mark : Mark) (row : Option RowAt) (seen : Option Seen) (changed : Bool) → IsElse run (noted_by run at mark row seen changed)
-ended_else run at mark row (Some seen) changed = record { name = refl; key = refl; own = refl; voted = refl; wrote = refl; round = refl; stage = refl }
-ended_else run at mark row None true = record { name = refl; key = refl; own = refl; voted = refl; wrote = refl; round = refl; stage = refl }
-ended_else run at mark row None false = record { name = refl; key = refl; own = refl; voted = refl; wrote = refl; round = refl; stage = refl }
+ended_else run at mark row (Some seen) changed = record { name = refl; key = refl; target = refl; own = refl; vote = refl; wrote = refl; round = refl; stage = refl }
+ended_else run at mark row None true = record { name = refl; key = refl; target = refl; own = refl; vote = refl; wrote = refl; round = refl; stage = refl }
+ended_else run at mark row None false = record { name = refl; key = refl; target = refl; own = refl; vote = refl; wrote = refl; round = refl; stage = refl }
 
 sound_ended : (seen : Option Seen) (changed : Bool) (now : SiteNow) (s : ℕ) → IsSound (after_reply seen changed now) s
 sound_ended (Some seen) changed now s = record { inside = λ (a : Asked) (e : None ≡ Some a). absurd (none-some a e); answered = refl }
@@ -113,14 +114,16 @@ sound_ended None false now s = record { inside = λ (a : Asked) (e : None ≡ So
 
 -- what is noted stands for the action
 pub stands_ended : (c : Config) (w : Caller) (past : List Trace) (run : Run) (ms : List Action) (m : Action) (at : ℕ) (seen : Option Seen) (changed : Bool) → Ends m at seen changed → at < c.n → (site_now ms at).out ≡ false →
-    voted w.name (m ∷ ms) ≡ voted w.name ms → phase_of (m ∷ ms) ≡ phase_of ms → top_round (m ∷ ms) ≡ top_round ms → met (m ∷ ms) ≡ met_by seen changed (met ms) → IsAllowed c w past ms m → Stands c w past run ms → Stands c w past (noted_by run at (mark_of (site_now ms at)) (known (site_now ms at)) seen changed) (m ∷ ms)
+    last_vote w.name (m ∷ ms) ≡ last_vote w.name ms → phase_of (m ∷ ms) ≡ phase_of ms → top_round (m ∷ ms) ≡ top_round ms → met (m ∷ ms) ≡ met_by seen changed (met ms) → IsAllowed c w past ms m → Stands c w past run ms → Stands c w past (noted_by run at (mark_of (site_now ms at)) (known (site_now ms at)) seen changed) (m ∷ ms)
 stands_ended c w past run ms m at seen changed e l kept votes phase rounds met_then may h =
     let rest = ended_else run at (mark_of (site_now ms at)) (known (site_now ms at)) seen changed in
     record {
       name_is = rest.name ∙ h.name_is;
       key_is = rest.key ∙ h.key_is;
+      target_is = rest.target ∙ h.target_is;
       own_is = rest.own ∙ h.own_is;
       named = h.named;
+      writes = h.writes;
       knows = record {
         rows_len = ended_rows_len run at (mark_of (site_now ms at)) (known (site_now ms at)) seen changed ∙ h.knows.rows_len;
         marks_len = ended_marks_len run at (mark_of (site_now ms at)) (known (site_now ms at)) seen changed ∙ h.knows.marks_len;
@@ -128,7 +131,7 @@ stands_ended c w past run ms m at seen changed e l kept votes phase rounds met_t
         marks = ended_marks c run ms m at seen changed e kept h.knows l;
       };
       met_is = ended_met run at (mark_of (site_now ms at)) (known (site_now ms at)) seen changed ∙ (ap (met_by seen changed) h.met_is ∙ sym met_then);
-      voted_is = rest.voted ∙ (h.voted_is ∙ sym votes);
+      vote_is = rest.vote ∙ (h.vote_is ∙ sym votes);
       wrote_is = rest.wrote ∙ (h.wrote_is ∙ sym phase);
       round_is = rest.round ∙ (h.round_is ∙ ap (λ (n : ℕ). max (top_rounds past) n) (sym rounds));
       sites = λ (s : ℕ). elim (cases_eq s at) [
@@ -174,7 +177,7 @@ ready_heard c w past run new ms at a reply l awaits r same new_is =
     let awaited : IsAwaitedOf ms a = subst (λ (z : ℕ). (site_now ms z).awaits ≡ Some a) (sym sound.1) awaits in
     let stands : Stands c w past (noted_by run at (mark_of (site_now ms at)) (known (site_now ms at)) (seen_in (written_by a.op) reply) (is_changed reply)) (Handed a reply ∷ ms) =
     stands_ended c w past run ms (Handed a reply) at (seen_in (written_by a.op) reply) (is_changed reply) ends l sound.0 refl refl refl (met_handed a reply ms (seen_in (written_by a.op) reply) (is_changed reply) row refl refl) (λ about. (awaited, same)) r.stands in
-    let stage : StageStands c w past run.stage (Handed a reply ∷ ms) = stage_more c w past (Handed a reply) ms run.stage (ended_known (Handed a reply) ms at (seen_in (written_by a.op) reply) (is_changed reply) ends (heard_row a reply row)) (record { voted = refl; voted_at = λ u. refl; phase = refl; promise = refl; cast = refl }) r.stage in
+    let stage : StageStands c w past run.stage (Handed a reply ∷ ms) = stage_more c w past (Handed a reply) ms run.stage (ended_known (Handed a reply) ms at (seen_in (written_by a.op) reply) (is_changed reply) ends (heard_row a reply row)) (record { vote = refl; phase = refl; promise = refl; cast = refl }) r.stage in
     subst (λ (n : Run). Ready c w past n (Handed a reply ∷ ms)) (sym new_is) (ready_ended c w past run ms (Handed a reply) at (seen_in (written_by a.op) reply) (is_changed reply) a ends awaits refl r stands stage)
 
 -- a reply that is handed, as the call hears it
@@ -195,5 +198,5 @@ ready_gave_up c w past run new ms at a l awaits r new_is =
     let ends : Ends (GaveUp a) at None false = record { here = awaits_to ms at a awaits; others = λ (s : ℕ) (n : s ≢ at). is_to_other a s (λ (q : s ≡ a.site). n (q ∙ sound.1)); after_is = λ now. refl } in
     let awaited : IsAwaitedOf ms a = subst (λ (z : ℕ). (site_now ms z).awaits ≡ Some a) (sym sound.1) awaits in
     let stands : Stands c w past (left_run run at (mark_of (site_now ms at)) (known (site_now ms at))) (GaveUp a ∷ ms) = stands_ended c w past run ms (GaveUp a) at None false ends l sound.0 refl refl refl refl (λ about. awaited) r.stands in
-    let stage : StageStands c w past run.stage (GaveUp a ∷ ms) = stage_more c w past (GaveUp a) ms run.stage (ended_known (GaveUp a) ms at None false ends refl) (record { voted = refl; voted_at = λ u. refl; phase = refl; promise = refl; cast = refl }) r.stage in
+    let stage : StageStands c w past run.stage (GaveUp a ∷ ms) = stage_more c w past (GaveUp a) ms run.stage (ended_known (GaveUp a) ms at None false ends refl) (record { vote = refl; phase = refl; promise = refl; cast = refl }) r.stage in
     subst (λ (n : Run). Ready c w past n (GaveUp a ∷ ms)) (sym new_is) (ready_ended c w past run ms (GaveUp a) at None false a ends awaits refl r stands stage)

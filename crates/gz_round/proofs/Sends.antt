@@ -19,12 +19,13 @@ use Rattle.gz_round.specs.declared.run.Mark.{Mark}
 use Rattle.gz_round.specs.declared.run.Run.{Run}
 use Rattle.gz_core.specs.History.{Asked, Action, Sent, Caller, Trace, asked_of, is_row_request}
 use Rattle.gz_round.specs.Sites.{SiteNow, site_now, after_sent, is_to, known, row_seen}
-use Rattle.gz_round.specs.Sent.{is_notice, vote_by, phase_by, of_step, or_earlier, last_sent, passes_sent, phase_of, phase_or_look, promise_by, round_after, top_round}
+use Rattle.gz_round.specs.Sent.{is_notice, vote_by, phase_by, of_step, or_earlier, last_sent, phase_of, phase_or_look, promise_by, round_after, top_round}
 use Rattle.gz_round.specs.Rounds.{top_rounds}
 use Rattle.gz_round.specs.Sending.{MaySend, MayAsk, MayMake, IsMade, answer_of, made_by, is_awaited}
 use Rattle.gz_round.specs.Asking.{asks_of, row_out, step_out, write_out, read_out, made_of, if_done, sent_run, marked_as, phase_after}
 use Rattle.gz_round.specs.Standing.{Knows, Stands, IsSound, mark_of, etag_seen, awaited_of}
-use Rattle.gz_round.specs.Following.{MayMakeOf, IsPlain}
+use Rattle.gz_round.specs.Following.{MayMakeOf, IsNoticeIfAny, IsPlain}
+use Rattle.gz_round.specs.Starting.{is_read_or_notice}
 use Rattle.gz_round.specs.Counting.{IsUntold}
 use Rattle.gz_round.proofs.Lists.{told_after_set, told_same}
 use Rattle.gz_round.proofs.Actions.{is_to_same, is_to_other, now_here, now_other, each_site}
@@ -130,6 +131,13 @@ kind_plain run at mark step row out (writes made before new s r same made_is e) 
     let plain_made : is_notice made ≡ false = subst IsPlain s plain in
     ap (λ o. o.awaited) e ∙ ap not plain_made
 
+-- it is a read or a notice where the step is at most a notice
+pub kind_stepless : (run : Run) (at : ℕ) (mark : Mark) (step : Option RowStep) (row : Option RowAt) (out : Out) → Kind run at mark step row out → IsNoticeIfAny step → is_read_or_notice out.op ≡ true
+kind_stepless run at mark step row out (reads e why) notice = ap (λ (o : Out). is_read_or_notice o.op) e
+kind_stepless run at mark step row out (writes made before new s r same made_is e) notice =
+    let told : is_notice made ≡ true = subst IsNoticeIfAny s notice in
+    ap (λ (o : Out). is_read_or_notice o.op) e ∙ told
+
 -- it is one that may be sent
 pub kind_may : (c : Config) (w : Caller) (past : List Trace) (run : Run) (ms : List Action) (at number : ℕ) (step : Option RowStep) (out : Out) → at < c.n → run.key ≡ key_of w.call → MayMakeOf c w past ms step → IsUntold ms at →
     asks_of run at (mark_of (site_now ms at)) step (known (site_now ms at)) ≡ Some out → MaySend c w past ms (asked_of number out)
@@ -189,8 +197,10 @@ pub stands_sent : (c : Config) (w : Caller) (past : List Trace) (run : Run) (ms 
 stands_sent c w past run ms at number out l row here h may = record {
   name_is = h.name_is;
   key_is = h.key_is;
+  target_is = h.target_is;
   own_is = h.own_is;
   named = h.named;
+  writes = h.writes;
   knows = record {
     rows_len = h.knows.rows_len;
     marks_len = elim (cases_Bool out.awaited) [
@@ -201,7 +211,7 @@ stands_sent c w past run ms at number out l row here h may = record {
     marks = marks_sent c run ms at number out h.knows l row here (subst (λ (z : ℕ). (site_now ms z).out ≡ false) here may.kept);
   };
   met_is = h.met_is;
-  voted_is = ap (λ (n : Name). passes_sent (λ u. true) (of_step (vote_by n) out.op) || run.voted) h.name_is ∙ ap (λ b. passes_sent (λ u. true) (of_step (vote_by w.name) out.op) || b) h.voted_is;
+  vote_is = ap (λ (n : Name). or_earlier (of_step (vote_by n) out.op) run.last_vote) h.name_is ∙ ap (or_earlier (of_step (vote_by w.name) out.op)) h.vote_is;
   wrote_is = ap (phase_after (of_step phase_by out.op)) h.wrote_is ∙ phase_sent (of_step phase_by out.op) ms;
   round_is = round_sent (of_step promise_by out.op) run.round (top_rounds past) (top_round ms) h.round_is;
   sites = λ (s : ℕ). each_site (λ n. IsSound n s) (Sent (asked_of number out)) ms s

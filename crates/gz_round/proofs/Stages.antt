@@ -17,17 +17,20 @@ use Rattle.gz_round.specs.declared.run.Stage.{Stage}
 use Rattle.gz_round.specs.declared.run.Stage.TheVariants.{Look, Fast, Prepare, Accept}
 use Rattle.gz_core.specs.History.{Asked, Action, Sent, Caller, Trace}
 use Rattle.gz_round.specs.Sites.{SiteNow, site_now, after, after_reply, concerns, known, heard_in, passes}
-use Rattle.gz_round.specs.Sent.{voted, voted_at, vote_by, promise_by, of_step, of_sent, or_earlier, passes_sent, some_sent, has_promised_at, last_promise, IsUnpromised, top_round, round_after, phase_of}
+use Rattle.gz_round.specs.Sent.{voted_at, last_vote, vote_by, promise_by, of_step, of_sent, or_earlier, passes_sent, some_sent, has_promised_at, last_promise, IsUnpromised, top_round, round_after, phase_of}
 use Rattle.gz_round.specs.Shown.{IsClear, IsGrounded}
 use Rattle.gz_round.specs.LookBack.{IsLookedBack}
 use Rattle.gz_round.specs.Rounds.{MayClassicVote, MayPropose, IsLeft, passed_since, is_promise, promises_above, cast_by, has_classic_cast, top_rounds, rounds_used, IsValueKnown}
 use Rattle.gz_round.specs.Sending.{NoneAbove}
-use Rattle.gz_round.specs.Standing.{StageStands, ArePassed, MayPass, IsWorking, IsPreparing, IsVoting}
+use Rattle.gz_round.specs.Targets.{target_of}
+use Rattle.gz_round.specs.Standing.{StageStands, ArePassed, AreVotesUpTo, MayPass, IsWorking, IsPreparing, IsVoting}
 use Rattle.gz_round.specs.Following.{HeldBy, HeldOf}
 use Rattle.gz_round.proofs.Heard.{current_more, next_more, shown_more, heard_at_more}
 use Rattle.gz_round.proofs.Actions.{now_here, now_other}
 use Rattle.gz_round.proofs.LookBacks.{back_more, begun_more, last_promised_at}
-use Rattle.gz_round.proofs.Guards.{IsOf, clear_vote, only_classic, promise_sent, passed_still, promises_more}
+use Rattle.gz_round.proofs.Targets.{aim_by}
+use Rattle.gz_round.proofs.Votes.{votes_kept}
+use Rattle.gz_round.proofs.Guards.{IsOf, clear_vote, only_vote, only_classic, promise_sent, passed_still, promises_more}
 use Rattle.gz_round.proofs.Known.{known_after_sent}
 
 -- what an action ends: the request that is awaited from one site, with the row that it showed, or overtaken, or nothing
@@ -38,8 +41,7 @@ pub record Ends (m : Action) (at : ℕ) (seen : Option Seen) (changed : Bool) : 
 
 -- an action sends no promise, and no vote of any kind
 pub record IsQuiet (w : Caller) (m : Action) (ms : List Action) : Type 0 where
-  pub voted : voted w.name (m ∷ ms) ≡ voted w.name ms
-  pub voted_at : (u : ℕ) → voted_at w.name (m ∷ ms) u ≡ voted_at w.name ms u
+  pub vote : of_sent (vote_by w.name) m ≡ None
   pub phase : phase_of (m ∷ ms) ≡ phase_of ms
   pub promise : of_sent promise_by m ≡ None
   pub cast : of_sent cast_by m ≡ None
@@ -48,8 +50,18 @@ pub record IsQuiet (w : Caller) (m : Action) (ms : List Action) : Type 0 where
 pub unsent : {T : Type 0} (f : RowStep → Option T) (p : T → Bool) (m : Action) (ms : List Action) → of_sent f m ≡ None → some_sent f p (m ∷ ms) ≡ some_sent f p ms
 unsent f p m ms e = ap (λ o. passes_sent p o || some_sent f p ms) e
 
-clear_more : (c : Config) (x : Name) (m : Action) (ms : List Action) (v : ℕ) → ((u : ℕ) → voted_at x (m ∷ ms) u ≡ voted_at x ms u) → IsClear c x ms v → IsClear c x (m ∷ ms) v
-clear_more c x m ms v same h u n k = let w = h u n (sym (same u) ∙ k) in (w.0, w.1, shown_more c m ms u w.0 w.2)
+unvoted_at : (x : Name) (m : Action) (ms : List Action) (u : ℕ) → of_sent (vote_by x) m ≡ None → voted_at x (m ∷ ms) u ≡ voted_at x ms u
+unvoted_at x m ms u e = unsent (vote_by x) (λ k. k == u) m ms e
+
+clear_more : (c : Config) (x : Name) (m : Action) (ms : List Action) (v : ℕ) → of_sent (vote_by x) m ≡ None → IsClear c x ms v → IsClear c x (m ∷ ms) v
+clear_more c x m ms v e h u n k = let w = h u n (sym (unvoted_at x m ms u e) ∙ k) in (w.0, w.1, shown_more c m ms u w.0 w.2)
+
+votes_more : (w : Caller) (m : Action) (ms : List Action) (v : ℕ) → of_sent (vote_by w.name) m ≡ None → AreVotesUpTo w ms v → AreVotesUpTo w (m ∷ ms) v
+votes_more w m ms v e h u k =
+    elim (h u (sym (unvoted_at w.name m ms u e) ∙ k)) [
+      | inl low ↦ inl low
+      | inr last ↦ inr (last.0, ap (λ o. or_earlier o (last_vote w.name ms)) e ∙ last.1)
+    ]
 
 unpromised_more : (m : Action) (ms : List Action) (v : ℕ) → of_sent promise_by m ≡ None → IsUnpromised ms v → IsUnpromised (m ∷ ms) v
 unpromised_more m ms v e h u d l = unsent promise_by (λ p. (p.0 == u) && same_ballot p.1 d) m ms e ∙ h u d l
@@ -72,7 +84,7 @@ last_more : (m : Action) (ms : List Action) (v : ℕ) (b : BallotAt) → of_sent
 last_more m ms v b e h = ap (λ o. or_earlier o (last_promise ms)) e ∙ h
 
 pass_more : (c : Config) (w : Caller) (m : Action) (ms : List Action) (v : ℕ) → IsQuiet w m ms → MayPass c w ms v → MayPass c w (m ∷ ms) v
-pass_more c w m ms v q h = record { above = h.above; current = current_more c m ms v h.current; clear = clear_more c w.name m ms v q.voted_at h.clear; later = unpromised_more m ms (v + 1) q.promise h.later }
+pass_more c w m ms v q h = record { above = h.above; aim = aim_by c (target_of w.call) ms (m ∷ ms) v (current_more c m ms v) h.aim; clear = clear_more c w.name m ms v q.vote h.clear; later = unpromised_more m ms (v + 1) q.promise h.later; votes = votes_more w m ms v q.vote h.votes }
 
 works_more : (c : Config) (w : Caller) (past : List Trace) (m : Action) (ms : List Action) (v : ℕ) (b : BallotAt) → IsQuiet w m ms → IsWorking c w past ms v b → IsWorking c w past (m ∷ ms) v b
 works_more c w past m ms v b q h = record {
@@ -106,7 +118,7 @@ looked_more c m ms v b found e h last =
     back_more c m ms v b found (last_promised_at ms v b before) (h before)
 
 propose_more : (c : Config) (w : Caller) (m : Action) (ms : List Action) (v : ℕ) (x : Value) → IsQuiet w m ms → MayPropose c w ms v x → MayPropose c w (m ∷ ms) v x
-propose_more c w m ms v x q (inl h) = inl (h.0, current_more c m ms v h.1, clear_more c w.name m ms v q.voted_at h.2)
+propose_more c w m ms v x q (inl h) = inl (h.0, current_more c m ms v h.1, clear_more c w.name m ms v q.vote h.2)
 propose_more c w m ms v x q (inr h) = inr (h.0, h.1, h.2, h.3, inr h.4, h.5)
 
 left_more : (c : Config) (w : Caller) (m : Action) (ms : List Action) (v : ℕ) (heard : List Heard) (x : Value) → IsQuiet w m ms → IsLeft c w ms v heard x → IsLeft c w (m ∷ ms) v heard x
@@ -171,9 +183,14 @@ passed_known c m ms v b known_by quiet h s row l k above =
 
 -- the phase goes on to stand
 pub stage_more : (c : Config) (w : Caller) (past : List Trace) (m : Action) (ms : List Action) (stage : Stage) → AreKnownBy m ms → IsQuiet w m ms → StageStands c w past stage ms → StageStands c w past stage (m ∷ ms)
-stage_more c w past m ms Look known_by q s = (q.voted ∙ s.0, q.phase ∙ s.1)
+stage_more c w past m ms Look known_by q s = (unsent (vote_by w.name) (λ u. true) m ms q.vote ∙ s.0, q.phase ∙ s.1)
 stage_more c w past m ms (Fast v) known_by q s =
-    (record { above = s.0.above; current = current_more c m ms v s.0.current; next = next_more c m ms v s.0.next; clear = clear_more c w.name m ms v q.voted_at s.0.clear }, s.1, unpromised_more m ms v q.promise s.2)
+    record {
+      may = record { above = s.may.above; current = current_more c m ms v s.may.current; next = next_more c m ms v s.may.next; clear = clear_more c w.name m ms v q.vote s.may.clear };
+      own = s.own;
+      unpromised = unpromised_more m ms v q.promise s.unpromised;
+      votes = votes_more w m ms v q.vote s.votes;
+    }
 stage_more c w past m ms (Prepare v b found) known_by q s = (preparing_more c w past m ms v b q s.0, passed_known c m ms v b known_by q.promise s.1, λ reads. looked_more c m ms v b found q.promise (s.2 reads))
 stage_more c w past m ms (Accept v b x) known_by q s = (classic_more c w m ms v b x q s.0, voting_more c w past m ms v b q s.1, passed_known c m ms v b known_by q.promise s.2)
 
@@ -190,7 +207,7 @@ later_kept : (ms : List Action) (a : Asked) (v : ℕ) (b : BallotAt) → (of_ste
 later_kept ms a v b sent h u d l = other_version (of_step promise_by a.op) v u b d (has_promised_at ms u d) sent (omega arith) (h u d l)
 
 pass_kept : (c : Config) (w : Caller) (ms : List Action) (a : Asked) (v : ℕ) (b : BallotAt) → ((u : ℕ) → passes_sent (λ k. k == u) (of_step (vote_by w.name) a.op) ≡ true → v ≡ u) → (of_step promise_by a.op ≡ None) ⊎ (of_step promise_by a.op ≡ Some (v, b)) → MayPass c w ms v → MayPass c w (Sent a ∷ ms) v
-pass_kept c w ms a v b only sent h = record { above = h.above; current = h.current; clear = clear_vote c w.name ms a v only h.clear; later = later_kept ms a v b sent h.later }
+pass_kept c w ms a v b only sent h = record { above = h.above; aim = aim_by c (target_of w.call) ms (Sent a ∷ ms) v (λ current. current) h.aim; clear = clear_vote c w.name ms a v only h.clear; later = later_kept ms a v b sent h.later; votes = votes_kept w ms a v only h.votes }
 
 none_voted : (x : Name) (op : Op) (v u : ℕ) → of_step (vote_by x) op ≡ None → passes_sent (λ k. k == u) (of_step (vote_by x) op) ≡ true → v ≡ u
 none_voted x op v u e h = absurd (false≢true (sym (ap (passes_sent (λ k. k == u)) e) ∙ h))
@@ -215,7 +232,10 @@ none_kept c ms a v b h s row l k = h s row l (known_after_sent a ms s ∙ k)
 
 -- what the phase of a step keeps goes on to hold while the step is made
 pub held_kept : (c : Config) (w : Caller) (past : List Trace) (ms : List Action) (a : Asked) (step : RowStep) → IsOf a.op (Some step) → HeldBy c w past ms step → HeldBy c w past (Sent a ∷ ms) step
-held_kept c w past ms a (FastVote v x) is h = λ (u : ℕ) (d : BallotAt) (l : v ≤ u). unsent promise_by (λ p. (p.0 == u) && same_ballot p.1 d) (Sent a) ms (none_of promise_by a.op (FastVote v x) refl is) ∙ h u d l
+held_kept c w past ms a (FastVote v x) is h = (
+  λ (u : ℕ) (d : BallotAt) (l : v ≤ u). unsent promise_by (λ p. (p.0 == u) && same_ballot p.1 d) (Sent a) ms (none_of promise_by a.op (FastVote v x) refl is) ∙ h.0 u d l,
+  votes_kept w ms a v (λ (u : ℕ) (k : passes_sent (λ z. z == u) (of_step (vote_by w.name) a.op) ≡ true). only_vote w.name a.op v x u is k) h.1,
+)
 held_kept c w past ms a (Promise v b) is h =
     let sent = promise_sent a.op v b is in (
       record {

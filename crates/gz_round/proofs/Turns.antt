@@ -10,7 +10,7 @@ use Rattle.gz_core.specs.Rows.{RowAt}
 use Rattle.gz_core.specs.Calls.{key_of}
 use Rattle.gz_core.specs.Counts.{count_sites}
 use Rattle.gz_core.specs.declared.calls.Answer.{Answer}
-use Rattle.gz_core.specs.declared.calls.Answer.TheVariants.{Absent, NoQuorum, Contended, Unsure}
+use Rattle.gz_core.specs.declared.calls.Answer.TheVariants.{Absent, Unborn, Collected, NoQuorum, Contended, Unsure}
 use Rattle.gz_core.specs.declared.calls.UnsureWhy.{UnsureWhy}
 use Rattle.gz_core.specs.declared.calls.UnsureWhy.TheVariants.{NoQuorum as UnsureNoQuorum, Contended as UnsureContended, Trimmed as UnsureTrimmed}
 use Rattle.gz_core.specs.declared.calls.Phase.{Phase}
@@ -23,7 +23,6 @@ use Rattle.gz_core.specs.declared.requests.Out.{Out}
 use Rattle.gz_accept.specs.declared.answers.Step.TheVariants.{Done}
 use Rattle.gz_accept.specs.Steps.{decided}
 use Rattle.gz_pick.specs.Looks.{highest_of}
-use Rattle.gz_pick.specs.Evidences.{IsEvident}
 use Rattle.gz_round.specs.declared.hearing.Seen.{Seen}
 use Rattle.gz_round.specs.declared.run.Mark.{Mark}
 use Rattle.gz_round.specs.declared.run.Run.{Run}
@@ -33,21 +32,25 @@ use Rattle.gz_core.specs.History.{Asked, Action, Sent, Caller, Trace, IsEarlier,
 use Rattle.gz_round.specs.Steps.{IsStepOf}
 use Rattle.gz_round.specs.Sites.{SiteNow, site_now, after_sent, known}
 use Rattle.gz_round.specs.Sent.{met, last_promise}
-use Rattle.gz_round.specs.Shown.{heard_at, IsShown, IsCurrent}
+use Rattle.gz_round.specs.Shown.{heard_at, IsShown, IsCurrent, HasFloor}
+use Rattle.gz_round.specs.Targets.{target_of, looked_at}
 use Rattle.gz_round.specs.Rounds.{promises_known, MayPromise, rounds_used, promises_above, above_known}
-use Rattle.gz_round.specs.Sending.{MayMake, NoneAbove, answer_of}
+use Rattle.gz_round.specs.Sending.{MayMake, NoneAbove, NoneGone, IsUndecided, answer_of}
 use Rattle.gz_round.specs.Counting.{IsUnnoticed, outs, known_count, IsGoing, IsNoticed, HasNotice}
-use Rattle.gz_round.specs.Causes.{EndsBy, ComesTo, IsCutOff, IsOvertaken, UnsureCause, IsValueHeard, IsLearnt, rows_known, is_blank}
+use Rattle.gz_round.specs.Causes.{EndsBy, ComesTo, IsCutOff, IsOvertaken, UnsureCause, IsValueHeard, IsLearnt, IsUnborn, IsTrimmed, rows_known, is_blank}
 use Rattle.gz_round.specs.Asking.{IsLeftBy, is_notice, round_of}
 use Rattle.gz_round.specs.Standing.{Knows, Runs, Stands, StageStands, ArePassed, AreAskedAgain, IsWaiting, IsWorking, mark_of, awaited_of}
-use Rattle.gz_round.specs.Following.{Asks, HasAsked, IsPlain, MayMakeOf, NoEvidence, HeldOf, AreDone, Turned, HasTurned}
+use Rattle.gz_round.specs.Following.{Asks, HasAsked, IsNoticeIfAny, IsPlain, MayMakeOf, HeldBy, HeldOf, AreDone, Turned, HasTurned}
 use Rattle.gz_round.specs.Acting.{TakesStep, RunsOut, Finishes, IsShortIn, is_waiting, notice_for, working_version, version_in}
 use Rattle.gz_round.specs.declared.outcome.Outcome.{Outcome}
 use Rattle.gz_round.specs.declared.outcome.Outcome.TheVariants.{Goes, Placed, Learnt, Ends as EndsAs}
-use Rattle.gz_round.specs.Goals.{AreServed, IsFewIn, IsSettledBy, IsUnmet, is_overtaken, is_overtaken_in, stage_step, step_in, vote_for}
+use Rattle.gz_round.specs.Goals.{AreServed, IsFewIn, IsSettledBy, looked_in, IsUnmet, IsSkipping, is_overtaken, is_overtaken_in, stage_step, step_in, vote_for}
 use Rattle.gz_round.proofs.Lists.{count_same, any_found, any_told}
 use Rattle.gz_round.proofs.Actions.{each_site}
-use Rattle.gz_round.proofs.Known.{evident_same, last_known, known_last, known_after_sent, out_after_sent, row_after_sent}
+use Rattle.gz_round.proofs.Columns.{highest_reached}
+use Rattle.gz_round.proofs.Targets.{asked_by}
+use Rattle.gz_round.proofs.Votes.{voted_still}
+use Rattle.gz_round.proofs.Known.{undecided_same, listed_known, last_known, known_last, known_after_sent, out_after_sent, row_after_sent}
 use Rattle.gz_round.proofs.LookBacks.{earlier_refl, back_later, last_promised_at}
 
 -- what one request more leaves holds after all requests of an event
@@ -84,8 +87,12 @@ current_sent c v first sent ms h = over_sent (λ ns. IsCurrent c ns v) (λ a ns 
 pub value_sent : (v : ℕ) (x : Value) (first : ℕ) (sent : List Out) (ms : List Action) → IsValueHeard ms v x → IsValueHeard (sent_from first sent ms) v x
 value_sent v x first sent ms h = over_sent (λ ns. IsValueHeard ns v x) (λ a ns k. (k.0, k.1, inr k.2, k.3)) first sent ms h
 
-pub evidence_sent : (c : Config) (v : ℕ) (first : ℕ) (sent : List Out) (ms : List Action) → NoEvidence c ms v → NoEvidence c (sent_from first sent ms) v
-evidence_sent c v first sent ms h = over_sent (λ ns. NoEvidence c ns v) (λ (a : Asked) (ns : List Action) (k : NoEvidence c ns v). λ (x : Name) (e : IsEvident c.n c.qc c.qf (rows_known (Sent a ∷ ns)) v x). k x (evident_same c (rows_known (Sent a ∷ ns)) (rows_known ns) v x (λ (s : ℕ) (l : s < c.n). sym (known_after_sent a ns s)) e)) first sent ms h
+-- the row that is known of a site
+pub rows_sent : (first : ℕ) (sent : List Out) (ms : List Action) (s : ℕ) → rows_known (sent_from first sent ms) s ≡ rows_known ms s
+rows_sent first sent ms s = over_sent (λ ns. rows_known ns s ≡ rows_known ms s) (λ (a : Asked) (ns : List Action) (e : rows_known ns s ≡ rows_known ms s). sym (known_after_sent a ns s) ∙ e) first sent ms refl
+
+pub undecided_sent : (c : Config) (v : ℕ) (first : ℕ) (sent : List Out) (ms : List Action) → IsUndecided c ms v → IsUndecided c (sent_from first sent ms) v
+undecided_sent c v first sent ms h = undecided_same c ms (sent_from first sent ms) v (rows_sent first sent ms) h
 
 pub going_sent : (c : Config) (first : ℕ) (sent : List Out) (ms : List Action) → IsGoing c ms → IsGoing c (sent_from first sent ms)
 going_sent c first sent ms h =
@@ -94,19 +101,6 @@ going_sent c first sent ms h =
     let few : met ms < c.tries = h.few in
     let enough : outs c ms + c.qc ≤ c.n = h.enough in
     record { few = omega arith; enough = omega arith }
-
--- and what holds after them held before
-pub going_back : (c : Config) (first : ℕ) (sent : List Out) (ms : List Action) → IsGoing c (sent_from first sent ms) → IsGoing c ms
-going_back c first sent ms h =
-    let same_met : met ms ≡ met (sent_from first sent ms) = met_sent first sent ms in
-    let same_outs : outs c ms ≡ outs c (sent_from first sent ms) = outs_sent c first sent ms in
-    let few : met (sent_from first sent ms) < c.tries = h.few in
-    let enough : outs c (sent_from first sent ms) + c.qc ≤ c.n = h.enough in
-    record { few = omega arith; enough = omega arith }
-
-pub evidence_back : (c : Config) (v : ℕ) (first : ℕ) (sent : List Out) (ms : List Action) → NoEvidence c (sent_from first sent ms) v → NoEvidence c ms v
-evidence_back c v first sent ms = over_sent (λ ns. NoEvidence c ns v → NoEvidence c ms v) (λ (a : Asked) (ns : List Action) (k : NoEvidence c ns v → NoEvidence c ms v) (none : NoEvidence c (Sent a ∷ ns) v).
-    k (λ (x : Name) (e : IsEvident c.n c.qc c.qf (rows_known ns) v x). none x (evident_same c (rows_known ns) (rows_known (Sent a ∷ ns)) v x (λ (s : ℕ) (l : s < c.n). known_after_sent a ns s) e))) first sent ms (λ none. none)
 
 cut_sent : (c : Config) (w : Caller) (past : List Trace) (run new : Run) (ms ns : List Action) (phase : Phase) (heard : ℕ) → Stands c w past run ms → Stands c w past new ns → new.wrote ≡ run.wrote → met ms ≡ met ns → outs c ms ≡ outs c ns → known_count c ms ≡ known_count c ns → IsCutOff c ms phase heard → IsCutOff c ns phase heard
 cut_sent c w past run new ms ns phase heard h k wrote same_met same_outs same_known cut =
@@ -117,26 +111,38 @@ cut_sent c w past run new ms ns phase heard h k wrote same_met same_outs same_kn
 overtaken_sent : (c : Config) (ms ns : List Action) (m : ℕ) → met ms ≡ met ns → IsOvertaken c ms m → IsOvertaken c ns m
 overtaken_sent c ms ns m same h = (omega (arith, h.0), h.1 ∙ same)
 
-unsure_sent : (c : Config) (w : Caller) (past : List Trace) (run new : Run) (ms ns : List Action) (why : UnsureWhy) → Stands c w past run ms → Stands c w past new ns → new.wrote ≡ run.wrote → met ms ≡ met ns → outs c ms ≡ outs c ns → known_count c ms ≡ known_count c ns → UnsureCause c ms why → UnsureCause c ns why
-unsure_sent c w past run new ms ns (UnsureNoQuorum phase heard) h k wrote same_met same_outs same_known cause = cut_sent c w past run new ms ns phase heard h k wrote same_met same_outs same_known cause
-unsure_sent c w past run new ms ns (UnsureContended m) h k wrote same_met same_outs same_known cause = overtaken_sent c ms ns m same_met cause
-unsure_sent c w past run new ms ns (UnsureTrimmed floor) h k wrote same_met same_outs same_known cause = absurd cause
+floor_sent : (c : Config) (floor : ℕ) (first : ℕ) (sent : List Out) (ms : List Action) → HasFloor c ms floor → HasFloor c (sent_from first sent ms) floor
+floor_sent c floor first sent ms h = over_sent (λ ns. HasFloor c ns floor) (λ a ns k. k) first sent ms h
+
+trimmed_sent : (c : Config) (w : Caller) (past : List Trace) (run new : Run) (first : ℕ) (sent : List Out) (ms : List Action) (floor : ℕ) → Stands c w past run ms → Stands c w past new (sent_from first sent ms) → new.last_vote ≡ run.last_vote → IsTrimmed c w ms floor → IsTrimmed c w (sent_from first sent ms) floor
+trimmed_sent c w past run new first sent ms floor h k vote cause = record { version = cause.version; voted = sym k.vote_is ∙ (vote ∙ (h.vote_is ∙ cause.voted)); gone = cause.gone; heard = floor_sent c floor first sent ms cause.heard }
+
+unsure_sent : (c : Config) (w : Caller) (past : List Trace) (run new : Run) (first : ℕ) (sent : List Out) (ms : List Action) (why : UnsureWhy) → Stands c w past run ms → Stands c w past new (sent_from first sent ms) → new.last_vote ≡ run.last_vote → new.wrote ≡ run.wrote → UnsureCause c w ms why → UnsureCause c w (sent_from first sent ms) why
+unsure_sent c w past run new first sent ms (UnsureNoQuorum phase heard) h k vote wrote cause = cut_sent c w past run new ms (sent_from first sent ms) phase heard h k wrote (met_sent first sent ms) (outs_sent c first sent ms) (known_sent c first sent ms) cause
+unsure_sent c w past run new first sent ms (UnsureContended m) h k vote wrote cause = overtaken_sent c ms (sent_from first sent ms) m (met_sent first sent ms) cause
+unsure_sent c w past run new first sent ms (UnsureTrimmed floor) h k vote wrote cause = (going_sent c first sent ms cause.0, trimmed_sent c w past run new first sent ms floor h k vote cause.1)
+
+unborn_sent : (c : Config) (w : Caller) (latest : ℕ) (first : ℕ) (sent : List Out) (ms : List Action) → IsUnborn c w ms latest → IsUnborn c w (sent_from first sent ms) latest
+unborn_sent c w latest first sent ms h = record { reads = h.reads; version = h.version; asked = h.asked; above = h.above; current = current_sent c latest first sent ms h.current; shown = elim h.shown [ inl none ↦ inl none | inr k ↦ inr (k.0, shown_sent c latest k.0 first sent ms k.1) ] }
 
 learnt_sent : (c : Config) (w : Caller) (v : ℕ) (x : Value) (first : ℕ) (sent : List Out) (ms : List Action) → IsLearnt c w ms v x → IsLearnt c w (sent_from first sent ms) v x
-learnt_sent c w v x first sent ms h = record { reads = h.reads; shown = shown_sent c v (name_of x) first sent ms h.shown; current = current_sent c v first sent ms h.current; heard = value_sent v x first sent ms h.heard }
+learnt_sent c w v x first sent ms h = record { reads = h.reads; asked = asked_by c (target_of w.call) ms (sent_from first sent ms) v (current_sent c v first sent ms) h.asked; shown = shown_sent c v (name_of x) first sent ms h.shown; heard = value_sent v x first sent ms h.heard }
 
 -- requests leave the cause of an answer
-cause_sent : (c : Config) (w : Caller) (past : List Trace) (run new : Run) (first : ℕ) (sent : List Out) (ms : List Action) (answer : Answer) → Stands c w past run ms → Stands c w past new (sent_from first sent ms) → new.voted ≡ run.voted → new.wrote ≡ run.wrote →
+cause_sent : (c : Config) (w : Caller) (past : List Trace) (run new : Run) (first : ℕ) (sent : List Out) (ms : List Action) (answer : Answer) → Stands c w past run ms → Stands c w past new (sent_from first sent ms) → new.last_vote ≡ run.last_vote → new.wrote ≡ run.wrote →
     EndsBy c w ms answer → EndsBy c w (sent_from first sent ms) answer
-cause_sent c w past run new first sent ms Absent h k voted_same wrote_same cause =
-    (going_sent c first sent ms cause.0, (cause.1.0, omega (arith, cause.1.1, heard_sent c is_blank first sent ms)))
-cause_sent c w past run new first sent ms (NoQuorum phase heard) h k voted_same wrote_same cause =
-    (sym k.voted_is ∙ (voted_same ∙ (h.voted_is ∙ cause.0)), cut_sent c w past run new ms (sent_from first sent ms) phase heard h k wrote_same (met_sent first sent ms) (outs_sent c first sent ms) (known_sent c first sent ms) cause.1)
-cause_sent c w past run new first sent ms (Contended m) h k voted_same wrote_same cause =
-    (sym k.voted_is ∙ (voted_same ∙ (h.voted_is ∙ cause.0)), overtaken_sent c ms (sent_from first sent ms) m (met_sent first sent ms) cause.1)
-cause_sent c w past run new first sent ms (Unsure why) h k voted_same wrote_same cause =
-    (sym k.voted_is ∙ (voted_same ∙ (h.voted_is ∙ cause.0)), unsure_sent c w past run new ms (sent_from first sent ms) why h k wrote_same (met_sent first sent ms) (outs_sent c first sent ms) (known_sent c first sent ms) cause.1)
-cause_sent c w past run new first sent ms answer h k voted_same wrote_same cause = absurd cause
+cause_sent c w past run new first sent ms Absent h k vote_same wrote_same cause =
+    (going_sent c first sent ms cause.0, record { reads = cause.1.reads; asked = cause.1.asked; blank = omega (arith, cause.1.blank, heard_sent c is_blank first sent ms) })
+cause_sent c w past run new first sent ms (Unborn latest) h k vote_same wrote_same cause = (going_sent c first sent ms cause.0, unborn_sent c w latest first sent ms cause.1)
+cause_sent c w past run new first sent ms (Collected floor) h k vote_same wrote_same cause =
+    (going_sent c first sent ms cause.0, record { reads = cause.1.reads; version = cause.1.version; asked = cause.1.asked; gone = cause.1.gone; heard = floor_sent c floor first sent ms cause.1.heard })
+cause_sent c w past run new first sent ms (NoQuorum phase heard) h k vote_same wrote_same cause =
+    (voted_still c w past run new ms (sent_from first sent ms) h k vote_same ∙ cause.0, cut_sent c w past run new ms (sent_from first sent ms) phase heard h k wrote_same (met_sent first sent ms) (outs_sent c first sent ms) (known_sent c first sent ms) cause.1)
+cause_sent c w past run new first sent ms (Contended m) h k vote_same wrote_same cause =
+    (voted_still c w past run new ms (sent_from first sent ms) h k vote_same ∙ cause.0, overtaken_sent c ms (sent_from first sent ms) m (met_sent first sent ms) cause.1)
+cause_sent c w past run new first sent ms (Unsure why) h k vote_same wrote_same cause =
+    (voted_still c w past run new ms (sent_from first sent ms) h k vote_same ∙ cause.0, unsure_sent c w past run new first sent ms why h k vote_same wrote_same cause.1)
+cause_sent c w past run new first sent ms answer h k vote_same wrote_same cause = absurd cause
 
 -- a site that has answered all that was asked of it before one more request
 quiet_before : (a : Asked) (now : SiteNow) → (after_sent a now).unanswered ≡ false → now.unanswered ≡ false
@@ -155,13 +161,13 @@ noticed_one c w v a ms h s l kept quiet seen last x own done =
     (notice.0, inr notice.1)
 
 -- and what the rows come to
-comes_sent : (c : Config) (w : Caller) (past : List Trace) (run new : Run) (first : ℕ) (sent : List Out) (ms : List Action) (outcome : Outcome) → Stands c w past run ms → Stands c w past new (sent_from first sent ms) → new.voted ≡ run.voted → new.wrote ≡ run.wrote →
+comes_sent : (c : Config) (w : Caller) (past : List Trace) (run new : Run) (first : ℕ) (sent : List Out) (ms : List Action) (outcome : Outcome) → Stands c w past run ms → Stands c w past new (sent_from first sent ms) → new.last_vote ≡ run.last_vote → new.wrote ≡ run.wrote →
     ComesTo c w ms outcome → ComesTo c w (sent_from first sent ms) outcome
-comes_sent c w past run new first sent ms Goes h k voted_same wrote_same comes = absurd comes
-comes_sent c w past run new first sent ms (Placed v) h k voted_same wrote_same comes =
+comes_sent c w past run new first sent ms Goes h k vote_same wrote_same comes = absurd comes
+comes_sent c w past run new first sent ms (Placed v) h k vote_same wrote_same comes =
     (going_sent c first sent ms comes.0, (comes.1.0, comes.1.1, shown_sent c v w.name first sent ms comes.1.2), over_sent (λ ns. IsNoticed c w ns v) (noticed_one c w v) first sent ms comes.2)
-comes_sent c w past run new first sent ms (Learnt v x) h k voted_same wrote_same comes = (going_sent c first sent ms comes.0, learnt_sent c w v x first sent ms comes.1)
-comes_sent c w past run new first sent ms (EndsAs answer) h k voted_same wrote_same comes = cause_sent c w past run new first sent ms answer h k voted_same wrote_same comes
+comes_sent c w past run new first sent ms (Learnt v x) h k vote_same wrote_same comes = (going_sent c first sent ms comes.0, learnt_sent c w v x first sent ms comes.1)
+comes_sent c w past run new first sent ms (EndsAs answer) h k vote_same wrote_same comes = cause_sent c w past run new first sent ms answer h k vote_same wrote_same comes
 
 -- each site that was served was asked again
 pub again_from : (c : Config) (w : Caller) (ms : List Action) (step : Option RowStep) → AreServed c w ms step → AreAskedAgain c ms
@@ -184,7 +190,7 @@ close_turned c w past run new ms first sent outcome h comes asks left =
       own_is = asks.stands.own_is;
       allowed = asks.stands.allowed;
       reads = again_from c w (sent_from first sent ms) None asks.served;
-      comes = comes_sent c w past run new first sent ms outcome h asks.stands (left.voted refl) (left.wrote refl) comes;
+      comes = comes_sent c w past run new first sent ms outcome h asks.stands (left.vote refl) (left.wrote refl) comes;
       round_is = asks.stands.round_is;
     })
 
@@ -202,7 +208,7 @@ noticed_from c w past run ms v x h own served s l kept quiet seen last other is_
     subst (λ (z : Value). HasNotice ms s (WriteRow (key_of w.call) seen.etag (Decide v z) (decided seen.row v z))) value (settled done).1
 
 -- the notice that the call's value is chosen is a step, which may be made
-vote_is_step : (v : ℕ) (own : Option Value) → 1 ≤ v → IsStepOf (vote_for v own)
+pub vote_is_step : (v : ℕ) (own : Option Value) → 1 ≤ v → IsStepOf (vote_for v own)
 vote_is_step v None l = tt
 vote_is_step v (Some x) l = l
 
@@ -210,8 +216,16 @@ notice_is_step : (v : ℕ) (own : Option Value) → 1 ≤ v → IsStepOf (notice
 notice_is_step v None l = tt
 notice_is_step v (Some x) l = l
 
+notice_if_any : (v : ℕ) (own : Option Value) → IsNoticeIfAny (notice_for v own)
+notice_if_any v None = tt
+notice_if_any v (Some x) = refl
+
 pub finish_step : (run : Run) (v : ℕ) (step : Option RowStep) → 1 ≤ v → step ≡ notice_for v run.own → IsStepOf step
 finish_step run v step l is = subst IsStepOf (sym is) (notice_is_step v run.own l)
+
+-- which is a notice, if it is any
+pub finish_notice : (run : Run) (v : ℕ) (step : Option RowStep) → step ≡ notice_for v run.own → IsNoticeIfAny step
+finish_notice run v step is = subst IsNoticeIfAny (sym is) (notice_if_any v run.own)
 
 pub finish_asks : (c : Config) (w : Caller) (past : List Trace) (run : Run) (ms : List Action) (v : ℕ) (step : Option RowStep) → Finishes c w past run ms v → step ≡ notice_for v run.own → Asks c w past run ms step
 finish_asks c w past run ms v step f is =
@@ -263,30 +277,31 @@ last_may c w past ms v b h last = record { above = h.pass.above; classic = h.cla
 -- the step of a phase may be made
 stage_may : (c : Config) (w : Caller) (past : List Trace) (run : Run) (ms : List Action) (stage : Stage) → Stands c w past run ms → StageStands c w past stage ms → is_overtaken_in run stage ≡ false → MayMakeOf c w past ms (step_in stage run.own)
 stage_may c w past run ms Look h s ahead = tt
-stage_may c w past run ms (Fast v) h s ahead = subst (λ o. MayMakeOf c w past ms (vote_for v o)) (sym (h.own_is ∙ s.1.1)) (s.1.1, s.0)
+stage_may c w past run ms (Fast v) h s ahead = subst (λ o. MayMakeOf c w past ms (vote_for v o)) (sym (h.own_is ∙ s.own.1)) (s.own.1, s.may)
 stage_may c w past run ms (Prepare v b found) h s ahead = last_may c w past ms v b s.0.works (last_of past run ms v b found h.round_is s.0.used ahead)
 stage_may c w past run ms (Accept v b x) h s ahead = s.0
 
 -- it is a step
 stage_is_step : (c : Config) (w : Caller) (past : List Trace) (own : Option Value) (ms : List Action) (stage : Stage) → StageStands c w past stage ms → IsStepOf (step_in stage own)
 stage_is_step c w past own ms Look s = tt
-stage_is_step c w past own ms (Fast v) s = vote_is_step v own s.0.above
+stage_is_step c w past own ms (Fast v) s = vote_is_step v own s.may.above
 stage_is_step c w past own ms (Prepare v b found) s = (s.0.works.pass.above, s.0.works.classic)
 stage_is_step c w past own ms (Accept v b x) s = (s.0.above, s.1.works.classic)
 
 -- the phase holds what is kept while the step is made
 stage_held : (c : Config) (w : Caller) (past : List Trace) (run : Run) (ms : List Action) (stage : Stage) → Stands c w past run ms → StageStands c w past stage ms → is_overtaken_in run stage ≡ false → HeldOf c w past ms (step_in stage run.own)
 stage_held c w past run ms Look h s ahead = tt
-stage_held c w past run ms (Fast v) h s ahead = subst (λ o. HeldOf c w past ms (vote_for v o)) (sym (h.own_is ∙ s.1.1)) s.2
+stage_held c w past run ms (Fast v) h s ahead = subst (λ o. HeldOf c w past ms (vote_for v o)) (sym (h.own_is ∙ s.own.1)) (s.unpromised, s.votes)
 stage_held c w past run ms (Prepare v b found) h s ahead = (s.0, none_above_listed c run ms v b h.knows (or_parts (nat_lt run.round b.round) (list_any (above_known v b) run.rows) ahead).1)
 stage_held c w past run ms (Accept v b x) h s ahead = (s.1, none_above_listed c run ms v b h.knows ahead)
 
 -- and once it was made at the sites the phase goes on to stand
 pub stage_kept : (c : Config) (w : Caller) (past : List Trace) (run new : Run) (ms ns : List Action) (stage : Stage) → Stands c w past run ms → Stands c w past new ns → IsLeftBy run new (step_in stage run.own) → IsEarlier ms ns → is_overtaken_in run stage ≡ false → StageStands c w past stage ms → MayMakeOf c w past ns (step_in stage run.own) → HeldOf c w past ns (step_in stage run.own) → StageStands c w past stage ns
-stage_kept c w past run new ms ns Look h k left then ahead s may held = (sym k.voted_is ∙ (left.voted refl ∙ (h.voted_is ∙ s.0)), sym k.wrote_is ∙ (left.wrote refl ∙ (h.wrote_is ∙ s.1)))
+stage_kept c w past run new ms ns Look h k left then ahead s may held = (voted_still c w past run new ms ns h k (left.vote refl) ∙ s.0, sym k.wrote_is ∙ (left.wrote refl ∙ (h.wrote_is ∙ s.1)))
 stage_kept c w past run new ms ns (Fast v) h k left then ahead s may held =
-    let made : MayMake c w past ns (FastVote v s.1.0) = subst (λ o. MayMakeOf c w past ns (vote_for v o)) (h.own_is ∙ s.1.1) may in
-    (made.1, s.1, subst (λ o. HeldOf c w past ns (vote_for v o)) (h.own_is ∙ s.1.1) held)
+    let made : MayMake c w past ns (FastVote v s.own.0) = subst (λ o. MayMakeOf c w past ns (vote_for v o)) (h.own_is ∙ s.own.1) may in
+    let kept : HeldBy c w past ns (FastVote v s.own.0) = subst (λ o. HeldOf c w past ns (vote_for v o)) (h.own_is ∙ s.own.1) held in
+    record { may = made.1; own = s.own; unpromised = kept.0; votes = kept.1 }
 stage_kept c w past run new ms ns (Prepare v b found) h k left then ahead s may held =
     let last : last_promise ms ≡ Some (v, b) = last_of past run ms v b found h.round_is s.0.used ahead in
     (held.0, none_passed c ns v b held.1, λ reads again. (back_later c ms ns v b found then (last_promised_at ms v b last) (s.2 reads last)).1)
@@ -335,23 +350,36 @@ quorum_known c ms heard enough =
     let cover : c.n ≤ outs c ms + known_count c ms = count_cover c.n (λ s. (site_now ms s).out) (λ s. is_some (known (site_now ms s))) (λ (s : ℕ) (l : s < c.n). elim (cases_Bool (site_now ms s).out) [ inl e ↦ inl e | inr e ↦ inr (ap (λ o. is_some o) (heard s l e).1) ]) in
     omega arith
 
--- a phase that goes on has a version to work at, where no value is known to be chosen
-unmet_out : (c : Config) (w : Caller) (past : List Trace) (run : Run) (ms : List Action) (stage : Stage) (first : ℕ) (sent : List Out) → c.qc ≤ known_count c (sent_from first sent ms) → StageStands c w past stage ms → IsUnmet c run stage ms → (1 ≤ version_in stage (highest_of run.rows)) × NoEvidence c (sent_from first sent ms) (version_in stage (highest_of run.rows))
-unmet_out c w past run ms Look first sent enough s (inl few) = let same = known_sent c first sent ms in absurd (omega arith)
-unmet_out c w past run ms Look first sent enough s (inr none) = (none.0, evidence_sent c (highest_of run.rows) first sent ms none.1)
-unmet_out c w past run ms (Fast v) first sent enough s none = (s.0.above, evidence_sent c v first sent ms none)
-unmet_out c w past run ms (Prepare v b found) first sent enough s none = (s.0.works.pass.above, evidence_sent c v first sent ms none)
-unmet_out c w past run ms (Accept v b x) first sent enough s none = (s.1.works.pass.above, evidence_sent c v first sent ms none)
+-- a call looks at a version that isn't collected where one is known to have begun
+looked_above : (c : Config) (run : Run) (ms : List Action) (v : ℕ) → Knows c run ms → 1 ≤ highest_of run.rows → NoneGone c ms v → 1 ≤ v
+looked_above c run ms v k above none =
+    elim (highest_reached run.rows) [
+      | inl zero_is ↦ absurd (omega arith)
+      | inr top ↦ (
+          let inside : top.0 < c.n = let len = k.rows_len in omega (arith, slice_get_within run.rows top.0 (Some top.1) top.2) in
+          omega (arith, none top.0 top.1 inside (listed_known c run ms k top.0 top.1 inside top.2)))
+    ]
+
+-- a phase that goes on has a version to work at, where no value is known to be chosen and which isn't collected
+unmet_out : (c : Config) (w : Caller) (past : List Trace) (run : Run) (ms : List Action) (stage : Stage) (first : ℕ) (sent : List Out) → Knows c run ms → c.qc ≤ known_count c (sent_from first sent ms) → StageStands c w past stage ms → IsUnmet c run stage ms → (1 ≤ version_in stage (looked_in run)) × IsUndecided c (sent_from first sent ms) (version_in stage (looked_in run))
+unmet_out c w past run ms Look first sent k enough s (inl few) = let same = known_sent c first sent ms in absurd (omega arith)
+unmet_out c w past run ms Look first sent k enough s (inr none) = (looked_above c run ms (looked_in run) k none.0 none.1.gone, undecided_sent c (looked_in run) first sent ms none.1)
+unmet_out c w past run ms (Fast v) first sent k enough s none = (s.may.above, undecided_sent c v first sent ms none)
+unmet_out c w past run ms (Prepare v b found) first sent k enough s none = (s.0.works.pass.above, undecided_sent c v first sent ms none)
+unmet_out c w past run ms (Accept v b x) first sent k enough s none = (s.1.works.pass.above, undecided_sent c v first sent ms none)
+
+looked_left : (run new : Run) → new.rows ≡ run.rows → new.target ≡ run.target → looked_in new ≡ looked_in run
+looked_left run new rows target = ap (λ t. looked_at t (highest_of new.rows)) target ∙ ap (λ known. looked_at run.target (highest_of known)) rows
 
 -- requests leave a goal unmet
-unmet_sent : (c : Config) (run new : Run) (ms : List Action) (stage : Stage) (first : ℕ) (sent : List Out) → new.rows ≡ run.rows → IsUnmet c run stage ms → IsUnmet c new stage (sent_from first sent ms)
-unmet_sent c run new ms Look first sent rows (inl few) = let same = known_sent c first sent ms in inl (omega arith)
-unmet_sent c run new ms Look first sent rows (inr none) =
+unmet_sent : (c : Config) (run new : Run) (ms : List Action) (stage : Stage) (first : ℕ) (sent : List Out) → new.rows ≡ run.rows → new.target ≡ run.target → IsUnmet c run stage ms → IsUnmet c new stage (sent_from first sent ms)
+unmet_sent c run new ms Look first sent rows target (inl few) = let same = known_sent c first sent ms in inl (omega arith)
+unmet_sent c run new ms Look first sent rows target (inr none) =
     let above : 1 ≤ highest_of run.rows = none.0 in
-    inr (subst (λ (known : List (Option RowAt)). (1 ≤ highest_of known) × NoEvidence c (sent_from first sent ms) (highest_of known)) (sym rows) (above, evidence_sent c (highest_of run.rows) first sent ms none.1))
-unmet_sent c run new ms (Fast v) first sent rows none = evidence_sent c v first sent ms none
-unmet_sent c run new ms (Prepare v b found) first sent rows none = evidence_sent c v first sent ms none
-unmet_sent c run new ms (Accept v b x) first sent rows none = evidence_sent c v first sent ms none
+    inr (subst (λ (known : List (Option RowAt)). 1 ≤ highest_of known) (sym rows) above, subst (IsUndecided c (sent_from first sent ms)) (sym (looked_left run new rows target)) (undecided_sent c (looked_in run) first sent ms none.1))
+unmet_sent c run new ms (Fast v) first sent rows target none = undecided_sent c v first sent ms none
+unmet_sent c run new ms (Prepare v b found) first sent rows target none = undecided_sent c v first sent ms none
+unmet_sent c run new ms (Accept v b x) first sent rows target none = undecided_sent c v first sent ms none
 
 -- the step of a phase is no notice
 stage_plain : (stage : Stage) (own : Option Value) (step : RowStep) → step_in stage own ≡ Some step → is_notice step ≡ false
@@ -404,11 +432,15 @@ still_ahead run new (Accept v b x) rows rises e = ap (list_any (above_known v b)
 step_left : (run new : Run) (step : Option RowStep) → step ≡ stage_step run → IsLeftBy run new step → step ≡ stage_step new
 step_left run new step is left = is ∙ (ap (step_in run.stage) (sym left.own) ∙ ap (λ st. step_in st new.own) (sym left.stage))
 
+-- and is awaited, where there is one
+pub step_plain : (run : Run) (step : Option RowStep) → step ≡ stage_step run → IsPlain step
+step_plain run step is = subst IsPlain (sym is) (plain_from (step_in run.stage run.own) (stage_plain run.stage run.own))
+
 -- after the step was made at each site that takes it
 pub record Stepped (c : Config) (w : Caller) (past : List Trace) (new : Run) (ms : List Action) : Type 0 where
   pub stands : Stands c w past new ms
   pub stage : StageStands c w past new.stage ms
-  pub unmet : IsUnmet c new new.stage ms
+  pub unmet : IsUnmet c new new.stage ms ⊎ IsSkipping c new.stage ms
   pub few : IsFewIn c new new.stage
   pub ahead : is_overtaken new ≡ false
   pub served : AreServed c w ms (stage_step new)
@@ -433,15 +465,14 @@ stepped_from c w past run new ms first sent step p is asked left =
     let k : Stands c w past new (sent_from first sent ms) = done.stands in
     let stage : StageStands c w past run.stage (sent_from first sent ms) = stage_kept c w past run new ms (sent_from first sent ms) run.stage h k (subst (IsLeftBy run new) is left) (earlier_sent first sent ms) p.ahead a.ready.stage (subst (MayMakeOf c w past (sent_from first sent ms)) is done.may) (subst (HeldOf c w past (sent_from first sent ms)) is done.held) in
     let steps : step ≡ stage_step new = step_left run new step is left in
-    let plain : IsPlain step = subst IsPlain (sym is) (plain_from (step_in run.stage run.own) (stage_plain run.stage run.own)) in
     record {
       stands = k;
       stage = subst (λ st. StageStands c w past st (sent_from first sent ms)) (sym left.stage) stage;
-      unmet = subst (λ st. IsUnmet c new st (sent_from first sent ms)) (sym left.stage) (unmet_sent c run new ms run.stage first sent left.rows a.unmet);
+      unmet = inl (subst (λ st. IsUnmet c new st (sent_from first sent ms)) (sym left.stage) (unmet_sent c run new ms run.stage first sent left.rows left.target a.unmet));
       few = subst (λ st. IsFewIn c new st) (sym left.stage) (few_still c run new run.stage left.rows (short_from c run run.stage p.carries.few p.ahead));
       ahead = subst (λ st. is_overtaken_in new st ≡ false) (sym left.stage) (still_ahead run new run.stage left.rows left.rises p.ahead);
       served = subst (AreServed c w (sent_from first sent ms)) steps done.served;
-      unnoticed = done.unnoticed plain;
+      unnoticed = done.unnoticed (step_plain run step is);
       going = going_sent c first sent ms a.going;
     }
 
@@ -462,30 +493,30 @@ stepped_runs c w past new ms p e =
     } in
     ([], inl refl, runs)
 
--- nothing is awaited, and the phase has ended without its goal
-pub stepped_out : (c : Config) (w : Caller) (past : List Trace) (run new : Run) (ms : List Action) (first : ℕ) (sent : List Out) (step : Option RowStep) → TakesStep c w past run ms → step ≡ stage_step run → IsLeftBy run new step → Stepped c w past new (sent_from first sent ms) → is_waiting new ≡ false → RunsOut c w past new (sent_from first sent ms)
-stepped_out c w past run new ms first sent step p is left q e =
-    let ns = sent_from first sent ms in
+-- nothing is awaited, so that nothing was sent, and the phase has ended without its goal
+pub stepped_out : (c : Config) (w : Caller) (past : List Trace) (run new : Run) (ms : List Action) (first : ℕ) (sent : List Out) (step : Option RowStep) → TakesStep c w past run ms → step ≡ stage_step run → IsLeftBy run new step → Stepped c w past new (sent_from first sent ms) → is_waiting new ≡ false → sent ≡ [] → RunsOut c w past new ms
+stepped_out c w past run new ms first sent step p is left q e none =
     let a = p.carries.acts in
     let idle : (s : ℕ) → s < c.n → (site_now (sent_from first sent ms) s).awaits ≡ None = λ (s : ℕ) (l : s < c.n). idle_of c new (sent_from first sent ms) s (site_now (sent_from first sent ms) s).awaits q.stands.knows e l refl in
     let heard = heard_from c w (sent_from first sent ms) (stage_step new) q.served idle in
     let enough : c.qc ≤ known_count c (sent_from first sent ms) = quorum_known c (sent_from first sent ms) heard q.going.enough in
-    let out = unmet_out c w past run ms run.stage first sent enough a.ready.stage a.unmet in
-    let version : version_in run.stage (highest_of run.rows) ≡ working_version new = ap (version_in run.stage) (ap highest_of (sym left.rows)) ∙ ap (λ st. version_in st (highest_of new.rows)) (sym left.stage) in
-    record {
+    let unmet = unmet_out c w past run ms run.stage first sent a.ready.stands.knows enough a.ready.stage a.unmet in
+    let version : version_in run.stage (looked_in run) ≡ working_version new = ap (version_in run.stage) (sym (looked_left run new left.rows left.target)) ∙ ap (λ st. version_in st (looked_in new)) (sym left.stage) in
+    let out : RunsOut c w past new (sent_from first sent ms) = record {
       stands = q.stands;
       stage = q.stage;
       going = q.going;
       unnoticed = q.unnoticed;
       short = subst (λ st. IsShortIn c new.rows st) (sym left.stage) (subst (λ rows. IsShortIn c rows run.stage) (sym left.rows) (short_from c run run.stage p.carries.few p.ahead));
       ahead = q.ahead;
-      above = subst (λ (n : ℕ). 1 ≤ n) version out.0;
-      none = subst (NoEvidence c (sent_from first sent ms)) version out.1;
+      above = subst (λ (n : ℕ). 1 ≤ n) version unmet.0;
+      none = subst (IsUndecided c (sent_from first sent ms)) version unmet.1;
       idle = idle;
       heard = heard;
       again = again_from c w (sent_from first sent ms) (stage_step new) q.served;
       untaken = λ (made : RowStep) (k : stage_step new ≡ Some made). untaken_from c w (sent_from first sent ms) made (stage_plain new.stage new.own made k) (subst (AreServed c w (sent_from first sent ms)) k q.served) idle;
-    }
+    } in
+    subst (λ outs. RunsOut c w past new (sent_from first outs ms)) none out
 
 -- the step of a phase whose ballot isn't overtaken promises no later round
 stage_round : (run : Run) (stage : Stage) (own : Option Value) → is_overtaken_in run stage ≡ false → round_of (step_in stage own) ≤ run.round

@@ -1,4 +1,4 @@
--- Why a row doesn't take the step of a classic ballot: it has taken it already, or its version was collected.
+-- Why a row doesn't take the step of a classic ballot: it has taken it already.
 use Rattle.std.proofs.Common.{◌≡◌, ◌≢◌, ℕ, zero, suc, ◌<◌, ◌≤◌, Bool, true, false, cond, ◌&&◌, Option, Some, None, refl, sym, ap, ◌∙◌, subst, inl, inr, ◌⊎◌, arith, leb}
 use Rattle.std.specs.Prelude.{nat_lt, List}
 use Rattle.std.proofs.lemmas.Bool.{cases_lt, cond-true, cond-false, false≢true, and_right, false_from_ne_true, leb-true}
@@ -17,11 +17,10 @@ use Rattle.gz_accept.specs.declared.answers.Step.{Step}
 use Rattle.gz_accept.specs.declared.answers.Step.TheVariants.{Done, Already, Below}
 use Rattle.gz_accept.specs.Steps.{open_answer, is_cast_in, promise_at, classic_at, promise_answer, classic_answer}
 use Rattle.gz_core.proofs.Ballots.{same_means, name_refl}
-use Rattle.gz_core.proofs.Counting.{count_found}
 use Rattle.gz_pick.specs.Evidences.{decides, is_named}
 use Rattle.gz_core.specs.History.{Action}
 use Rattle.gz_round.specs.Rounds.{slot_round, slot_promises_above, promises_above}
-use Rattle.gz_round.specs.Sending.{rows_known, NoEvidence, HasGone}
+use Rattle.gz_round.specs.Sending.{rows_known, IsUndecided}
 
 count_step : (b : Bool) (k : ℕ) → k ≤ cond b (suc k) k
 count_step true k = omega arith
@@ -36,40 +35,19 @@ pub count_one : (n : ℕ) (p : ℕ → Bool) (s : ℕ) → s < n → p s ≡ tru
 count_one zero p s l e = absurd (omega arith)
 count_one (suc n) p s l e = one_more n s p e (elim (cases_lt s n) [ inl low ↦ inr (count_one n p s low e) | inr high ↦ inl (omega arith) ])
 
--- some site passes a test, or none does
-some_or_none : (n : ℕ) (p : ℕ → Bool) → ((s : ℕ) × (s < n) × (p s ≡ true)) ⊎ ((s : ℕ) → s < n → p s ≡ false)
-some_or_none n p =
-    elim (cases_lt 0 (count_sites n p)) [
-      | inl some ↦ inl (count_found n p some)
-      | inr none ↦ inr (λ (s : ℕ) (l : s < n). false_from_ne_true (p s) (λ (e : p s ≡ true). let one = count_one n p s l e in omega arith))
-    ]
-
--- whether the version of a row that may be unknown was collected
-abbrev is_gone : ℕ → Option RowAt → Bool
-is_gone v None = false
-is_gone v (Some row) = leb v row.floor
-
-gone_row : (v : ℕ) (o : Option RowAt) → is_gone v o ≡ true → (row : RowAt) × (o ≡ Some row) × (v ≤ row.floor)
-gone_row v None e = absurd (false≢true e)
-gone_row v (Some row) e = (row, refl, leb-true v row.floor e)
-
--- a known row has the version collected, or none has
-pub gone_or_kept : (c : Config) (ms : List Action) (v : ℕ) → HasGone c ms v ⊎ ((s : ℕ) (row : RowAt) → s < c.n → rows_known ms s ≡ Some row → leb v row.floor ≡ false)
-gone_or_kept c ms v =
-    elim (some_or_none c.n (λ s. is_gone v (rows_known ms s))) [
-      | inl w ↦ (let row = gone_row v (rows_known ms w.0) w.2 in inl (w.0, row.0, w.1, row.1, row.2))
-      | inr none ↦ inr (λ (s : ℕ) (row : RowAt) (l : s < c.n) (e : rows_known ms s ≡ Some row). sym (ap (is_gone v) e) ∙ none s l)
-    ]
-
 -- a version that isn't decided
-abbrev IsUndecided : Slot → Type 0
-IsUndecided slot = (x : Name) → slot ≡ DecidedAs x → ⊥
+abbrev IsOpenSlot : Slot → Type 0
+IsOpenSlot slot = (x : Name) → slot ≡ DecidedAs x → ⊥
 
--- a version is decided in no known row where no value is known to be chosen there
-pub undecided_known : (c : Config) (ms : List Action) (v s : ℕ) (row : RowAt) → NoEvidence c ms v → s < c.n → rows_known ms s ≡ Some row → IsUndecided (slot_of (column_in row.columns v))
+-- while work at a version goes on, it is decided in no known row
+pub undecided_known : (c : Config) (ms : List Action) (v s : ℕ) (row : RowAt) → IsUndecided c ms v → s < c.n → rows_known ms s ≡ Some row → IsOpenSlot (slot_of (column_in row.columns v))
 undecided_known c ms v s row none l e x is =
     let named : decides x v (Some row) ≡ true = ap (λ slot. is_named x (slot_decision slot)) is ∙ name_refl x in
-    none x (inr (count_one c.n (λ z. decides x v (rows_known ms z)) s l (ap (decides x v) e ∙ named)))
+    none.evident x (inr (count_one c.n (λ z. decides x v (rows_known ms z)) s l (ap (decides x v) e ∙ named)))
+
+-- nor is it collected in one
+pub kept_known : (c : Config) (ms : List Action) (v s : ℕ) (row : RowAt) → IsUndecided c ms v → s < c.n → rows_known ms s ≡ Some row → leb v row.floor ≡ false
+kept_known c ms v s row none l e = false_from_ne_true (leb v row.floor) (λ (k : leb v row.floor ≡ true). omega (arith, none.gone s row l e, leb-true v row.floor k))
 
 -- a version that wasn't collected is its column
 kept_slot : (row : RowAt) (v : ℕ) → leb v row.floor ≡ false → slots row v ≡ slot_of (column_in row.columns v)
@@ -82,12 +60,12 @@ open_untaken : (promise b : BallotAt) (taken : Bool) → is_below b promise ≡ 
 open_untaken promise b true e n = cond-false (is_below b promise) (Below promise) Already e
 open_untaken promise b false e n = absurd (n (cond-false (is_below b promise) (Below promise) Done e))
 
-promise_slot_untaken : (b : BallotAt) (floor : ℕ) (o : Option Column) → slot_promises_above (slot_of o) b ≡ false → IsUndecided (slot_of o) → promise_at b floor (slot_of o) ≢ Done → promise_at b floor (slot_of o) ≡ Already
+promise_slot_untaken : (b : BallotAt) (floor : ℕ) (o : Option Column) → slot_promises_above (slot_of o) b ≡ false → IsOpenSlot (slot_of o) → promise_at b floor (slot_of o) ≢ Done → promise_at b floor (slot_of o) ≡ Already
 promise_slot_untaken b floor None e u n = open_untaken fast b (same_ballot fast b) e n
 promise_slot_untaken b floor (Some (Open promise vote)) e u n = open_untaken promise b (same_ballot promise b) e n
 promise_slot_untaken b floor (Some (Decided value)) e u n = absurd (u (name_of value) refl)
 
-classic_slot_untaken : (b : BallotAt) (floor : ℕ) (o : Option Column) → slot_promises_above (slot_of o) b ≡ false → IsUndecided (slot_of o) → classic_at b floor (slot_of o) ≢ Done → classic_at b floor (slot_of o) ≡ Already
+classic_slot_untaken : (b : BallotAt) (floor : ℕ) (o : Option Column) → slot_promises_above (slot_of o) b ≡ false → IsOpenSlot (slot_of o) → classic_at b floor (slot_of o) ≢ Done → classic_at b floor (slot_of o) ≡ Already
 classic_slot_untaken b floor None e u n = open_untaken fast b false e n
 classic_slot_untaken b floor (Some (Open promise vote)) e u n = open_untaken promise b (is_cast_in b (vote_pair vote)) e n
 classic_slot_untaken b floor (Some (Decided value)) e u n = absurd (u (name_of value) refl)
@@ -96,13 +74,13 @@ kept_above : (row : RowAt) (v : ℕ) (b : BallotAt) → leb v row.floor ≡ fals
 kept_above row v b kept e = sym (ap (λ s. slot_promises_above s b) (kept_slot row v kept)) ∙ e
 
 -- a row that doesn't take the promise, and promises nothing above, has taken it
-pub promise_untaken : (row : RowAt) (v : ℕ) (b : BallotAt) → leb v row.floor ≡ false → IsUndecided (slot_of (column_in row.columns v)) → promises_above row v b ≡ false → promise_answer row v b ≢ Done → promise_answer row v b ≡ Already
+pub promise_untaken : (row : RowAt) (v : ℕ) (b : BallotAt) → leb v row.floor ≡ false → IsOpenSlot (slot_of (column_in row.columns v)) → promises_above row v b ≡ false → promise_answer row v b ≢ Done → promise_answer row v b ≡ Already
 promise_untaken row v b kept u above n =
     let answer : promise_answer row v b ≡ promise_at b row.floor (slot_of (column_in row.columns v)) = kept_answer row v (promise_at b) kept in
     answer ∙ promise_slot_untaken b row.floor (column_in row.columns v) (kept_above row v b kept above) u (λ done. n (answer ∙ done))
 
 -- and so it is with a vote
-pub classic_untaken : (row : RowAt) (v : ℕ) (b : BallotAt) → leb v row.floor ≡ false → IsUndecided (slot_of (column_in row.columns v)) → promises_above row v b ≡ false → classic_answer row v b ≢ Done → classic_answer row v b ≡ Already
+pub classic_untaken : (row : RowAt) (v : ℕ) (b : BallotAt) → leb v row.floor ≡ false → IsOpenSlot (slot_of (column_in row.columns v)) → promises_above row v b ≡ false → classic_answer row v b ≢ Done → classic_answer row v b ≡ Already
 classic_untaken row v b kept u above n =
     let answer : classic_answer row v b ≡ classic_at b row.floor (slot_of (column_in row.columns v)) = kept_answer row v (classic_at b) kept in
     answer ∙ classic_slot_untaken b row.floor (column_in row.columns v) (kept_above row v b kept above) u (λ done. n (answer ∙ done))
@@ -119,12 +97,12 @@ open_taken Gone floor d b e l = absurd (false≢true e)
 open_taken (DecidedAs x) floor d b e l = absurd (false≢true e)
 open_taken (OpenAt promise vote) floor d b e l = open_fresh promise b l
 
-slot_fresh : (b : BallotAt) (floor : ℕ) (o : Option Column) → slot_round (slot_of o) < b.round → IsUndecided (slot_of o) → promise_at b floor (slot_of o) ≡ Done
+slot_fresh : (b : BallotAt) (floor : ℕ) (o : Option Column) → slot_round (slot_of o) < b.round → IsOpenSlot (slot_of o) → promise_at b floor (slot_of o) ≡ Done
 slot_fresh b floor None l u = open_fresh fast b l
 slot_fresh b floor (Some (Open promise vote)) l u = open_fresh promise b l
 slot_fresh b floor (Some (Decided value)) l u = absurd (u (name_of value) refl)
 
 -- a row takes the promise of a ballot of a later round, unless its version was collected
-pub fresh_taken : (row : RowAt) (v : ℕ) (b : BallotAt) → leb v row.floor ≡ false → IsUndecided (slot_of (column_in row.columns v)) → slot_round (slots row v) < b.round → promise_answer row v b ≡ Done
+pub fresh_taken : (row : RowAt) (v : ℕ) (b : BallotAt) → leb v row.floor ≡ false → IsOpenSlot (slot_of (column_in row.columns v)) → slot_round (slots row v) < b.round → promise_answer row v b ≡ Done
 fresh_taken row v b kept u l =
     kept_answer row v (promise_at b) kept ∙ slot_fresh b row.floor (column_in row.columns v) (subst (λ (s : Slot). slot_round s < b.round) (kept_slot row v kept) l) u

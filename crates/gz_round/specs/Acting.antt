@@ -10,41 +10,41 @@ use Rattle.gz_core.specs.declared.calls.UnsureWhy.TheVariants.{NoQuorum as Unsur
 use Rattle.gz_config.specs.declared.Config.{Config}
 use Rattle.gz_core.specs.declared.requests.RowStep.{RowStep}
 use Rattle.gz_core.specs.declared.requests.RowStep.TheVariants.{Decide}
-use Rattle.gz_pick.specs.Looks.{row_top, highest_of}
+use Rattle.gz_pick.specs.Looks.{row_top}
 use Rattle.gz_round.specs.declared.run.Run.{Run}
 use Rattle.gz_round.specs.declared.run.Stage.{Stage}
 use Rattle.gz_round.specs.declared.run.Stage.TheVariants.{Look, Fast, Prepare, Accept}
 use Rattle.gz_round.specs.declared.choosing.Choice.{Choice}
 use Rattle.gz_round.specs.declared.choosing.Choice.TheVariants.{Wait, Accept as AcceptNext, GiveIn}
-use Rattle.gz_core.specs.declared.requests.Out.{Out}
 use Rattle.gz_accept.specs.declared.answers.Step.TheVariants.{Done}
-use Rattle.gz_core.specs.History.{Action, Caller, Trace, sent_from}
+use Rattle.gz_core.specs.History.{Action, Caller, Trace}
 use Rattle.gz_round.specs.Sites.{site_now}
 use Rattle.gz_round.specs.Sent.{has_promised_at}
 use Rattle.gz_round.specs.Shown.{heard_at, IsShown, IsGrounded}
 use Rattle.gz_round.specs.Rounds.{passed_since, promises_known, promises_above, round_known}
-use Rattle.gz_round.specs.Sending.{NoEvidence, MayGiveIn, rows_known, answer_of}
+use Rattle.gz_round.specs.Sending.{NoEvidence, NoneGone, IsUndecided, MayGiveIn, rows_known, answer_of}
 use Rattle.gz_round.specs.Counting.{IsGoing, IsUnnoticed}
 use Rattle.gz_round.specs.declared.outcome.Outcome.{Outcome}
 use Rattle.gz_round.specs.declared.outcome.Outcome.TheVariants.{Goes, Ends}
 pub use Rattle.gz_round.specs.Causes.{ComesTo}
-use Rattle.gz_round.specs.Standing.{Stands, StageStands, AreAskedAgain, MayPass}
-use Rattle.gz_round.specs.Goals.{IsUnmet, IsFewIn, is_overtaken, stage_step}
+use Rattle.gz_round.specs.Standing.{Stands, StageStands, AreVotesBelow, IsVoteNext, AreAskedAgain, MayPass}
+use Rattle.gz_round.specs.Goals.{IsUnmet, IsAboveFloor, looked_in, IsFewIn, is_overtaken, AreServed, stage_step}
 use Rattle.gz_round.specs.Following.{Ready}
 
 abbrev pub notice_for : ℕ → Option Value → Option RowStep
 notice_for v None = None
 notice_for v (Some x) = Some (Decide v x)
 
+-- the version at which a phase works; in `Look` it is the one at which the call looks
 abbrev pub version_in : Stage → ℕ → ℕ
-version_in Look highest = highest
-version_in (Fast v) highest = v
-version_in (Prepare v b found) highest = v
-version_in (Accept v b x) highest = v
+version_in Look looked = looked
+version_in (Fast v) looked = v
+version_in (Prepare v b found) looked = v
+version_in (Accept v b x) looked = v
 
 -- the version that the phase works at
 abbrev pub working_version : Run → ℕ
-working_version run = version_in run.stage (highest_of run.rows)
+working_version run = version_in run.stage (looked_in run)
 
 -- the phase goes on: its goal isn't reached
 pub record IsGoalUnmet (c : Config) (w : Caller) (past : List Trace) (run : Run) (ms : List Action) : Type 0 where
@@ -72,7 +72,7 @@ choice_of v b (Some x) = AcceptNext (Accept v b x)
 abbrev pub ChoiceMeans : Config → Caller → List Trace → Run → List Action → Choice → Type 0
 ChoiceMeans c w past run ms Wait = IsFewIn c run run.stage
 ChoiceMeans c w past run ms (AcceptNext stage) = Carries c w past (record run { stage = stage }) ms
-ChoiceMeans c w past run ms GiveIn = MayGiveIn c w past ms
+ChoiceMeans c w past run ms GiveIn = MayGiveIn c w ms
 
 -- fewer known rows than a quorum promise the ballot that is prepared
 abbrev pub IsShortIn : Config → List (Option RowAt) → Stage → Type 0
@@ -98,14 +98,14 @@ pub record RunsOut (c : Config) (w : Caller) (past : List Trace) (run : Run) (ms
   pub short : IsShortIn c run.rows run.stage
   pub ahead : is_overtaken run ≡ false
   pub above : 1 ≤ working_version run
-  pub none : NoEvidence c ms (working_version run)
+  pub none : IsUndecided c ms (working_version run)
   pub idle : (s : ℕ) → s < c.n → (site_now ms s).awaits ≡ None
   pub heard : (s : ℕ) → s < c.n → (site_now ms s).out ≡ false → (row : RowAt) × (rows_known ms s ≡ Some row)
   pub again : AreAskedAgain c ms
   pub untaken : (step : RowStep) → stage_step run ≡ Some step → (s : ℕ) (row : RowAt) → s < c.n → rows_known ms s ≡ Some row → answer_of step row ≢ Done
 
-abbrev pub CanRunOut : Config → Run → ℕ → List Out → Type 0
-CanRunOut c run first outs = (w : Caller) × (past : List Trace) × (ms : List Action) × RunsOut c w past run (sent_from first outs ms)
+abbrev pub CanRunOut : Config → Run → Type 0
+CanRunOut c run = (w : Caller) × (past : List Trace) × (ms : List Action) × RunsOut c w past run ms
 
 -- a known row promises a ballot at the version, and can be asked for another promise
 pub record IsAskableAt (c : Config) (ms : List Action) (v : ℕ) (s : ℕ) : Type 0 where
@@ -131,10 +131,10 @@ pub record Prepares (c : Config) (w : Caller) (past : List Trace) (run : Run) (m
   pub grounded : IsGrounded c ms v
   pub passed : (d : BallotAt) → has_promised_at ms v d ≡ true → passed_since v d ms ≡ true
   pub begun : w.own ≡ None → 1 ≤ heard_at c (λ r. nat_le v (row_top r)) ms
-  pub none : NoEvidence c ms v
+  pub none : IsUndecided c ms v
 
-abbrev pub CanPrepare : Config → Run → ℕ → List Out → ℕ → Type 0
-CanPrepare c run first outs v = (w : Caller) × (past : List Trace) × (ms : List Action) × Prepares c w past run (sent_from first outs ms) v
+abbrev pub CanPrepare : Config → Run → ℕ → Type 0
+CanPrepare c run v = (w : Caller) × (past : List Trace) × (ms : List Action) × Prepares c w past run ms v
 
 -- the greatest round that known rows promise at a version
 abbrev pub round_in : ℕ → List (Option RowAt) → ℕ
@@ -163,17 +163,60 @@ CanFinish c run v = (w : Caller) × (past : List Trace) × (ms : List Action) ×
 abbrev pub CanFollow : Config → Run → Type 0
 CanFollow c run = (w : Caller) × (past : List Trace) × (ms : List Action) × Ready c w past run ms × IsGoing c ms
 
+-- a call that writes votes next at a version
+pub record VotesNext (c : Config) (w : Caller) (past : List Trace) (run : Run) (ms : List Action) (v : ℕ) : Type 0 where
+  pub stands : Stands c w past run ms
+  pub going : IsGoing c ms
+  pub unnoticed : IsUnnoticed ms
+  pub vote : IsVoteNext c w ms v
+
+abbrev pub CanCast : Config → Run → ℕ → Type 0
+CanCast c run v = (w : Caller) × (past : List Trace) × (ms : List Action) × VotesNext c w past run ms v
+
+-- it asked each site for its vote there
+pub record HasCast (c : Config) (w : Caller) (past : List Trace) (run : Run) (ms : List Action) (v : ℕ) : Type 0 where
+  pub votes : VotesNext c w past run ms v
+  pub stage_is : run.stage ≡ Fast v
+  pub served : AreServed c w ms (stage_step run)
+
+-- it never voted there, and no value is known to be chosen there
+pub record BeginsFast (c : Config) (w : Caller) (past : List Trace) (run : Run) (ms : List Action) (v : ℕ) : Type 0 where
+  pub votes : VotesNext c w past run ms v
+  pub first : AreVotesBelow w ms v
+  pub none : NoEvidence c ms v
+
+abbrev pub CanBeginFast : Config → Run → ℕ → Type 0
+CanBeginFast c run v = (w : Caller) × (past : List Trace) × (ms : List Action) × BeginsFast c w past run ms v
+
+-- it votes two above a floor
+pub record Skips (c : Config) (w : Caller) (past : List Trace) (run : Run) (ms : List Action) (v : ℕ) : Type 0 where
+  pub votes : VotesNext c w past run ms v
+  pub above : IsAboveFloor c ms v
+  pub gone : NoneGone c ms v
+
+abbrev pub CanSkip : Config → Run → ℕ → Type 0
+CanSkip c run v = (w : Caller) × (past : List Trace) × (ms : List Action) × Skips c w past run ms v
+
+-- it did, no site took its vote, and nothing is awaited
+pub record GoesOnAbove (c : Config) (w : Caller) (past : List Trace) (run : Run) (ms : List Action) (v : ℕ) : Type 0 where
+  pub cast : HasCast c w past run ms v
+  pub gone : NoneGone c ms v
+  pub idle : (s : ℕ) → s < c.n → (site_now ms s).awaits ≡ None
+
+abbrev pub CanGoOnAbove : Config → Run → ℕ → Type 0
+CanGoOnAbove c run v = (w : Caller) × (past : List Trace) × (ms : List Action) × GoesOnAbove c w past run ms v
+
 -- the answer of a call that was overtaken too often
 abbrev pub contended_of : Run → Answer
-contended_of run = if run.voted then Unsure (UnsureContended run.met) else Contended run.met
+contended_of run = if is_some run.last_vote then Unsure (UnsureContended run.met) else Contended run.met
 
 -- the answer of a call with too few sites left
 abbrev pub cut_off_of : Run → Answer
-cut_off_of run = if run.voted then Unsure (UnsureNoQuorum run.wrote (count_by (λ row. is_some row) run.rows)) else NoQuorum run.wrote (count_by (λ row. is_some row) run.rows)
+cut_off_of run = if is_some run.last_vote then Unsure (UnsureNoQuorum run.wrote (count_by (λ row. is_some row) run.rows)) else NoQuorum run.wrote (count_by (λ row. is_some row) run.rows)
 
 -- the answer of a call of which every site is out
 abbrev pub given_in_of : Run → Answer
-given_in_of run = if run.voted then Unsure (UnsureNoQuorum run.wrote 0) else NoQuorum run.wrote 0
+given_in_of run = if is_some run.last_vote then Unsure (UnsureNoQuorum run.wrote 0) else NoQuorum run.wrote 0
 
 -- the answer of a phase that ends without its goal; a call prepares after `Look` and `Fast`
 abbrev pub ended_in : Run → Stage → Option Answer

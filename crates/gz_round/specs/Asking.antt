@@ -12,7 +12,7 @@ use Rattle.gz_round.specs.declared.run.Mark.{Mark}
 use Rattle.gz_round.specs.declared.run.Run.{Run}
 use Rattle.gz_round.specs.Sites.{written_by}
 pub use Rattle.gz_round.specs.Sent.{is_notice}
-use Rattle.gz_round.specs.Sent.{vote_by, phase_by, promise_by, round_after, of_step, passes_sent}
+use Rattle.gz_round.specs.Sent.{vote_by, phase_by, promise_by, round_after, of_step, or_earlier}
 use Rattle.gz_round.specs.Sending.{answer_of, made_by}
 
 -- a row where the step is done
@@ -54,10 +54,10 @@ abbrev pub phase_after : Option Phase → Phase → Phase
 phase_after None phase = phase
 phase_after (Some later) phase = later
 
--- what a request says of the call: that it voted for its value, which part sent a row last, and the greatest round
+-- what a request says of the call: where it voted last for its value, which part sent a row last, and the greatest round
 abbrev pub noted : Run → Op → Run
 noted run op = record run {
-  voted = passes_sent (λ u. true) (of_step (vote_by run.name) op) || run.voted;
+  last_vote = or_earlier (of_step (vote_by run.name) op) run.last_vote;
   wrote = phase_after (of_step phase_by op) run.wrote;
   round = round_after (of_step promise_by op) run.round;
 }
@@ -90,7 +90,8 @@ pub record IsLeftBy (old new : Run) (step : Option RowStep) : Type 0 where
   pub stage : new.stage ≡ old.stage
   pub own : new.own ≡ old.own
   pub name : new.name ≡ old.name
-  pub voted : step ≡ None → new.voted ≡ old.voted
+  pub target : new.target ≡ old.target
+  pub vote : step ≡ None → new.last_vote ≡ old.last_vote
   pub wrote : step ≡ None → new.wrote ≡ old.wrote
   pub rises : old.round ≤ new.round
   pub round : new.round ≤ max (round_of step) old.round

@@ -13,22 +13,23 @@ use Rattle.gz_round.specs.declared.run.Run.{Run}
 use Rattle.gz_round.specs.declared.run.Stage.{Stage}
 use Rattle.gz_round.specs.declared.run.Stage.TheVariants.{Look, Fast, Prepare, Accept}
 use Rattle.gz_round.specs.declared.following.Next.{Next}
-use Rattle.gz_round.specs.declared.following.Next.TheVariants.{Wait, Vote, Chosen, Learnt, Absent}
+use Rattle.gz_round.specs.declared.following.Next.TheVariants.{Wait, Vote, Skip, Chosen, Learnt, Absent, Unborn, Collected, Trimmed}
 use Rattle.gz_core.specs.History.{Asked, Action, Sent, Caller, Trace, IsClosing, sent_from}
 use Rattle.gz_round.specs.Sites.{site_now}
 use Rattle.gz_round.specs.Sent.{voted, IsUnpromised}
-use Rattle.gz_round.specs.Shown.{heard_at, IsShown, IsCurrent}
+use Rattle.gz_round.specs.Shown.{heard_at, IsShown}
 use Rattle.gz_round.specs.Rounds.{rounds_used}
 pub use Rattle.gz_round.specs.Sending.{NoEvidence}
-use Rattle.gz_round.specs.Sending.{MayMake, MayFastVote, MayRead, AreAllowed, NoneAbove}
+use Rattle.gz_round.specs.Sending.{MayMake, MayRead, AreAllowed, NoneAbove, NoneGone, IsUndecided}
 use Rattle.gz_round.specs.Counting.{IsUnnoticed}
 use Rattle.gz_round.specs.declared.outcome.Outcome.{Outcome}
 use Rattle.gz_round.specs.declared.outcome.Outcome.TheVariants.{Goes}
-use Rattle.gz_round.specs.Causes.{ComesTo, IsAbsent, is_blank}
+use Rattle.gz_round.specs.Causes.{ComesTo, IsAbsent, IsUnborn, IsCollected, IsTrimmed, is_blank}
 use Rattle.gz_round.specs.Asking.{is_notice, round_of}
-use Rattle.gz_round.specs.Goals.{IsUnmet, IsOvertakenAskably, AreServed}
-pub use Rattle.gz_round.specs.Standing.{MayPass}
-use Rattle.gz_round.specs.Standing.{Stands, StageStands, Runs, AreAskedAgain, IsPreparing, IsVoting}
+use Rattle.gz_round.specs.Goals.{IsUnmet, IsAboveFloor, IsOvertakenAskably, AreServed}
+use Rattle.gz_round.specs.Targets.{target_of, IsAskedFor}
+pub use Rattle.gz_round.specs.Standing.{MayPass, IsVoteNext, AreVotesBelow}
+use Rattle.gz_round.specs.Standing.{Stands, StageStands, AreVotesUpTo, Runs, AreAskedAgain, IsPreparing, IsVoting}
 
 -- a site whose row is known shows a row without a vote, a decision or a floor
 abbrev pub is_blank_known : Option RowAt → Bool
@@ -56,7 +57,7 @@ pub record IsUnwritten (c : Config) (w : Caller) (ms : List Action) : Type 0 whe
   pub blank : c.qc ≤ heard_at c is_blank ms
   pub unvoted : voted w.name ms ≡ false
   pub unpromised : IsUnpromised ms 0
-  pub none : NoEvidence c ms 1
+  pub none : IsUndecided c ms 1
 
 -- the phase works at the version
 abbrev pub IsStageAt : Stage → ℕ → Type 0
@@ -65,10 +66,10 @@ IsStageAt (Fast u) v = u ≡ v
 IsStageAt (Prepare u b found) v = u ≡ v
 IsStageAt (Accept u b x) v = u ≡ v
 
--- a call that writes nothing knows the value of a version, from the row of a site, and nothing above it has begun
+-- a call that writes nothing knows the value of the version that it asks for, from the row of a site
 pub record IsFound (c : Config) (w : Caller) (run : Run) (ms : List Action) (v : ℕ) (s : ℕ) : Type 0 where
   pub reads : w.own ≡ None
-  pub current : IsCurrent c ms v
+  pub asked : IsAskedFor c (target_of w.call) ms v
   pub name : Name
   pub shown : IsShown c ms v name
   pub inside : s < c.n
@@ -79,10 +80,26 @@ pub record IsFound (c : Config) (w : Caller) (run : Run) (ms : List Action) (v :
 -- what the rows that are known come to
 abbrev pub NextMeans : Config → Caller → Run → List Action → Next → Type 0
 NextMeans c w run ms Wait = IsUnmet c run run.stage ms
-NextMeans c w run ms (Vote v) = MayFastVote c w ms v × NoEvidence c ms v × ((x : Value) × (w.own ≡ Some x)) × IsUnpromised ms v
+NextMeans c w run ms (Vote v) = IsVoteNext c w ms v × AreVotesBelow w ms v × NoEvidence c ms v
+NextMeans c w run ms (Skip v) = IsVoteNext c w ms v × IsAboveFloor c ms v × NoneGone c ms v
 NextMeans c w run ms (Chosen v) = (1 ≤ v) × IsShown c ms v w.name × ((x : Value) × (w.own ≡ Some x))
 NextMeans c w run ms (Learnt v s) = IsFound c w run ms v s
 NextMeans c w run ms Absent = IsAbsent c w ms
+NextMeans c w run ms (Unborn latest) = IsUnborn c w ms latest
+NextMeans c w run ms (Collected floor) = IsCollected c w ms floor
+NextMeans c w run ms (Trimmed floor) = IsTrimmed c w ms floor
+
+-- a call that writes votes above a version, or its value is chosen
+abbrev pub IsWriteNext : ℕ → Next → Type 0
+IsWriteNext v Wait = ⊥
+IsWriteNext v (Vote u) = v < u
+IsWriteNext v (Skip u) = ⊥
+IsWriteNext v (Chosen u) = Unit {0}
+IsWriteNext v (Learnt u s) = ⊥
+IsWriteNext v Absent = ⊥
+IsWriteNext v (Unborn latest) = ⊥
+IsWriteNext v (Collected floor) = ⊥
+IsWriteNext v (Trimmed floor) = ⊥
 
 -- a step may be made, where there is one
 abbrev pub MayMakeOf : Config → Caller → List Trace → List Action → Option RowStep → Type 0
@@ -91,7 +108,7 @@ MayMakeOf c w past ms (Some step) = MayMake c w past ms step
 
 -- what the phase of a step keeps while the step is made at one site after another
 abbrev pub HeldBy : Config → Caller → List Trace → List Action → RowStep → Type 0
-HeldBy c w past ms (FastVote v x) = IsUnpromised ms v
+HeldBy c w past ms (FastVote v x) = IsUnpromised ms v × AreVotesUpTo w ms v
 HeldBy c w past ms (Promise v b) = IsPreparing c w past ms v b × NoneAbove c ms v b
 HeldBy c w past ms (ClassicVote v b x) = IsVoting c w past ms v b × NoneAbove c ms v b
 HeldBy c w past ms (Decide v x) = Unit {0}
@@ -112,6 +129,11 @@ pub record Asks (c : Config) (w : Caller) (past : List Trace) (run : Run) (ms : 
 abbrev pub IsPlain : Option RowStep → Type 0
 IsPlain None = Unit {0}
 IsPlain (Some step) = is_notice step ≡ false
+
+-- a notice, or no step
+abbrev pub IsNoticeIfAny : Option RowStep → Type 0
+IsNoticeIfAny None = Unit {0}
+IsNoticeIfAny (Some step) = is_notice step ≡ true
 
 -- why a request of a site is awaited after a pass: one was awaited before it, or a read was due, or the step was made, and so
 -- the round of its promise was used

@@ -1,5 +1,5 @@
 -- The goal of a phase, and the step by which it is reached: whether the goal is unmet, and whether all that can be asked for it was.
-use Rattle.std.specs.Prelude.{ℕ, ◌≡◌, ◌≤◌, ◌<◌, ◌⊎◌, ◌||◌, nat_lt, Bool, true, false, List, Option, Some, None}
+use Rattle.std.specs.Prelude.{ℕ, ◌≡◌, ◌≤◌, ◌<◌, ◌+◌, ◌⊎◌, ◌||◌, nat_lt, Bool, true, false, List, Option, Some, None}
 use Rattle.std.specs.List.{count_by, list_any}
 use Rattle.gz_core.specs.Names.{BallotAt}
 use Rattle.gz_core.specs.Rows.{RowAt}
@@ -19,15 +19,36 @@ use Rattle.gz_core.specs.History.{Action, Caller}
 use Rattle.gz_round.specs.Sites.{site_now, rows_known}
 use Rattle.gz_round.specs.Sent.{is_notice}
 use Rattle.gz_round.specs.Rounds.{promises_known, promises_above, above_known}
-use Rattle.gz_round.specs.Sending.{NoEvidence, answer_of, made_by}
+use Rattle.gz_round.specs.Sending.{NoEvidence, NoneGone, IsUndecided, answer_of, made_by}
+use Rattle.gz_round.specs.Targets.{looked_at}
 use Rattle.gz_round.specs.Counting.{known_count, HasNotice}
+
+-- the version at which the call looks
+abbrev pub looked_in : Run → ℕ
+looked_in run = looked_at run.target (highest_of run.rows)
 
 -- the phase's goal isn't reached
 abbrev pub IsUnmet : Config → Run → Stage → List Action → Type 0
-IsUnmet c run Look ms = (known_count c ms < c.qc) ⊎ ((1 ≤ highest_of run.rows) × NoEvidence c ms (highest_of run.rows))
-IsUnmet c run (Fast v) ms = NoEvidence c ms v
-IsUnmet c run (Prepare v b found) ms = NoEvidence c ms v
-IsUnmet c run (Accept v b x) ms = NoEvidence c ms v
+IsUnmet c run Look ms = (known_count c ms < c.qc) ⊎ ((1 ≤ highest_of run.rows) × IsUndecided c ms (looked_in run))
+IsUnmet c run (Fast v) ms = IsUndecided c ms v
+IsUnmet c run (Prepare v b found) ms = IsUndecided c ms v
+IsUnmet c run (Accept v b x) ms = IsUndecided c ms v
+
+-- a known row's floor lies two below the version, which follows the one that is decided there
+abbrev pub IsAboveFloor : Config → List Action → ℕ → Type 0
+IsAboveFloor c ms v = (s : ℕ) × (row : RowAt) × (s < c.n) × (rows_known ms s ≡ Some row) × (v ≡ row.floor + 2)
+
+-- a known row has the version collected
+abbrev pub HasGone : Config → List Action → ℕ → Type 0
+HasGone c ms v = (s : ℕ) × (row : RowAt) × (s < c.n) × (rows_known ms s ≡ Some row) × (v ≤ row.floor)
+
+-- a call that writes has just begun to vote at the version: at the second one above a floor, whatever is known there, or at one
+-- that was collected, after a version of which it had evidence
+abbrev pub IsSkipping : Config → Stage → List Action → Type 0
+IsSkipping c Look ms = ⊥
+IsSkipping c (Fast v) ms = (IsAboveFloor c ms v × NoneGone c ms v) ⊎ (HasGone c ms v × NoEvidence c ms v)
+IsSkipping c (Prepare v b found) ms = ⊥
+IsSkipping c (Accept v b x) ms = ⊥
 
 -- a quorum of known rows doesn't promise the call's ballot yet
 abbrev pub IsFewIn : Config → Run → Stage → Type 0

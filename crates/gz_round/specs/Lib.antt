@@ -5,6 +5,7 @@ pub mod Causes
 pub mod Choosing
 pub mod Counting
 pub mod Evidence
+pub mod Floors
 pub mod Following
 pub mod Goals
 pub mod LookBack
@@ -18,3 +19,4 @@ pub mod Sites
 pub mod Standing
 pub mod Starting
 pub mod Steps
+pub mod Targets

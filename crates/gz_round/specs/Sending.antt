@@ -27,8 +27,9 @@ use Rattle.gz_round.specs.Rounds.{MayPromise, MayClassicVote, IsPromiseHeard, ha
 use Rattle.gz_core.specs.History.{Asked, Action, Sent, Handed, GaveUp, Rested, GaveIn, Caller, Trace, is_row_request}
 pub use Rattle.gz_round.specs.Sites.{rows_known}
 use Rattle.gz_round.specs.Sites.{SiteNow, site_now, as_heard, written_by}
-use Rattle.gz_round.specs.Sent.{is_notice, last_promise, IsUnpromised}
-use Rattle.gz_round.specs.Shown.{heard_at, IsShown, IsCurrent, IsNext, IsClear}
+use Rattle.gz_round.specs.Sent.{is_notice, last_promise}
+use Rattle.gz_round.specs.Shown.{heard_at, IsShown, IsCurrent, IsNext, IsClear, IsValueHeard}
+use Rattle.gz_round.specs.Targets.{keep_of}
 
 -- what a step answers on a row
 abbrev pub answer_of : RowStep → RowAt → Step
@@ -58,13 +59,23 @@ pub record MayFastVote (c : Config) (w : Caller) (ms : List Action) (v : ℕ) : 
   pub next : IsNext c ms v
   pub clear : IsClear c w.name ms v
 
--- the guard of each step; the store doesn't collect versions yet
+-- a collection trims up to a version where a value is shown at the next one, which it knows, and at the version that is as many
+-- above as it keeps
+pub record MayTrim (c : Config) (w : Caller) (ms : List Action) (to : ℕ) (x : Value) : Type 0 where
+  pub above : 1 ≤ to
+  pub keep : ℕ
+  pub collects : keep_of w.call ≡ Some keep
+  pub kept : (y : Name) × IsShown c ms (to + keep) y
+  pub next : IsShown c ms (to + 1) (name_of x)
+  pub known : IsValueHeard ms (to + 1) x
+
+-- the guard of each step
 abbrev pub MayMake : Config → Caller → List Trace → List Action → RowStep → Type 0
 MayMake c w past ms (FastVote v x) = (w.own ≡ Some x) × MayFastVote c w ms v
 MayMake c w past ms (Promise v b) = MayPromise c w past ms v b
 MayMake c w past ms (ClassicVote v b x) = MayClassicVote c w ms v b x
 MayMake c w past ms (Decide v x) = IsShown c ms v (name_of x) × IsValueKnown w ms v x
-MayMake c w past ms (Trim to x) = ⊥
+MayMake c w past ms (Trim to x) = MayTrim c w ms to x
 
 -- a write goes out on the last row that was heard, under its tag, where it wasn't overtaken since
 pub record MayWrite (c : Config) (w : Caller) (past : List Trace) (ms : List Action) (now : SiteNow) (expect : Option ℕ) (step : RowStep) (row : RowAt) : Type 0 where
@@ -110,11 +121,20 @@ NoEvidence c ms v = (x : Name) → IsEvident c.n c.qc c.qf (rows_known ms) v x �
 abbrev pub NoneAbove : Config → List Action → ℕ → BallotAt → Type 0
 NoneAbove c ms v b = (s : ℕ) (row : RowAt) → s < c.n → rows_known ms s ≡ Some row → promises_above row v b ≡ false
 
--- nothing is awaited, every site was heard or is out, and no value is known to be chosen at the version
+-- no known row has the version collected
+abbrev pub NoneGone : Config → List Action → ℕ → Type 0
+NoneGone c ms v = (s : ℕ) (row : RowAt) → s < c.n → rows_known ms s ≡ Some row → row.floor < v
+
+-- work at the version goes on: no known row shows that a value is chosen there, and none has it collected
+pub record IsUndecided (c : Config) (ms : List Action) (v : ℕ) : Type 0 where
+  pub evident : NoEvidence c ms v
+  pub gone : NoneGone c ms v
+
+-- nothing is awaited, every site was heard or is out, and work at the version goes on
 pub record IsIdle (c : Config) (ms : List Action) (v : ℕ) : Type 0 where
   pub awaits : (s : ℕ) → s < c.n → (site_now ms s).awaits ≡ None
   pub heard : (s : ℕ) → s < c.n → (site_now ms s).out ≡ false → (row : RowAt) × (rows_known ms s ≡ Some row)
-  pub undecided : NoEvidence c ms v
+  pub undecided : IsUndecided c ms v
 
 -- a step in the ballot that the call promised last leads no further, though it could go on: each known row has taken it
 pub record IsStuck (c : Config) (ms : List Action) (v : ℕ) (b : BallotAt) (step : RowStep) : Type 0 where
@@ -149,36 +169,15 @@ pub record IsWithoutValue (c : Config) (w : Caller) (ms : List Action) (v : ℕ)
   pub free : pick_of c.n c.qf heard ≡ Free
   pub begun : IsBegun c ms v b
   pub back : IsLookedBack c ms v b None
-  pub undecided : NoEvidence c ms v
-
--- a known row has the version collected
-abbrev pub HasGone : Config → List Action → ℕ → Type 0
-HasGone c ms v = (s : ℕ) × (row : RowAt) × (s < c.n) × (rows_known ms s ≡ Some row) × (v ≤ row.floor)
-
--- no row is left that could promise a ballot at the version: each known one has it collected. The call has promised
--- nothing above it, and rows of a classic quorum had nothing above it.
-pub record IsBarred (c : Config) (ms : List Action) (v : ℕ) : Type 0 where
-  pub current : IsCurrent c ms v
-  pub later : IsUnpromised ms (v + 1)
-  pub gone : (s : ℕ) (row : RowAt) → s < c.n → rows_known ms s ≡ Some row → v ≤ row.floor
-
--- a known row has the version collected for which the call promised the ballot last; or every one has, and so the call
--- can't promise its next ballot there. No row of this store has: it collects no version yet.
-pub record IsCollected (c : Config) (w : Caller) (past : List Trace) (ms : List Action) (v : ℕ) (b : BallotAt) : Type 0 where
-  pub going : IsGoing c ms
-  pub idle : IsIdle c ms v
-  pub promise : MayPromise c w past ms v b
-  pub gone : HasGone c ms v
-  pub works : (last_promise ms ≡ Some (v, b)) ⊎ IsBarred c ms v
+  pub undecided : IsUndecided c ms v
 
 -- a call gives in where its promise leads no further, short of a quorum of promises, and nothing was cast in the
--- ballot; where its vote in the ballot leads no further, short of a value that is chosen; where it has no value to
--- vote for; or where its version was collected. Rows that stay as written exclude all four.
-pub data MayGiveIn (c : Config) (w : Caller) (past : List Trace) (ms : List Action) : Type 0 where
-  NoPromise : (v : ℕ) (b : BallotAt) → IsStuck c ms v b (Promise v b) → IsUncast ms v b → IsShort c ms v b → MayGiveIn c w past ms
-  NoVote : (v : ℕ) (b : BallotAt) (x : Value) → IsStuck c ms v b (ClassicVote v b x) → MayClassicVote c w ms v b x → MayGiveIn c w past ms
-  NoValue : (v : ℕ) (b : BallotAt) → IsWithoutValue c w ms v b → MayGiveIn c w past ms
-  Collected : (v : ℕ) (b : BallotAt) → IsCollected c w past ms v b → MayGiveIn c w past ms
+-- ballot; where its vote in the ballot leads no further, short of a value that is chosen; or where it has no value to
+-- vote for. Rows that stay as written exclude all three.
+pub data MayGiveIn (c : Config) (w : Caller) (ms : List Action) : Type 0 where
+  NoPromise : (v : ℕ) (b : BallotAt) → IsStuck c ms v b (Promise v b) → IsUncast ms v b → IsShort c ms v b → MayGiveIn c w ms
+  NoVote : (v : ℕ) (b : BallotAt) (x : Value) → IsStuck c ms v b (ClassicVote v b x) → MayClassicVote c w ms v b x → MayGiveIn c w ms
+  NoValue : (v : ℕ) (b : BallotAt) → IsWithoutValue c w ms v b → MayGiveIn c w ms
 
 -- a row request is awaited
 abbrev pub IsAwaitedOf : List Action → Asked → Type 0
@@ -191,7 +190,7 @@ IsAllowed c w past ms (Sent a) = is_row_request a.op ≡ true → MaySend c w pa
 IsAllowed c w past ms (Handed a reply) = is_row_request a.op ≡ true → IsAwaitedOf ms a × (as_heard c.n (written_by a.op) reply ≡ reply)
 IsAllowed c w past ms (GaveUp a) = is_row_request a.op ≡ true → IsAwaitedOf ms a
 IsAllowed c w past ms Rested = MayRest c w ms
-IsAllowed c w past ms GaveIn = MayGiveIn c w past ms
+IsAllowed c w past ms GaveIn = MayGiveIn c w ms
 
 -- each action of a call that is about rows was allowed when it came
 abbrev pub AreAllowed : Config → Caller → List Trace → List Action → Type 0

@@ -1,6 +1,6 @@
 -- What the rows that a call heard show: that a value is chosen at a version, and that no later one has begun.
 -- (Lamport 2006, "Fast Paxos": a value is chosen by the votes of a quorum of one ballot.)
-use Rattle.std.specs.Prelude.{ℕ, Bool, true, ◌≡◌, ◌≢◌, ◌≤◌, ◌+◌, ◌⊎◌, nat_le, List, Option, Some, None}
+use Rattle.std.specs.Prelude.{ℕ, Bool, true, ◌≡◌, ◌≢◌, ◌≤◌, ◌+◌, ◌⊎◌, ◌==◌, nat_le, List, Option, Some, None}
 use Rattle.gz_core.specs.Names.{Name, BallotAt}
 use Rattle.gz_core.specs.Rows.{RowAt, column_in}
 use Rattle.gz_core.specs.declared.rows.Vote.{Vote}
@@ -27,6 +27,10 @@ IsShown c ms v x = ((b : BallotAt) × (need c.qc c.qf b ≤ heard_at c (λ r. vo
 -- rows of a classic quorum have no vote and no decision above the version
 abbrev pub IsCurrent : Config → List Action → ℕ → Type 0
 IsCurrent c ms v = c.qc ≤ heard_at c (λ r. nat_le (row_top r) v) ms
+
+-- a row with this floor was heard
+abbrev pub HasFloor : Config → List Action → ℕ → Type 0
+HasFloor c ms floor = 1 ≤ heard_at c (λ r. r.floor == floor) ms
 
 -- the version is the first, or a value is shown at the one before
 abbrev pub IsNext : Config → List Action → ℕ → Type 0

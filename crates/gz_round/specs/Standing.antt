@@ -15,13 +15,15 @@ use Rattle.gz_round.specs.declared.run.Stage.TheVariants.{Look, Fast, Prepare, A
 use Rattle.gz_core.specs.History.{Asked, Action, Caller, Trace}
 use Rattle.gz_round.specs.declared.hearing.Seen.{Seen}
 use Rattle.gz_round.specs.Sites.{SiteNow, site_now, known, row_seen, written_by}
-use Rattle.gz_round.specs.Sent.{met, voted, phase_of, has_promised_at, last_promise, IsUnpromised}
-use Rattle.gz_round.specs.Shown.{IsCurrent, IsClear, IsGrounded}
+use Rattle.gz_round.specs.Sent.{met, voted, voted_at, last_vote, phase_of, has_promised_at, last_promise, IsUnpromised}
+use Rattle.gz_round.specs.Shown.{IsClear, IsGrounded}
+use Rattle.gz_round.specs.Targets.{target_of, IsAim}
+use Rattle.gz_round.specs.declared.run.Target.TheVariants.{Latest}
 use Rattle.gz_round.specs.LookBack.{IsLookedBack}
 use Rattle.gz_round.specs.Rounds.{MayClassicVote, IsUnused, rounds_used, promises_above, passed_since}
 use Rattle.gz_round.specs.Sending.{AreAllowed, MayFastVote, MayRead, IsUncast, IsBegun, rows_known}
 use Rattle.gz_round.specs.Counting.{IsGoing, IsUnnoticed}
-use Rattle.gz_round.specs.Goals.{IsUnmet, IsFewIn, is_overtaken, AreServed, stage_step}
+use Rattle.gz_round.specs.Goals.{IsUnmet, IsSkipping, IsFewIn, is_overtaken, AreServed, stage_step}
 
 abbrev pub etag_seen : Option Seen → Option ℕ
 etag_seen None = None
@@ -58,15 +60,21 @@ AreSound ms = (s : ℕ) → IsSound (site_now ms s) s
 abbrev pub IsNamed : Name → Option Value → Type 0
 IsNamed name own = (x : Value) → own ≡ Some x → name_of x ≡ name
 
+-- a call that writes asks for no version by its number
+abbrev pub WritesLatest : Caller → Type 0
+WritesLatest w = (x : Value) → w.own ≡ Some x → target_of w.call ≡ Latest
+
 -- the call keeps what has happened to it, and each action of it was allowed
 pub record Stands (c : Config) (w : Caller) (past : List Trace) (run : Run) (ms : List Action) : Type 0 where
   pub name_is : run.name ≡ w.name
   pub key_is : run.key ≡ key_of w.call
+  pub target_is : run.target ≡ target_of w.call
   pub own_is : run.own ≡ w.own
   pub named : IsNamed w.name w.own
+  pub writes : WritesLatest w
   pub knows : Knows c run ms
   pub met_is : run.met ≡ met ms
-  pub voted_is : run.voted ≡ voted w.name ms
+  pub vote_is : run.last_vote ≡ last_vote w.name ms
   pub wrote_is : run.wrote ≡ phase_of ms
   pub round_is : run.round ≡ rounds_used past ms
   pub sites : AreSound ms
@@ -76,12 +84,28 @@ pub record Stands (c : Config) (w : Caller) (past : List Trace) (run : Run) (ms 
 abbrev pub ArePassed : Config → List Action → ℕ → BallotAt → Type 0
 ArePassed c ms v b = (s : ℕ) (row : RowAt) → s < c.n → rows_known ms s ≡ Some row → promises_above row v b ≡ true → passed_since v b ms ≡ true
 
+-- the call voted for its value at lower versions alone, or last at this one
+abbrev pub AreVotesUpTo : Caller → List Action → ℕ → Type 0
+AreVotesUpTo w ms v = (u : ℕ) → voted_at w.name ms u ≡ true → (u < v) ⊎ ((u ≡ v) × (last_vote w.name ms ≡ Some u))
+
+-- the call voted for its value at lower versions alone
+abbrev pub AreVotesBelow : Caller → List Action → ℕ → Type 0
+AreVotesBelow w ms v = (u : ℕ) → voted_at w.name ms u ≡ true → u < v
+
+-- the call may vote for its value in the fast ballot of the version, and promised nothing there or above
+pub record IsVoteNext (c : Config) (w : Caller) (ms : List Action) (v : ℕ) : Type 0 where
+  pub may : MayFastVote c w ms v
+  pub own : (x : Value) × (w.own ≡ Some x)
+  pub unpromised : IsUnpromised ms v
+  pub votes : AreVotesUpTo w ms v
+
 -- the call may work at a version; once a value is shown there that isn't its own, one that writes may pass on to the next
 pub record MayPass (c : Config) (w : Caller) (ms : List Action) (v : ℕ) : Type 0 where
   pub above : 1 ≤ v
-  pub current : IsCurrent c ms v
+  pub aim : IsAim c (target_of w.call) ms v
   pub clear : IsClear c w.name ms v
   pub later : IsUnpromised ms (v + 1)
+  pub votes : AreVotesUpTo w ms v
 
 -- it works there by a classic ballot of its session, which was used for nothing else; any other ballot that it
 -- promised there was passed since
@@ -108,7 +132,7 @@ pub record IsVoting (c : Config) (w : Caller) (past : List Trace) (ms : List Act
 -- the phase has what its step wants, and what a call that writes nothing looked back at
 abbrev pub StageStands : Config → Caller → List Trace → Stage → List Action → Type 0
 StageStands c w past Look ms = (voted w.name ms ≡ false) × (phase_of ms ≡ NotBegun)
-StageStands c w past (Fast v) ms = MayFastVote c w ms v × ((x : Value) × (w.own ≡ Some x)) × IsUnpromised ms v
+StageStands c w past (Fast v) ms = IsVoteNext c w ms v
 StageStands c w past (Prepare v b found) ms = IsPreparing c w past ms v b × ArePassed c ms v b × (w.own ≡ None → last_promise ms ≡ Some (v, b) → IsLookedBack c ms v b found)
 StageStands c w past (Accept v b x) ms = MayClassicVote c w ms v b x × IsVoting c w past ms v b × ArePassed c ms v b
 
@@ -120,12 +144,12 @@ AreAskedAgain c ms = (s : ℕ) → s < c.n → MayRead (site_now ms s) → (site
 abbrev pub IsWaiting : Config → List Action → Type 0
 IsWaiting c ms = (s : ℕ) × (a : Asked) × (s < c.n) × ((site_now ms s).awaits ≡ Some a)
 
--- between two events: the phase stands, short of its goal and of a quorum of promises that it could vote by, and its ballot
+-- between two events: the phase stands, short of its goal or just begun above a floor, and of a quorum of promises that it could vote by, and its ballot
 -- leads on; each site is asked for what it may be asked, and got no notice; the call can go on, and it awaits a request
 pub record Runs (c : Config) (w : Caller) (past : List Trace) (run : Run) (ms : List Action) : Type 0 where
   pub stands : Stands c w past run ms
   pub stage : StageStands c w past run.stage ms
-  pub unmet : IsUnmet c run run.stage ms
+  pub unmet : IsUnmet c run run.stage ms ⊎ IsSkipping c run.stage ms
   pub few : IsFewIn c run run.stage
   pub ahead : is_overtaken run ≡ false
   pub again : AreAskedAgain c ms

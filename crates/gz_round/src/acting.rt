@@ -1,24 +1,25 @@
 //! All that a call does at an event, once what came was noted.
-ghost use Rattle.std.specs.Prelude.{IsSome, ◌≡◌, ◌≤◌, ◌<◌, ◌+◌, ◌^◌, ℕ, List, [], length, Some, slice_get, IfOk, MatchOption};
+ghost use Rattle.std.specs.Prelude.{IsSome, ◌≡◌, ◌≢◌, ◌≤◌, ◌<◌, ◌+◌, ◌^◌, ℕ, List, [], length, Some, slice_get, IfOk, MatchOption};
 ghost use Rattle.gz_core.specs.Rows.{RowAt};
 ghost use Rattle.gz_core.specs.Configurations.{IsConfig};
 ghost use Rattle.gz_core.specs.Calls.{key_of};
 ghost use Rattle.gz_core.specs.History.{Action, Caller, Trace, sent_from};
-ghost use Rattle.gz_round.specs.Starting.{reads_from, AreRowRequests};
+ghost use Rattle.gz_round.specs.Starting.{reads_from, AreRowRequests, MakeNoStep};
 ghost use Rattle.gz_round.specs.Sites.{AreBlobs};
 ghost use Rattle.gz_round.specs.Standing.{Stands, Runs, IsKept};
 ghost use Rattle.gz_round.specs.Counting.{IsGoing};
 ghost use Rattle.std.specs.Option.{option_copied};
 ghost use Rattle.gz_round.specs.Causes.{EndsBy, row_value, column_value, vote_value};
-ghost use Rattle.gz_round.specs.Goals.{is_overtaken, stage_step, vote_for};
+ghost use Rattle.gz_round.specs.Goals.{is_overtaken, stage_step, vote_for, looked_in};
 ghost use Rattle.gz_round.specs.Acting.{IsGoalUnmet, CanAct, CanFollow, Carries, CanCarry, ComesTo, contended_of, cut_off_of, given_in_of, CanFinish, Finishes, notice_for, working_version};
-ghost use Rattle.gz_round.specs.declared.outcome.Outcome.TheVariants.{Ends, Learnt};
+ghost use Rattle.gz_round.specs.declared.outcome.Outcome.TheVariants.{Goes, Ends, Learnt};
 ghost use Rattle.gz_round.specs.Following.{Ready, IsReady, Turned, HasTurned};
 
 use crate::choosing::Choice;
+use crate::floors::earlier_of;
 use crate::following::Next;
 use crate::outcome::{Outcome, RowTurn};
-use crate::run::{Run, Stage, copy_of};
+use crate::run::{Run, Stage, Target, copy_of};
 use gz_core::{
     Answer, Ballot, Column, Config, Items, Out, Row, RowStep, SiteId, UnsureWhy, Value, Version,
     Vote,
@@ -61,6 +62,7 @@ impl Run {
         ensures turned { IfOk result (λ turn. (w : Caller) (past : List Trace) (ms : List Action) → Ready config.now w past self.old ms
             → HasTurned config.now w past self.new (sent_from first turn.send ms) turn.outcome) }
         ensures sends { IfOk result (λ turn. AreRowRequests turn.send) }
+        ensures ends { IfOk result (λ turn. turn.outcome ≢ Goes → MakeNoStep turn.send) }
     {
         match self.stop(config) {
             Some(answer) => self.close(alloc, config, first, Outcome::Ends { answer }),
@@ -89,7 +91,7 @@ impl Run {
         ensures { result ≡ contended_of self.now }
     {
         let met = self.met;
-        if self.voted {
+        if self.last_vote.is_some() {
             Answer::Unsure {
                 why: UnsureWhy::Contended { met },
             }
@@ -105,7 +107,7 @@ impl Run {
     {
         let phase = self.wrote;
         let heard = self.known() as u32;
-        if self.voted {
+        if self.last_vote.is_some() {
             Answer::Unsure {
                 why: UnsureWhy::NoQuorum { phase, heard },
             }
@@ -128,27 +130,53 @@ impl Run {
         ensures turned { IfOk result (λ turn. (w : Caller) (past : List Trace) (ms : List Action) → Ready config.now w past self.old ms → IsGoing config.now ms
             → HasTurned config.now w past self.new (sent_from first turn.send ms) turn.outcome) }
         ensures sends { IfOk result (λ turn. AreRowRequests turn.send) }
+        ensures ends { IfOk result (λ turn. turn.outcome ≢ Goes → MakeNoStep turn.send) }
     {
         match self.next(config) {
             Next::Wait => self.propose_or_step(alloc, config, first),
-            Next::Vote { version } => {
-                self.stage = Stage::Fast { version };
-                self.propose_or_step(alloc, config, first)
-            },
+            Next::Vote { version } => self.begin_fast(alloc, config, first, version),
+            Next::Skip { version } => self.skip(alloc, config, first, version),
             Next::Chosen { version } => self.finish(alloc, config, first, version),
             Next::Learnt { version, site } => {
                 let value = self.value_of(version, site)?;
                 self.close(alloc, config, first, Outcome::Learnt { version, value })
             },
-            Next::Absent => {
-                let answer = Answer::Absent;
-                self.close(alloc, config, first, Outcome::Ends { answer })
+            Next::Absent => self.end(alloc, config, first, Answer::Absent),
+            Next::Unborn { latest } => self.end(alloc, config, first, Answer::Unborn { latest }),
+            Next::Collected { floor } => self.end(
+                alloc,
+                config,
+                first,
+                Answer::Collected { floor },
+            ),
+            Next::Trimmed { floor } => {
+                let why = UnsureWhy::Trimmed { floor };
+                self.end(alloc, config, first, Answer::Unsure { why })
             },
         }
     }
 
+    /// Ends the call with an answer.
+    fn end(
+        &mut self,
+        alloc: Global,
+        config: &Config,
+        first: u32,
+        answer: Answer,
+    ) -> Result<RowTurn, AllocError>
+        requires config { IsConfig config.now }
+        requires first { first < 2 ^ 31 }
+        requires ready { IsReady config.now self.old }
+        ensures turned { IfOk result (λ turn. (w : Caller) (past : List Trace) (ms : List Action) → Ready config.now w past self.old ms
+            → EndsBy config.now w ms answer → Turned config.now w past self.new (sent_from first turn.send ms) turn.outcome) }
+        ensures sends { IfOk result (λ turn. AreRowRequests turn.send) }
+        ensures ends { IfOk result (λ turn. MakeNoStep turn.send) }
+    {
+        self.close(alloc, config, first, Outcome::Ends { answer })
+    }
+
     /// The phase goes on; once a quorum promises the call's ballot, the next one votes in it, or every site goes out.
-    fn propose_or_step(
+    pub fn propose_or_step(
         &mut self,
         alloc: Global,
         config: &Config,
@@ -161,6 +189,7 @@ impl Run {
         ensures turned { IfOk result (λ turn. (w : Caller) (past : List Trace) (ms : List Action) → IsGoalUnmet config.now w past self.old ms
             → HasTurned config.now w past self.new (sent_from first turn.send ms) turn.outcome) }
         ensures sends { IfOk result (λ turn. AreRowRequests turn.send) }
+        ensures ends { IfOk result (λ turn. turn.outcome ≢ Goes → MakeNoStep turn.send) }
     {
         match self.choose(alloc, config)? {
             Choice::Wait => self.step_or_prepare(alloc, config, first),
@@ -199,10 +228,11 @@ impl Run {
         ensures turned { IfOk result (λ turn. (w : Caller) (past : List Trace) (ms : List Action) → Carries config.now w past self.old ms
             → HasTurned config.now w past self.new (sent_from first turn.send ms) turn.outcome) }
         ensures sends { IfOk result (λ turn. AreRowRequests turn.send) }
+        ensures ends { IfOk result (λ turn. turn.outcome ≢ Goes → MakeNoStep turn.send) }
     {
         if self.is_overtaken() {
             let version = self.working();
-            return self.prepare(config, first, version, Items::new(alloc));
+            return self.prepare(alloc, config, first, version);
         }
         self.make_step(alloc, config, first)
     }
@@ -231,7 +261,7 @@ impl Run {
     }
 
     /// The vote for the call's own value, if it has one.
-    fn vote(&self, version: Version) -> Result<Option<RowStep>, AllocError>
+    pub fn vote(&self, version: Version) -> Result<Option<RowStep>, AllocError>
         ensures { IfOk result (λ step. step ≡ vote_for version self.now.own) }
     {
         match &self.own {
@@ -256,12 +286,23 @@ impl Run {
         }
     }
 
+    /// The version at which the call looks: the highest that has begun, or the one that it asks for, where that is lower.
+    pub fn looked(&self) -> Version
+        ensures { result ≡ looked_in self.now }
+    {
+        let highest = highest(self.rows.as_slice());
+        match self.target {
+            Target::Latest => highest,
+            Target::At { version } => earlier_of(version, highest),
+        }
+    }
+
     /// The version that the phase works at.
     pub fn working(&self) -> Version
         ensures { result ≡ working_version self.now }
     {
         match &self.stage {
-            Stage::Look => highest(self.rows.as_slice()),
+            Stage::Look => self.looked(),
             Stage::Fast { version } => *version,
             Stage::Prepare { version, .. } => *version,
             Stage::Accept { version, .. } => *version,
@@ -282,13 +323,14 @@ impl Run {
         ensures turned { IfOk result (λ turn. (w : Caller) (past : List Trace) (ms : List Action) → Ready config.now w past self.old ms
             → ComesTo config.now w ms outcome → Turned config.now w past self.new (sent_from first turn.send ms) turn.outcome) }
         ensures sends { IfOk result (λ turn. AreRowRequests turn.send) }
+        ensures ends { IfOk result (λ turn. MakeNoStep turn.send) }
     {
         let send = self.first_pass(alloc, config, &None, first)?;
         Ok(RowTurn { send, outcome })
     }
 
     /// Tells each site that can take it that the call's value is chosen.
-    fn finish(
+    pub fn finish(
         &mut self,
         alloc: Global,
         config: &Config,
@@ -301,6 +343,7 @@ impl Run {
         ensures turned { IfOk result (λ turn. (w : Caller) (past : List Trace) (ms : List Action) → Finishes config.now w past self.old ms version
             → Turned config.now w past self.new (sent_from first turn.send ms) turn.outcome) }
         ensures sends { IfOk result (λ turn. AreRowRequests turn.send) }
+        ensures ends { IfOk result (λ turn. MakeNoStep turn.send) }
     {
         let step = self.notice(version)?;
         let send = self.first_pass(alloc, config, &step, first)?;

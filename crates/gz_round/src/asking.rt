@@ -1,16 +1,18 @@
 //! What is asked of a site.
-ghost use Rattle.std.specs.Prelude.{◌≡◌, ◌≤◌, ◌<◌, ◌+◌, ◌^◌, ◌||◌, Bool, true, length, slice_get, slice_set, Option, Some, None, IfOk, OnOk};
+ghost use Rattle.std.specs.Prelude.{◌≡◌, ◌≤◌, ◌<◌, ◌+◌, ◌^◌, if◌then◌else◌, length, slice_get, slice_set, Option, Some, None, IfOk, OnOk};
+ghost use Rattle.gz_core.specs.Names.{same_name};
 ghost use Rattle.gz_core.specs.Rows.{RowAt};
+ghost use Rattle.gz_core.specs.Values.{name_of};
 ghost use Rattle.gz_round.specs.Steps.{IsStep, IsStepOf};
 ghost use Rattle.gz_round.specs.Asking.{asks_of, step_out, write_out, read_out, sent_run, phase_after, noted};
 ghost use Rattle.gz_round.specs.Sites.{written_by};
-ghost use Rattle.gz_round.specs.Sent.{vote_by, phase_by, promise_by, round_after, passes_sent};
+ghost use Rattle.gz_round.specs.Sent.{vote_by, phase_by, promise_by, round_after, or_earlier};
 ghost use Rattle.gz_round.specs.declared.run.Mark.{Mark};
 
 use crate::making::{copy_of, is_notice, made};
 use crate::rounds::later_of;
 use crate::run::{Awaited, Mark, Run};
-use gz_core::{Etag, Key, Op, Out, Phase, Row, RowStep, SiteId};
+use gz_core::{Etag, Key, Op, Out, Phase, Row, RowStep, SiteId, Value, Version};
 use std::alloc::AllocError;
 
 impl Run {
@@ -146,7 +148,7 @@ impl Run {
         Ok(())
     }
 
-    /// Keeps what a request says of the call: that it voted for its value, which part sent a row last, and the
+    /// Keeps what a request says of the call: where it voted last for its value, which part sent a row last, and the
     /// greatest round.
     fn note_step(&mut self, op: &Op)
         ensures { self.new ≡ noted self.old op.now }
@@ -158,23 +160,32 @@ impl Run {
     }
 
     fn note_write(&mut self, step: &RowStep)
-        ensures { self.new ≡ record self.old { voted = passes_sent (λ u. true) (vote_by self.old.name step.now) || self.old.voted; wrote = phase_after (phase_by step.now) self.old.wrote; round = round_after (promise_by step.now) self.old.round } }
+        ensures { self.new ≡ record self.old { last_vote = or_earlier (vote_by self.old.name step.now) self.old.last_vote; wrote = phase_after (phase_by step.now) self.old.wrote; round = round_after (promise_by step.now) self.old.round } }
     {
         match step {
-            RowStep::FastVote { value, .. } => {
-                self.voted = value.name() == self.name || self.voted;
+            RowStep::FastVote { version, value } => {
+                self.note_vote(*version, value);
                 self.wrote = Phase::Fast;
             },
             RowStep::Promise { ballot, .. } => {
                 self.wrote = Phase::Prepare;
                 self.round = later_of(ballot.round, self.round);
             },
-            RowStep::ClassicVote { value, .. } => {
-                self.voted = value.name() == self.name || self.voted;
+            RowStep::ClassicVote { version, value, .. } => {
+                self.note_vote(*version, value);
                 self.wrote = Phase::Accept;
             },
             RowStep::Decide { .. } => {},
             RowStep::Trim { .. } => self.wrote = Phase::Trim,
+        }
+    }
+
+    /// Keeps where the call votes, where it votes for its own value.
+    fn note_vote(&mut self, version: Version, value: &Value)
+        ensures { self.new ≡ record self.old { last_vote = if same_name (name_of value.now) self.old.name then Some version else self.old.last_vote } }
+    {
+        if value.name() == self.name {
+            self.last_vote = Some(version);
         }
     }
 }

@@ -6,6 +6,7 @@ pub mod asking;
 pub mod awaiting;
 pub mod choosing;
 pub mod counts;
+pub mod floors;
 pub mod following;
 pub mod hearing;
 mod looking_back;
@@ -17,8 +18,9 @@ mod preparing;
 mod rounds;
 pub mod run;
 mod starting;
+mod voting;
 
 pub use following::Next;
 pub use hearing::Seen;
 pub use outcome::{Outcome, RowTurn};
-pub use run::{Awaited, Mark, Run, Stage};
+pub use run::{Awaited, Mark, Run, Stage, Target};

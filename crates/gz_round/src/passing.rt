@@ -1,11 +1,12 @@
 //! One pass over the sites: each is asked for all that it may be asked for.
-ghost use Rattle.std.specs.Prelude.{◌≡◌, ◌≤◌, ◌<◌, ◌+◌, ◌++◌, ◌^◌, ℕ, List, [], length, IfOk, OnOk};
+ghost use Rattle.std.specs.Prelude.{◌≡◌, ◌≤◌, ◌<◌, ◌+◌, ◌++◌, ◌^◌, ◌⊎◌, ℕ, true, false, List, [], length, IfOk, OnOk};
 ghost use Rattle.gz_core.specs.Configurations.{IsConfig};
 ghost use Rattle.gz_core.specs.History.{Action, Caller, Trace, sent_from};
-ghost use Rattle.gz_round.specs.Starting.{AreUnread, AreForRows, reads_from};
+ghost use Rattle.gz_round.specs.Starting.{AreUnread, AreForRows, AreRowRequests, MakeNoStep, SitesRise, reads_from};
 ghost use Rattle.gz_round.specs.Steps.{IsStepOf};
 ghost use Rattle.gz_round.specs.Asking.{IsAskedAt, IsLeftBy};
-ghost use Rattle.gz_round.specs.Following.{Asks, HasAsked, CanAsk};
+ghost use Rattle.gz_round.specs.Following.{Asks, HasAsked, CanAsk, IsNoticeIfAny, IsPlain};
+ghost use Rattle.gz_round.specs.Acting.{is_waiting};
 
 use crate::run::Run;
 use gz_core::{Config, Items, Out, RowStep};
@@ -58,6 +59,9 @@ impl Run {
         ensures left { OnOk result (IsLeftBy self.old self.new step.now) }
         ensures few { OnOk result (length send.new ≤ length send.old + config.now.n) }
         ensures rows { OnOk result (AreForRows send.old → AreForRows send.new) }
+        ensures rising { OnOk result (send.old ≡ [] → SitesRise 0 send.new) }
+        ensures stepless { OnOk result (IsNoticeIfAny step.now → MakeNoStep send.old → MakeNoStep send.new) }
+        ensures idle { OnOk result (IsPlain step.now → (send.new ≡ send.old) ⊎ (is_waiting self.new ≡ true)) }
         ensures reads { OnOk result (AreUnread config.now.n self.old → send.new ≡ send.old ++ reads_from self.old.key 0 config.now.n) }
     {
         for at in 0..config.n as usize {
@@ -82,8 +86,9 @@ impl Run {
         ensures asked { IfOk result (λ send. (w : Caller) (past : List Trace) (ms : List Action) → Asks config.now w past self.old ms step.now
             → HasAsked config.now w past self.new ms (sent_from first send ms) step.now) }
         ensures left { OnOk result (IsLeftBy self.old self.new step.now) }
-        ensures few { IfOk result (λ send. length send ≤ config.now.n) }
-        ensures rows { IfOk result (λ send. AreForRows send) }
+        ensures sends { IfOk result (λ send. AreRowRequests send) }
+        ensures stepless { IfOk result (λ send. IsNoticeIfAny step.now → MakeNoStep send) }
+        ensures idle { IfOk result (λ send. IsPlain step.now → is_waiting self.new ≡ false → send ≡ []) }
         ensures reads { IfOk result (λ send. AreUnread config.now.n self.old → send ≡ reads_from self.old.key 0 config.now.n) }
     {
         let mut send = Items::new(alloc);

@@ -1,9 +1,10 @@
 //! How a call goes on by a classic ballot, where a phase ended without its goal. (Lamport 2006, "Fast Paxos", section 2.2.)
-ghost use Rattle.std.specs.Prelude.{◌≡◌, ◌≤◌, ◌<◌, ◌+◌, ◌^◌, List, [], length, None, IfOk};
+ghost use Rattle.std.specs.Prelude.{◌≡◌, ◌≢◌, ◌≤◌, ◌<◌, ◌+◌, ◌^◌, List, [], length, None, IfOk};
 ghost use Rattle.gz_core.specs.Configurations.{IsConfig};
 ghost use Rattle.gz_core.specs.History.{Action, Caller, Trace, sent_from};
-ghost use Rattle.gz_round.specs.Starting.{AreForRows, AreRowRequests};
+ghost use Rattle.gz_round.specs.Starting.{AreRowRequests, MakeNoStep};
 ghost use Rattle.gz_round.specs.Following.{HasTurned};
+ghost use Rattle.gz_round.specs.declared.outcome.Outcome.TheVariants.{Goes};
 ghost use Rattle.gz_round.specs.Acting.{TakesStep, CanStep, RunsOut, CanRunOut, Prepares, CanPrepare, IsBallotAbove, given_in_of, ended_of, prepared_of};
 
 use crate::outcome::{Outcome, RowTurn};
@@ -27,6 +28,7 @@ impl Run {
         ensures turned { IfOk result (λ turn. (w : Caller) (past : List Trace) (ms : List Action) → TakesStep config.now w past self.old ms
             → HasTurned config.now w past self.new (sent_from first turn.send ms) turn.outcome) }
         ensures sends { IfOk result (λ turn. AreRowRequests turn.send) }
+        ensures ends { IfOk result (λ turn. turn.outcome ≢ Goes → MakeNoStep turn.send) }
     {
         let step = self.step()?;
         let send = self.first_pass(alloc, config, &step, first)?;
@@ -36,35 +38,34 @@ impl Run {
                 outcome: Outcome::Goes,
             });
         }
-        self.run_out(config, first, send)
+        self.run_out(alloc, config, first)
     }
 
-    /// A phase that ended without its goal: a classic ballot is prepared after `Look` and `Fast`; where one leads no
-    /// further, every site goes out.
-    fn run_out(
+    /// A phase that ended without its goal, by a pass that sent nothing: a classic ballot is prepared after `Look` and
+    /// `Fast`; where one leads no further, every site goes out.
+    pub fn run_out(
         &mut self,
+        alloc: Global,
         config: &Config,
         first: u32,
-        send: Items<Out>,
     ) -> Result<RowTurn, AllocError>
         requires config { IsConfig config.now }
         requires first { first < 2 ^ 31 }
         requires round { self.old.round < 2 ^ 31 + first }
-        requires few { length send ≤ 16 }
-        requires rows { AreForRows send }
-        requires runs_out { CanRunOut config.now self.old first send }
-        ensures turned { IfOk result (λ turn. (w : Caller) (past : List Trace) (ms : List Action) → RunsOut config.now w past self.old (sent_from first send ms)
+        requires runs_out { CanRunOut config.now self.old }
+        ensures turned { IfOk result (λ turn. (w : Caller) (past : List Trace) (ms : List Action) → RunsOut config.now w past self.old ms
             → HasTurned config.now w past self.new (sent_from first turn.send ms) turn.outcome) }
         ensures sends { IfOk result (λ turn. AreRowRequests turn.send) }
+        ensures ends { IfOk result (λ turn. turn.outcome ≢ Goes → MakeNoStep turn.send) }
     {
         match self.ended() {
             Some(answer) => Ok(RowTurn {
-                send,
+                send: Items::new(alloc),
                 outcome: Outcome::Ends { answer },
             }),
             None => {
                 let version = self.working();
-                self.prepare(config, first, version, send)
+                self.prepare(alloc, config, first, version)
             },
         }
     }
@@ -86,7 +87,7 @@ impl Run {
         ensures { result ≡ given_in_of self.now }
     {
         let phase = self.wrote;
-        if self.voted {
+        if self.last_vote.is_some() {
             Answer::Unsure {
                 why: UnsureWhy::NoQuorum { phase, heard: 0 },
             }
@@ -95,47 +96,44 @@ impl Run {
         }
     }
 
-    /// Prepares a new ballot at a version, after the requests that the event sends already: each site is asked to
-    /// promise it.
+    /// Prepares a new ballot at a version: each site is asked to promise it.
     pub fn prepare(
         &mut self,
+        alloc: Global,
         config: &Config,
         first: u32,
         version: Version,
-        send: Items<Out>,
     ) -> Result<RowTurn, AllocError>
         requires config { IsConfig config.now }
         requires first { first < 2 ^ 31 }
         requires round { self.old.round < 2 ^ 31 + first }
-        requires few { length send ≤ 16 }
-        requires rows { AreForRows send }
-        requires prepares { CanPrepare config.now self.old first send version }
-        ensures turned { IfOk result (λ turn. (w : Caller) (past : List Trace) (ms : List Action) → Prepares config.now w past self.old (sent_from first send ms) version
+        requires prepares { CanPrepare config.now self.old version }
+        ensures turned { IfOk result (λ turn. (w : Caller) (past : List Trace) (ms : List Action) → Prepares config.now w past self.old ms version
             → HasTurned config.now w past self.new (sent_from first turn.send ms) turn.outcome) }
         ensures sends { IfOk result (λ turn. AreRowRequests turn.send) }
+        ensures ends { IfOk result (λ turn. turn.outcome ≢ Goes → MakeNoStep turn.send) }
     {
         let ballot = self.next_ballot(version);
-        self.promise(config, first, version, ballot, send)
+        self.promise(alloc, config, first, version, ballot)
     }
 
     /// Asks each site to promise a new ballot.
     fn promise(
         &mut self,
+        alloc: Global,
         config: &Config,
         first: u32,
         version: Version,
         ballot: Ballot,
-        send: Items<Out>,
     ) -> Result<RowTurn, AllocError>
         requires config { IsConfig config.now }
         requires first { first < 2 ^ 31 }
-        requires few { length send ≤ 16 }
-        requires rows { AreForRows send }
-        requires prepares { CanPrepare config.now self.old first send version }
+        requires prepares { CanPrepare config.now self.old version }
         requires ballot { IsBallotAbove self.old version ballot }
-        ensures turned { IfOk result (λ turn. (w : Caller) (past : List Trace) (ms : List Action) → Prepares config.now w past self.old (sent_from first send ms) version
+        ensures turned { IfOk result (λ turn. (w : Caller) (past : List Trace) (ms : List Action) → Prepares config.now w past self.old ms version
             → HasTurned config.now w past self.new (sent_from first turn.send ms) turn.outcome) }
         ensures sends { IfOk result (λ turn. AreRowRequests turn.send) }
+        ensures ends { IfOk result (λ turn. turn.outcome ≢ Goes → MakeNoStep turn.send) }
     {
         let found = self.look_back(config, version)?;
         self.stage = Stage::Prepare {
@@ -143,9 +141,8 @@ impl Run {
             ballot,
             found,
         };
-        let step = Some(RowStep::Promise { version, ballot });
-        let mut send = send;
-        self.ask_all(config, &step, first, &mut send)?;
+        let promise = Some(RowStep::Promise { version, ballot });
+        let send = self.first_pass(alloc, config, &promise, first)?;
         let outcome = self.prepared();
         Ok(RowTurn { send, outcome })
     }

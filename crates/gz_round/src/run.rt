@@ -164,17 +164,26 @@ fn acceptance(version: Version, ballot: Ballot, value: &Value) -> Result<Stage, 
     })
 }
 
-/// A running call: its name, the object's key, the value that it writes if it writes one, the last row of each
-/// site that isn't out, what else it keeps of each site, how often it was overtaken, whether it voted for its
-/// value, the part that sent its last row write, the greatest round that its session promised, and its phase.
+/// The version that a call asks for: the latest one, to read it or to write after it, or that of a number.
+#[derive(Clone, Copy)]
+pub enum Target {
+    Latest,
+    At { version: Version },
+}
+
+/// A running call: its name, the object's key, the version that it asks for, the value that it writes if it writes one,
+/// the last row of each site that isn't out, what else it keeps of each site, how often it was overtaken, the version at
+/// which it voted last for its value, the part that sent its last row write, the greatest round that its session
+/// promised, and its phase.
 pub struct Run {
     pub name: PutName,
     pub key: Key,
+    pub target: Target,
     pub own: Option<Value>,
     pub rows: Items<Option<Row>>,
     pub marks: Items<Mark>,
     pub met: u32,
-    pub voted: bool,
+    pub last_vote: Option<Version>,
     pub wrote: Phase,
     pub round: u32,
     pub stage: Stage,
@@ -185,11 +194,12 @@ impl Drop for Run {
         let Run {
             name: _,
             key: _,
+            target: _,
             own: _,
             rows: _,
             marks: _,
             met: _,
-            voted: _,
+            last_vote: _,
             wrote: _,
             round: _,
             stage: _,
@@ -205,11 +215,12 @@ impl Run {
         let Run {
             name: _,
             key,
+            target: _,
             own: _,
             rows: _,
             marks: _,
             met: _,
-            voted: _,
+            last_vote: _,
             wrote: _,
             round: _,
             stage: _,
@@ -249,11 +260,12 @@ impl Run {
         Ok(Run {
             name: self.name,
             key,
+            target: self.target,
             own,
             rows,
             marks,
             met: self.met,
-            voted: self.voted,
+            last_vote: self.last_vote,
             wrote: self.wrote,
             round: self.round,
             stage,

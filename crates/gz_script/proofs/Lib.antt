@@ -1,3 +1,4 @@
+mod Bounds
 pub mod Filling
 mod Growing
 pub mod Keeping

@@ -1,13 +1,12 @@
 //! Schedules are played: each line's events are read off the world in which it is reached.
 ghost use Rattle.std.specs.Prelude.{◌≡◌, ◌∷◌, [], OnOk, IfErr, All, ◌==◌, map};
 ghost use Rattle.std.specs.List.{list_any};
-ghost use Rattle.gz_round.specs.Starting.{IsWithin};
 ghost use Rattle.gz_world.specs.Fits.{IsFitting, IsBounded};
 ghost use Rattle.gz_world.specs.States.{request_of, numbered};
 ghost use Rattle.gz_world.specs.Told.{IsReachedBy};
 ghost use Rattle.gz_script.specs.Outboxes.{AreUnansweredListed};
 ghost use Rattle.gz_script.specs.Plays.{Happen, StopsAt, HappenInPart, taken, is_left_out, settled, Settles, SettlesInPart, drained, PlaysLine, PlaysLineInPart, Plays, PlaysInPart, ChangesBy};
-ghost use Rattle.gz_lines.specs.Schedule.{IsBoundedLine};
+ghost use Rattle.gz_lines.specs.Schedule.{IsBoundedCall, IsBoundedLine};
 
 use crate::outboxes::{Outboxes, has_reply};
 use gz_core::{Call, Session, SiteId};
@@ -84,7 +83,7 @@ fn happen<S: Site>(world: &mut World<S>, event: Event) -> Result<(), ApplyError>
 /// A session begins a call.
 fn begin<S: Site>(world: &mut World<S>, session: Session, call: &Call) -> Result<(), ApplyError>
     requires fits { IsFitting world.old }
-    requires bounded { IsWithin call.now }
+    requires bounded { IsBoundedCall call.now }
     ensures fits { IsFitting world.new }
     ensures ok { OnOk result (ChangesBy S.told (Happen (Event.Begin session call.now ∷ [])) world.old world.new) }
     ensures err { IfErr result (λ error. ChangesBy S.told (HappenInPart error (Event.Begin session call.now ∷ [])) world.old world.new) }

@@ -134,6 +134,14 @@ const OTHERS: &[(&str, &[Brief])] = &[
         ],
     ),
     (
+        "getat 2 a 1\n getat  4294967295 b  4294967295\r\ngetat 1 c 10",
+        &[
+            ("getat", 2, 0x61, 1),
+            ("getat", 4_294_967_295, 0x62, 4_294_967_295),
+            ("getat", 1, 0x63, 10),
+        ],
+    ),
+    (
         "put 1 a x:01\nget 2 a\n",
         &[("put", 1, 0x61, 0x101), ("get", 2, 0x61, 1)],
     ),
@@ -160,7 +168,14 @@ fn refusal_of(alloc: Global, text: &str) -> Option<TextError> {
 
 /// Texts, and the first line of each that has a fault, with its fault.
 const REFUSED: &[(&str, u32, Why)] = &[
-    ("session\ngetat 1 a\n", 2, Why::Unbuilt),
+    ("session\ngetat 1 a\n", 2, Why::Count),
+    ("getat 1 a 1 1\n", 1, Why::Count),
+    ("getat 0 a\x07 0\n", 1, Why::Number),
+    ("getat 1 a\x07 0\n", 1, Why::Key),
+    ("getat 1 a 1\ngetat 1 a 0\n", 2, Why::Number),
+    ("getat 1 a 4294967296\n", 1, Why::Number),
+    ("getat 1 a 01\n", 1, Why::Number),
+    ("getAt 1 a 1\n", 1, Why::Word),
     ("collect 0 a 1\n", 1, Why::Unbuilt),
     ("lose\nput 1\n", 1, Why::Unbuilt),
     ("take 1\n\nrot 1 a 1.1 0 y:\n", 3, Why::Unbuilt),

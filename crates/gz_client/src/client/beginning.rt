@@ -10,8 +10,9 @@ ghost use Rattle.gz_core.specs.declared.values.Value.{Value};
 ghost use Rattle.gz_data.specs.Own.{IsOwn};
 ghost use Rattle.gz_round.specs.Following.{Ready};
 ghost use Rattle.gz_round.specs.Rounds.{top_rounds};
-ghost use Rattle.gz_round.specs.Standing.{IsNamed};
+ghost use Rattle.gz_round.specs.Standing.{IsNamed, WritesLatest};
 ghost use Rattle.gz_round.specs.Starting.{IsWithin};
+ghost use Rattle.gz_round.specs.Targets.{target_of};
 ghost use Rattle.gz_client.specs.Blobs.{is_put};
 ghost use Rattle.gz_client.specs.Traces.{CanBegin, Begins, BeginsAs, IsSameClient};
 ghost use Rattle.gz_client.specs.Changes.{changed, CanChange};
@@ -23,7 +24,7 @@ use crate::running::{Change, Puts, Running};
 use gz_core::{Call, Items, Key, Order, Out, PutName, Turn, Value};
 use gz_data::requests::store;
 use gz_data::{Made, Storing, make};
-use gz_round::Run;
+use gz_round::{Run, Target};
 use std::alloc::{AllocError, Global};
 
 impl Client {
@@ -49,10 +50,15 @@ impl Client {
         match call {
             Call::Put { key, bytes } => self.begin_put(alloc, name, key, bytes.as_slice(), first),
             Call::Delete { key } => {
-                self.begin_rows(alloc, name, key, Some(Value::Tomb { name }), first)
+                let own = Some(Value::Tomb { name });
+                self.begin_rows(alloc, name, key, Target::Latest, own, first)
             },
-            Call::Get { key } => self.begin_rows(alloc, name, key, None, first),
-            Call::GetAt { .. } | Call::Collect { .. } => unreachable!(),
+            Call::Get { key } => self.begin_rows(alloc, name, key, Target::Latest, None, first),
+            Call::GetAt { key, version } => {
+                let target = Target::At { version: *version };
+                self.begin_rows(alloc, name, key, target, None, first)
+            },
+            Call::Collect { .. } => unreachable!(),
         }
     }
 
@@ -62,6 +68,7 @@ impl Client {
         alloc: Global,
         name: PutName,
         key: &Key,
+        target: Target,
         own: Option<Value>,
         first: u32,
     ) -> Result<(Change, Turn), AllocError>
@@ -69,11 +76,12 @@ impl Client {
         requires first { first < 2 ^ 31 }
         requires name { name ≡ record { session = self.now.session; seq = self.now.calls + 1 } }
         requires named { IsNamed name own }
-        ensures ok { IfOk result (λ after. (call : Call) → key_of call ≡ key.now → is_put call ≡ false → IsOwn self.now.config name call own → BeginsAs self.now (changed self.now after.0) first call own after.1) }
+        requires writes { (x : Value) → own ≡ Some x → target ≡ Target.Latest }
+        ensures ok { IfOk result (λ after. (call : Call) → key_of call ≡ key.now → target_of call ≡ target → is_put call ≡ false → IsOwn self.now.config name call own → BeginsAs self.now (changed self.now after.0) first call own after.1) }
         ensures same { IfOk result (λ after. IsSameClient self.now (changed self.now after.0)) }
         ensures can { IfOk result (λ after. CanChange self.now after.0) }
     {
-        let mut run = self.start(alloc, name, key, own)?;
+        let mut run = self.start(alloc, name, key, target, own)?;
         let send = run.open(alloc, &self.config, first)?;
         let puts = Puts::none(alloc);
         Ok(self.call_begins(run.round, Running::Asking { run, puts }, send))
@@ -97,7 +105,7 @@ impl Client {
         ensures can { IfOk result (λ after. CanChange self.now after.0) }
     {
         let Made { put, records } = make(alloc, &self.config, name, key, object)?;
-        let mut run = self.start(alloc, name, key, Some(Value::Put(put)))?;
+        let mut run = self.start(alloc, name, key, Target::Latest, Some(Value::Put(put)))?;
         let mut send = self.read_first(alloc, &mut run, first)?;
         let awaited = store(alloc, name, key, records, first, &mut send)?;
         let puts = Puts {
@@ -132,14 +140,15 @@ impl Client {
         alloc: Global,
         name: PutName,
         key: &Key,
+        target: Target,
         own: Option<Value>,
     ) -> Result<Run, AllocError>
-        ensures ready { IfOk result (λ run. (w : Caller) (past : List Trace) → w.name ≡ name → key_of w.call ≡ key.now → w.own ≡ own
-            → IsNamed w.name w.own → top_rounds past ≡ self.now.round → Ready self.now.config w past run []) }
+        ensures ready { IfOk result (λ run. (w : Caller) (past : List Trace) → w.name ≡ name → key_of w.call ≡ key.now → target_of w.call ≡ target → w.own ≡ own
+            → IsNamed w.name w.own → WritesLatest w → top_rounds past ≡ self.now.round → Ready self.now.config w past run []) }
         ensures stage { IfOk result (λ run. run.stage ≡ Look) }
     {
         let key = copy_of(key)?;
-        Run::start(alloc, &self.config, name, key, own, self.round)
+        Run::start(alloc, &self.config, name, key, target, own, self.round)
     }
 
     /// The client has one call more, which runs.

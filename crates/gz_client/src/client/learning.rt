@@ -1,5 +1,5 @@
 //! What a client makes of a reply, or of a request that is given up.
-ghost use Rattle.std.specs.Prelude.{◌≡◌, ◌≤◌, ◌<◌, OnOk, true, false, [], ◌+◌, ◌^◌, ◌++◌, ◌∷◌, ℕ, List, Option, Some, None, length, IfOk, OnErr, IsSome};
+ghost use Rattle.std.specs.Prelude.{◌≡◌, ◌≢◌, ◌≤◌, ◌<◌, OnOk, true, false, [], ◌+◌, ◌^◌, ◌++◌, ◌∷◌, ℕ, List, Option, Some, None, length, IfOk, OnErr, IsSome};
 ghost use Rattle.std.specs.List.{list_any};
 ghost use Rattle.std.specs.Option.{option_copied};
 ghost use Rattle.gz_core.specs.Configurations.{IsConfig};
@@ -8,7 +8,7 @@ ghost use Rattle.gz_data.specs.Requests.{is_numbered};
 ghost use Rattle.gz_round.specs.Rounds.{rounds_used};
 ghost use Rattle.gz_round.specs.Following.{Ready};
 ghost use Rattle.gz_round.specs.Sites.{as_heard, written_by, site_now};
-ghost use Rattle.gz_round.specs.Starting.{AreRowRequests};
+ghost use Rattle.gz_round.specs.Starting.{AreRowRequests, MakeNoStep};
 ghost use Rattle.gz_client.specs.Changes.{changed, CanChange, counted};
 ghost use Rattle.gz_client.specs.Traces.{CanLearn, IsSameClient, Extends, AreBelow, told_of};
 ghost use Rattle.gz_client.specs.Turning.{TurnsBy, HasCountedFirst, HasCountedLast, HasFollowed, FollowsBy, PlacesBy, GoesOrEnds, GathersFrom, ReadsBy, CanHearIf, HearsIf, GathersNot, outcome_of};
@@ -359,6 +359,7 @@ impl Client {
     ) -> Result<(Change, Turn), AllocError>
         requires first { first < 2 ^ 31 }
         requires sends { AreRowRequests turn.send }
+        requires ends { turn.outcome ≢ Outcome.Goes → MakeNoStep turn.send }
         ensures ok { IfOk result (λ after. (w : Caller) (past : List Trace) (closing ms : List Action)
             → HasFollowed self.now.config w past run puts.now closing (sent_from first turn.send ms) turn.outcome → AreBelow first ms
             → FollowsBy self.now (changed self.now after.0) first after.1 w past closing ms) }

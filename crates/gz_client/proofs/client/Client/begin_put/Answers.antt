@@ -18,7 +18,7 @@ read_first-requires-clause-opens c =
     let own = Some (PutOf c.in_ok-put.field-0.put) in
     let w : Caller = record { name = c.args.name; call = Put c.args.key.now c.args.object.now; own = own } in
     let past : List Trace = trace_of w c.args.self.now.round ∷ [] in
-    (w, past, c.in_ok-run.ensures.ready w past refl refl refl (put_named c.args.self.now.config c.args.name c.args.key.now c.args.object.now own c.in_ok-put.ensures.own) (trace_round w c.args.self.now.round))
+    (w, past, c.in_ok-run.ensures.ready w past refl refl refl refl (put_named c.args.self.now.config c.args.name c.args.key.now c.args.object.now own c.in_ok-put.ensures.own) (λ x is. refl) (trace_round w c.args.self.now.round))
 
 pub store-requires-clause-room : goal.store-requires-clause-room
 store-requires-clause-room c =
@@ -26,7 +26,7 @@ store-requires-clause-room c =
     let w : Caller = record { name = c.args.name; call = Put c.args.key.now c.args.object.now; own = own } in
     let past : List Trace = trace_of w c.args.self.now.round ∷ [] in
     reads_few c.args.self.now.config w past c.in_ok-run.run' c.read_first.new.run c.args.first c.in_ok-send.send c.args.self.now.config.order c.requires.begin.sizes
-    (c.in_ok-run.ensures.ready w past refl refl refl (put_named c.args.self.now.config c.args.name c.args.key.now c.args.object.now own c.in_ok-put.ensures.own) (trace_round w c.args.self.now.round))
+    (c.in_ok-run.ensures.ready w past refl refl refl refl (put_named c.args.self.now.config c.args.name c.args.key.now c.args.object.now own c.in_ok-put.ensures.own) (λ x is. refl) (trace_round w c.args.self.now.round))
     c.in_ok-send.ensures
 
 pub returns-clause-ok : goal.returns-clause-ok
@@ -40,7 +40,7 @@ returns-clause-ok c = λ next (ts : List Trace) h l.
     let made : IsMade client.config w.name c.args.key.now c.args.object.now put c.in_ok-put.field-0.records.items =
     subst (λ (n : Name). IsMade client.config n c.args.key.now c.args.object.now put c.in_ok-put.field-0.records.items) named c.in_ok-put.ensures in
     let ready : Ready client.config w ts c.in_ok-run.run' [] =
-    c.in_ok-run.ensures.ready w ts (sym named) refl refl (put_named client.config w.name c.args.key.now c.args.object.now own made.own) (sym h.round_is) in
+    c.in_ok-run.ensures.ready w ts (sym named) refl refl refl (put_named client.config w.name c.args.key.now c.args.object.now own made.own) (λ x is. refl) (sym h.round_is) in
     let puts : Puts = record { awaited = c.in_ok-awaited.awaited; counts = record { stored = 0; lost = 0 } } in
     let running : c.match-self.running ≡ put_running client.config.order c.read_first.new.run puts = elim c.match-self.branch [
       | in-Parallel m ↦ m.running-is ∙ ap (λ o. put_running o c.read_first.new.run puts) (sym m.in-Parallel.is)

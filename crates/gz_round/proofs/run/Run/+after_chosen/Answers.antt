@@ -1,16 +1,15 @@
 use Rattle.std.proofs.Common.{◌≤◌, ◌+◌, sym, subst, arith, rules}
 use Rattle.std.proofs.lemmas.Bool.{both_ways}
 use Rattle.gz_pick.specs.Looks.{highest_of}
-use Rattle.gz_round.specs.Following.{MayPass}
-use Rattle.gz_round.specs.Sending.{MayFastVote}
-use Rattle.gz_round.specs.Sent.{IsUnpromised}
+use Rattle.gz_round.specs.Following.{MayPass, IsVoteNext, AreVotesBelow}
 use Rattle.gz_round.specs.Evidence.{NoneEvident}
 use Rattle.gz_round.proofs.Known.{known_low, none_evident}
-use Rattle.gz_round.proofs.Follows.{evident_highest, chosen_means, other_means, own_of, pass_from}
+use Rattle.gz_round.proofs.Follows.{evident_highest, chosen_means, other_means}
+use Rattle.gz_round.proofs.Targets.{vote_passes}
 use Rattle.gz_round.proofs.run.Run.+after_chosen.Goals as goal
 
-pub returns-then-is_own : goal.returns-then-is_own
-returns-then-is_own t c = λ w past ms h m. chosen_means c.args.config.now w past c.args.self.now ms c.args.version c.args.site h c.requires.own m c.requires.evident ((c.is_own.ensures c.requires.evident.row c.requires.evident.known).0 c.if-is_own.true)
+pub returns-then-is_own-clause-means : goal.returns-then-is_own-clause-means
+returns-then-is_own-clause-means t c = λ w past ms h m. chosen_means c.args.config.now w past c.args.self.now ms c.args.version c.args.site h c.requires.own m c.requires.evident ((c.is_own.ensures c.requires.evident.row c.requires.evident.known).0 c.if-is_own.true)
 
 pub next-next-requires : goal.next-next-requires
 next-next-requires t c =
@@ -23,12 +22,12 @@ after_chosen-requires t c =
     let seen : c.args.version ≤ highest_of c.args.self.now.rows = evident_highest c.args.config.now c.args.self.now.rows c.args.version c.args.site c.requires.evident in
     search rules
 
-pub returns-in-None : goal.returns-in-None
-returns-in-None t c = λ w past ms h m.
-    let other = other_means c.args.config.now w past c.args.self.now ms c.args.version c.args.site h m c.requires.evident (λ k. both_ways _ c.if-is_own.false ((c.is_own.ensures c.requires.evident.row c.requires.evident.known).1 k)) in
-    (subst (MayFastVote c.args.config.now w ms) (sym c.next-next.ensures) other, none_evident c.args.config.now c.args.self.now ms h.knows c.next-next.result (subst (λ rows. NoneEvident c.args.config.now rows c.next-next.result) c.as_slice.ensures c.in-None.ensures), own_of c.args.config.now w past c.args.self.now ms h c.requires.own, subst (IsUnpromised ms) (sym c.next-next.ensures) m.later)
+pub returns-in-None-clause-means : goal.returns-in-None-clause-means
+returns-in-None-clause-means t c = λ w past ms h m.
+    let other = other_means c.args.config.now w past c.args.self.now ms c.args.version c.args.site h c.requires.own m c.requires.evident (λ k. both_ways _ c.if-is_own.false ((c.is_own.ensures c.requires.evident.row c.requires.evident.known).1 k)) in
+    (subst (IsVoteNext c.args.config.now w ms) (sym c.next-next.ensures) other.0, subst (AreVotesBelow w ms) (sym c.next-next.ensures) other.1, none_evident c.args.config.now c.args.self.now ms h.knows c.next-next.result (subst (λ rows. NoneEvident c.args.config.now rows c.next-next.result) c.as_slice.ensures c.in-None.ensures))
 
-pub returns-in-Some : goal.returns-in-Some
-returns-in-Some t c = λ w past ms h m.
-    let other = other_means c.args.config.now w past c.args.self.now ms c.args.version c.args.site h m c.requires.evident (λ k. both_ways _ c.if-is_own.false ((c.is_own.ensures c.requires.evident.row c.requires.evident.known).1 k)) in
-    c.after_chosen.ensures w past ms h (subst (MayPass c.args.config.now w ms) (sym c.next-next.ensures) (pass_from c.args.config.now w ms (c.args.version + 1) other m.later))
+pub returns-in-Some-clause-means : goal.returns-in-Some-clause-means
+returns-in-Some-clause-means t c = λ w past ms h m.
+    let other = other_means c.args.config.now w past c.args.self.now ms c.args.version c.args.site h c.requires.own m c.requires.evident (λ k. both_ways _ c.if-is_own.false ((c.is_own.ensures c.requires.evident.row c.requires.evident.known).1 k)) in
+    c.after_chosen.ensures.means w past ms h (subst (MayPass c.args.config.now w ms) (sym c.next-next.ensures) (vote_passes c.args.config.now w ms (c.args.version + 1) h.writes other.0))

@@ -53,3 +53,12 @@ pub returns-clause-few : goal.returns-clause-few
 returns-clause-few c =
     let few = c.loop-at.invariant.few in
     omega arith
+
+pub returns-clause-rising : goal.returns-clause-rising
+returns-clause-rising c = λ none. (c.loop-at.invariant.rising none).0
+
+pub returns-clause-stepless : goal.returns-clause-stepless
+returns-clause-stepless c = c.loop-at.invariant.stepless
+
+pub returns-clause-idle : goal.returns-clause-idle
+returns-clause-idle c = c.loop-at.invariant.idle

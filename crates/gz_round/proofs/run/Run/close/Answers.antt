@@ -1,4 +1,3 @@
-use Rattle.std.proofs.Common.{arith}
 use Rattle.gz_round.proofs.Turns.{close_turned}
 use Rattle.gz_round.specs.Following.{IsReady}
 use Rattle.gz_round.proofs.run.Run.close.Goals as goal
@@ -8,11 +7,8 @@ returns-clause-turned c = λ w past ms r comes.
     let done = c.in_ok-send.ensures.asked w past ms (record { stands = r.stands; may = tt; held = tt; unnoticed = r.unnoticed }) in
     close_turned c.args.config.now w past c.args.self.now c.first_pass.new.self ms c.args.first c.in_ok-send.send c.args.outcome r.stands comes done c.in_ok-send.ensures.left
 
-pub returns-clause-sends : goal.returns-clause-sends
-returns-clause-sends c =
-    let few = c.in_ok-send.ensures.few in
-    let sites = c.requires.config.sites in
-    record { rows = c.in_ok-send.ensures.rows; few = omega arith }
+pub returns-clause-ends : goal.returns-clause-ends
+returns-clause-ends c = c.in_ok-send.ensures.stepless tt
 
 pub first_pass-requires-clause-asks : goal.first_pass-requires-clause-asks
 first_pass-requires-clause-asks c =

@@ -1,14 +1,9 @@
-use Rattle.std.proofs.Common.{arith}
 use Rattle.gz_round.specs.Acting.{CanFinish}
-use Rattle.gz_round.proofs.Turns.{finish_step, finish_asks}
-use Rattle.gz_round.proofs.Turns.{finish_turned}
+use Rattle.gz_round.proofs.Turns.{finish_asks, finish_notice, finish_step, finish_turned}
 use Rattle.gz_round.proofs.run.Run.finish.Goals as goal
 
-pub returns-clause-sends : goal.returns-clause-sends
-returns-clause-sends c =
-    let few = c.in_ok-send.ensures.few in
-    let sites = c.requires.config.sites in
-    record { rows = c.in_ok-send.ensures.rows; few = omega arith }
+pub returns-clause-ends : goal.returns-clause-ends
+returns-clause-ends c = c.in_ok-send.ensures.stepless (finish_notice c.args.self.now c.args.version c.in_ok-step.step c.in_ok-step.ensures)
 
 pub returns-clause-turned : goal.returns-clause-turned
 returns-clause-turned c = λ w past ms f. finish_turned c.args.config.now w past c.args.self.now c.first_pass.new.self ms c.args.first c.in_ok-send.send c.args.version c.in_ok-step.step f c.in_ok-step.ensures (c.in_ok-send.ensures.asked w past ms)

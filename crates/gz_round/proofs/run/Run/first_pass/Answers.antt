@@ -1,10 +1,10 @@
-use Rattle.std.proofs.Common.{◌≡◌, true, ◌++◌, ◌∙◌, ap, length, arith}
+use Rattle.std.proofs.Common.{◌++◌, ◌∙◌, ap, length, sym, subst, inl, inr, arith}
+use Rattle.std.proofs.lemmas.Bool.{both_ways}
 use Rattle.gz_round.specs.Following.{CanAsk}
-use Rattle.std.proofs.Common.{sym, subst}
-use Rattle.gz_core.specs.History.{is_row_request, sent_from}
-use Rattle.gz_core.specs.declared.requests.Out.{Out}
-use Rattle.gz_round.specs.Starting.{AreForRows, reads_from}
-use Rattle.std.proofs.lemmas.List.Elements.{All-nil}
+use Rattle.gz_core.specs.History.{sent_from}
+use Rattle.gz_round.specs.Starting.{AreForRows, MakeNoStep, reads_from}
+use Rattle.gz_round.specs.Acting.{is_waiting}
+use Rattle.gz_round.proofs.Passes.{none_requested, none_stepless}
 use Rattle.gz_round.specs.Following.{Asks, HasAsked}
 use Rattle.gz_round.proofs.run.Run.first_pass.Goals as goal
 
@@ -31,11 +31,23 @@ ask_all-requires-clause-asks c = subst (λ outs. CanAsk c.args.config.now c.args
 pub returns-clause-left : goal.returns-clause-left
 returns-clause-left c = c.in_ok-ask_all.ensures.left
 
-pub returns-clause-rows : goal.returns-clause-rows
-returns-clause-rows c = c.in_ok-ask_all.ensures.rows (subst AreForRows (sym c.new-send.ensures) (All-nil (λ (o : Out). is_row_request o.op ≡ true)))
-
 pub returns-clause-reads : goal.returns-clause-reads
 returns-clause-reads c = λ unread. c.in_ok-ask_all.ensures.reads unread ∙ ap (λ outs. outs ++ reads_from c.args.self.now.key 0 c.args.config.now.n) c.new-send.ensures
 
-pub returns-clause-few : goal.returns-clause-few
-returns-clause-few c = omega (arith, c.in_ok-ask_all.ensures.few, ap length c.new-send.ensures)
+pub returns-clause-sends : goal.returns-clause-sends
+returns-clause-sends c =
+    let sites = c.requires.config.sites in
+    record {
+      rows = c.in_ok-ask_all.ensures.rows (subst AreForRows (sym c.new-send.ensures) none_requested.rows);
+      rising = c.in_ok-ask_all.ensures.rising c.new-send.ensures;
+      few = omega (arith, c.in_ok-ask_all.ensures.few, ap length c.new-send.ensures);
+    }
+
+pub returns-clause-stepless : goal.returns-clause-stepless
+returns-clause-stepless c = λ notice. c.in_ok-ask_all.ensures.stepless notice (subst MakeNoStep (sym c.new-send.ensures) none_stepless)
+
+pub returns-clause-idle : goal.returns-clause-idle
+returns-clause-idle c = λ plain quiet. elim (c.in_ok-ask_all.ensures.idle plain) [
+  | inl same ↦ same ∙ c.new-send.ensures
+  | inr waits ↦ absurd (both_ways (is_waiting c.ask_all.new.self) quiet waits)
+]

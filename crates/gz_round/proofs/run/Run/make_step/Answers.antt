@@ -1,8 +1,7 @@
-use Rattle.std.proofs.Common.{arith}
-use Rattle.gz_round.proofs.Turns.{steps_step}
+use Rattle.std.proofs.Common.{refl, arith}
 use Rattle.std.proofs.lemmas.Result.{IfOk-weaker}
 use Rattle.gz_round.specs.Acting.{CanStep}
-use Rattle.gz_round.proofs.Turns.{steps_ask, stepped_from, stepped_runs, stepped_out, stepped_round}
+use Rattle.gz_round.proofs.Turns.{steps_ask, steps_step, step_plain, stepped_from, stepped_runs, stepped_out, stepped_round}
 use Rattle.gz_round.proofs.run.Run.make_step.Goals as goal
 
 pub returns-then-waits-clause-turned : goal.returns-then-waits-clause-turned
@@ -17,7 +16,8 @@ run_out-requires-clause-runs_out c =
       k.2,
       stepped_out c.args.config.now k.0 k.1 c.args.self.now c.first_pass.new.self k.2 c.args.first c.in_ok-send.send c.in_ok-step.step k.3 c.in_ok-step.ensures c.in_ok-send.ensures.left
           (stepped_from c.args.config.now k.0 k.1 c.args.self.now c.first_pass.new.self k.2 c.args.first c.in_ok-send.send c.in_ok-step.step k.3 c.in_ok-step.ensures (c.in_ok-send.ensures.asked k.0 k.1 k.2) c.in_ok-send.ensures.left)
-          (cc),
+          (cc)
+          (c.in_ok-send.ensures.idle (step_plain c.args.self.now c.in_ok-step.step c.in_ok-step.ensures) (cc)),
     )
 
 pub first_pass-requires-clause-asks : goal.first_pass-requires-clause-asks
@@ -30,7 +30,7 @@ returns-clause-turned c =
     IfOk-weaker c.run_out.result _ _ (λ turn h. λ w past ms p.
     h w past ms (stepped_out c.args.config.now w past c.args.self.now c.first_pass.new.self ms c.args.first c.in_ok-send.send c.in_ok-step.step p c.in_ok-step.ensures c.in_ok-send.ensures.left
     (stepped_from c.args.config.now w past c.args.self.now c.first_pass.new.self ms c.args.first c.in_ok-send.send c.in_ok-step.step p c.in_ok-step.ensures (c.in_ok-send.ensures.asked w past ms) c.in_ok-send.ensures.left)
-    (cc))) c.run_out.ensures.turned
+    (cc) (c.in_ok-send.ensures.idle (step_plain c.args.self.now c.in_ok-step.step c.in_ok-step.ensures) (cc)))) c.run_out.ensures.turned
 
 pub first_pass-requires-clause-config : goal.first_pass-requires-clause-config
 first_pass-requires-clause-config c = c.requires.config
@@ -49,23 +49,11 @@ run_out-requires-clause-config c = c.requires.config
 pub run_out-requires-clause-first : goal.run_out-requires-clause-first
 run_out-requires-clause-first c = c.requires.first
 
-pub run_out-requires-clause-few : goal.run_out-requires-clause-few
-run_out-requires-clause-few c =
-    let few = c.in_ok-send.ensures.few in
-    let sites = c.requires.config.sites in
-    omega arith
-
 pub run_out-requires-clause-round : goal.run_out-requires-clause-round
 run_out-requires-clause-round c =
     let k : CanStep c.args.config.now c.args.self.now = c.requires.steps in
     let round = stepped_round c.args.self.now c.first_pass.new.self c.in_ok-step.step c.in_ok-step.ensures k.3.ahead c.in_ok-send.ensures.left in
     omega (arith, c.requires.round, round)
 
-pub returns-then-waits-clause-sends : goal.returns-then-waits-clause-sends
-returns-then-waits-clause-sends c =
-    let few = c.in_ok-send.ensures.few in
-    let sites = c.requires.config.sites in
-    record { rows = c.in_ok-send.ensures.rows; few = omega arith }
-
-pub run_out-requires-clause-rows : goal.run_out-requires-clause-rows
-run_out-requires-clause-rows c = c.in_ok-send.ensures.rows
+pub returns-then-waits-clause-ends : goal.returns-then-waits-clause-ends
+returns-then-waits-clause-ends c = λ ended. absurd (ended refl)

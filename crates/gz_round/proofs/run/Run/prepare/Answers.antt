@@ -8,5 +8,5 @@ next_ballot-ballot-requires-clause-used c = omega (arith, c.requires.round, c.re
 
 pub next_ballot-ballot-requires-clause-known : goal.next_ballot-ballot-requires-clause-known
 next_ballot-ballot-requires-clause-known c =
-    let k : CanPrepare c.args.config.now c.args.self.now c.args.first c.args.send c.args.version = c.requires.prepares in
+    let k : CanPrepare c.args.config.now c.args.self.now c.args.version = c.requires.prepares in
     rounds_below c.args.config.now k.0 k.1 c.args.self.now _ c.args.version k.3.stands

@@ -2,9 +2,9 @@ use Rattle.std.proofs.lemmas.Result.{IfOk-weaker}
 use Rattle.gz_round.specs.Acting.{CanAct}
 use Rattle.std.proofs.Common.{[], sym, subst}
 use Rattle.gz_core.specs.History.{sent_from}
-use Rattle.gz_round.specs.Starting.{AreRowRequests}
+use Rattle.gz_round.specs.Starting.{AreRowRequests, MakeNoStep}
 use Rattle.gz_round.specs.Following.{HasTurned}
-use Rattle.gz_round.proofs.Passes.{none_requested}
+use Rattle.gz_round.proofs.Passes.{none_requested, none_stepless}
 use Rattle.gz_round.specs.Acting.{ChoiceMeans}
 use Rattle.gz_round.proofs.GivingIn.{given_in_turned}
 use Rattle.gz_round.proofs.run.Run.propose_or_step.Goals as goal
@@ -61,3 +61,6 @@ step_or_prepare-requires-in-Accept-clause-round c = c.requires.round
 
 pub returns-in-GiveIn-clause-sends : goal.returns-in-GiveIn-clause-sends
 returns-in-GiveIn-clause-sends c = subst AreRowRequests (sym c.give_in.ensures.send) none_requested
+
+pub returns-in-GiveIn-clause-ends : goal.returns-in-GiveIn-clause-ends
+returns-in-GiveIn-clause-ends c = λ ended. subst MakeNoStep (sym c.give_in.ensures.send) none_stepless

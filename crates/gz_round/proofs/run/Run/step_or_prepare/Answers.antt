@@ -1,37 +1,24 @@
-use Rattle.std.proofs.Common.{ap, length, arith, ◌∙◌}
-use Rattle.std.proofs.Common.{sym, subst}
+use Rattle.std.proofs.Common.{◌∙◌, sym, subst}
 use Rattle.std.proofs.lemmas.Result.{IfOk-weaker}
-use Rattle.gz_core.specs.History.{sent_from}
-use Rattle.gz_round.specs.Starting.{AreForRows}
-use Rattle.gz_round.proofs.Passes.{none_requested}
 use Rattle.gz_round.specs.Acting.{CanCarry, Prepares}
 use Rattle.gz_round.proofs.Prepares.{overtaken_prepares}
 use Rattle.gz_round.proofs.run.Run.step_or_prepare.Goals as goal
 
 pub prepare-requires-clause-prepares : goal.prepare-requires-clause-prepares
 prepare-requires-clause-prepares c =
-    let k : CanCarry c.args.config.now c.args.self.now = c.requires.carries in (
-      k.0,
-      k.1,
-      k.2,
-      subst (λ outs. Prepares c.args.config.now k.0 k.1 c.args.self.now (sent_from c.args.first outs k.2) c.working-version.result) (sym c.new.ensures)
-          (subst (Prepares c.args.config.now k.0 k.1 c.args.self.now k.2) (sym c.working-version.ensures) (overtaken_prepares c.args.config.now k.0 k.1 c.args.self.now k.2 k.3 (cc))),
-    )
+    let k : CanCarry c.args.config.now c.args.self.now = c.requires.carries in
+    (k.0, k.1, k.2, subst (Prepares c.args.config.now k.0 k.1 c.args.self.now k.2) (sym c.working-version.ensures) (overtaken_prepares c.args.config.now k.0 k.1 c.args.self.now k.2 k.3 (cc)))
 
 pub returns-then-is_overtaken-clause-turned : goal.returns-then-is_overtaken-clause-turned
 returns-then-is_overtaken-clause-turned c =
     IfOk-weaker c.prepare.result _ _ (λ turn h. λ w past ms p.
-    h w past ms (subst (λ outs. Prepares c.args.config.now w past c.args.self.now (sent_from c.args.first outs ms) c.working-version.result) (sym c.new.ensures)
-    (subst (Prepares c.args.config.now w past c.args.self.now ms) (sym c.working-version.ensures) (overtaken_prepares c.args.config.now w past c.args.self.now ms p (cc))))) c.prepare.ensures.turned
+    h w past ms (subst (Prepares c.args.config.now w past c.args.self.now ms) (sym c.working-version.ensures) (overtaken_prepares c.args.config.now w past c.args.self.now ms p (cc)))) c.prepare.ensures.turned
 
 pub prepare-requires-clause-config : goal.prepare-requires-clause-config
 prepare-requires-clause-config c = c.requires.config
 
 pub prepare-requires-clause-first : goal.prepare-requires-clause-first
 prepare-requires-clause-first c = c.requires.first
-
-pub prepare-requires-clause-few : goal.prepare-requires-clause-few
-prepare-requires-clause-few c = omega (arith, ap length c.new.ensures)
 
 pub make_step-requires-clause-config : goal.make_step-requires-clause-config
 make_step-requires-clause-config c = c.requires.config
@@ -52,6 +39,3 @@ prepare-requires-clause-round c = c.requires.round
 
 pub make_step-requires-clause-round : goal.make_step-requires-clause-round
 make_step-requires-clause-round c = c.requires.round
-
-pub prepare-requires-clause-rows : goal.prepare-requires-clause-rows
-prepare-requires-clause-rows c = subst AreForRows (sym c.new.ensures) none_requested.rows

@@ -6,3 +6,6 @@ pub returns-in-Some-clause-turned : goal.returns-in-Some-clause-turned
 returns-in-Some-clause-turned c =
     IfOk-weaker c.close.result _ _ (λ turn p. λ w past ms r.
     ([], inl refl, p w past ms r (c.in-Some.ensures w past ms r.stands))) c.close.ensures.turned
+
+pub returns-in-Some-clause-ends : goal.returns-in-Some-clause-ends
+returns-in-Some-clause-ends c = IfOk-weaker c.close.result _ _ (λ turn stepless. λ ended. stepless) c.close.ensures.ends
