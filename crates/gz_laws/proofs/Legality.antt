@@ -385,9 +385,9 @@ same_asked : (version asked : ℕ) (call : Call) (key : List ℕ) → call ≡ G
 same_asked version asked call key is e = let both : At version ≡ At asked = sym e ∙ ap target_of is in cc
 
 of_version : (c : Config) (past : List Trace) (t : Trace) (key : List ℕ) (asked : ℕ) (answer : Option Answer) → t.caller.call ≡ GetAt key asked → IsAnswered c past t answer → IsOfVersion asked answer
-of_version c past t key asked (Some (Bytes version name bytes)) is h = subst (λ q. IsAskedFor c (target_of q) t.actions version) is h.1.2.asked
-of_version c past t key asked (Some (Incomplete version name fates)) is h = subst (λ q. IsAskedFor c (target_of q) t.actions version) is h.1.2.asked
-of_version c past t key asked (Some (Gone version name)) is h = subst (λ q. IsAskedFor c (target_of q) t.actions version) is h.1.asked
+of_version c past t key asked (Some (Bytes version name bytes)) is h = (subst (λ q. IsAskedFor c (target_of q) t.actions version) is h.1.2.asked).0
+of_version c past t key asked (Some (Incomplete version name fates)) is h = (subst (λ q. IsAskedFor c (target_of q) t.actions version) is h.1.2.asked).0
+of_version c past t key asked (Some (Gone version name)) is h = (subst (λ q. IsAskedFor c (target_of q) t.actions version) is h.1.asked).0
 of_version c past t key asked (Some (Unborn latest)) is h = let same = same_asked h.1.version asked t.caller.call key is h.1.asked in let above = h.1.above in omega (arith, same, above)
 of_version c past t key asked (Some (Collected floor)) is h = let same = same_asked h.1.version asked t.caller.call key is h.1.asked in let gone = h.1.gone in omega (arith, same, gone)
 of_version c past t key asked answer is h = tt

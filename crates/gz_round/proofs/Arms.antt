@@ -45,11 +45,11 @@ votes_next c w past run ms v r going vote = record { stands = r.stands; going = 
 
 -- in the fast ballot of one at which no value is known to be chosen
 pub begins_from : (c : Config) (w : Caller) (past : List Trace) (run : Run) (ms : List Action) (v : ℕ) → Ready c w past run ms → IsGoing c ms → NextMeans c w run ms (Vote v) → BeginsFast c w past run ms v
-begins_from c w past run ms v r going n = record { votes = votes_next c w past run ms v r going n.0; first = n.1; none = n.2 }
+begins_from c w past run ms v r going n = record { votes = votes_next c w past run ms v r going n.0; first = n.1; none = n.2; follows = n.3 }
 
 -- or of one above a floor
 pub skips_from : (c : Config) (w : Caller) (past : List Trace) (run : Run) (ms : List Action) (v : ℕ) → Ready c w past run ms → IsGoing c ms → NextMeans c w run ms (Skip v) → Skips c w past run ms v
-skips_from c w past run ms v r going n = record { votes = votes_next c w past run ms v r going n.0; above = n.1; gone = n.2 }
+skips_from c w past run ms v r going n = record { votes = votes_next c w past run ms v r going n.0; first = n.1; above = n.2 }
 
 -- a call whose last vote was collected can't know what became of it
 pub trimmed_ends : (c : Config) (w : Caller) (ms : List Action) (floor : ℕ) → IsGoing c ms → IsTrimmed c w ms floor → EndsBy c w ms (Unsure (TrimmedTo floor))

@@ -1,6 +1,6 @@
 -- What happens beside the rows of a call, once they are done with or while they wait: requests for blobs, and that its row requests
 -- rest. What was heard and sent of rows stays, and so does what they come to.
-use Rattle.std.proofs.Common.{◌≡◌, ℕ, ◌+◌, ◌<◌, ◌≤◌, max, Bool, false, ◌==◌, cond, List, [], ◌∷◌, Some, None, is_some, refl, sym, ap, ◌∙◌, inl, inr, arith, leb}
+use Rattle.std.proofs.Common.{◌≡◌, ℕ, ◌+◌, ◌<◌, ◌≤◌, max, Bool, true, false, ◌==◌, cond, List, [], ◌∷◌, Some, None, is_some, refl, sym, ap, ◌∙◌, inl, inr, arith, leb}
 use Rattle.gz_core.specs.Names.{Name}
 use Rattle.gz_core.specs.Values.{name_of}
 use Rattle.gz_core.specs.Rows.{RowAt}
@@ -19,8 +19,8 @@ use Rattle.gz_round.specs.declared.outcome.Outcome.{Outcome}
 use Rattle.gz_round.specs.declared.outcome.Outcome.TheVariants.{Goes, Placed, Learnt, Ends}
 use Rattle.gz_core.specs.History.{Asked, Action, Sent, Rested, Caller, Trace, is_row_request, asked_of, sent_from}
 use Rattle.gz_round.specs.Sites.{SiteNow, site_now, known, row_seen, is_about_rows, AreBlobs, WasHeard}
-use Rattle.gz_round.specs.Sent.{met, voted, last_vote, phase_of, top_round}
-use Rattle.gz_round.specs.Shown.{heard_at, IsShown, IsCurrent, HasFloor, IsValueHeard}
+use Rattle.gz_round.specs.Sent.{met, voted, last_vote, phase_of, top_round, promise_by, IsUnpromised}
+use Rattle.gz_round.specs.Shown.{heard_at, IsShown, IsCurrent, IsQuorumHeard, HasFloor, IsValueHeard}
 use Rattle.gz_round.specs.Targets.{target_of}
 use Rattle.gz_round.specs.Rounds.{top_rounds, rounds_used}
 use Rattle.gz_round.specs.Sending.{AreAllowed, MayRest}
@@ -32,8 +32,10 @@ use Rattle.gz_round.proofs.Lists.{count_same}
 use Rattle.gz_round.proofs.Heard.{heard_at_more}
 use Rattle.gz_round.proofs.Askable.{ahead_askable}
 use Rattle.gz_round.proofs.Targets.{asked_by}
+use Rattle.gz_round.proofs.Known.{evidence_same}
 use Rattle.gz_round.proofs.Votes.{voted_last}
-use Rattle.gz_round.proofs.Blobs.{blob_site, blob_met, blob_vote, blob_phase, blob_round, blob_allowed, blob_ready, blob_again, blob_runs}
+use Rattle.gz_round.proofs.Stages.{unpromised_more}
+use Rattle.gz_round.proofs.Blobs.{blob_site, blob_met, blob_vote, blob_phase, blob_round, blob_unsent, blob_allowed, blob_ready, blob_again, blob_runs}
 
 -- nothing of rows has happened in between, but that row requests may rest
 pub record IsBeside (ms ns : List Action) : Type 0 where
@@ -47,9 +49,10 @@ pub record IsBeside (ms ns : List Action) : Type 0 where
   pub counted : (c : Config) (p : RowAt → Bool) → heard_at c p ms ≤ heard_at c p ns
   pub heard : (s : ℕ) (row : RowAt) → WasHeard ms s row → WasHeard ns s row
   pub sent : (a : Asked) → WasSent ms a → WasSent ns a
+  pub promised : (v : ℕ) → IsUnpromised ms v → IsUnpromised ns v
 
 pub beside_refl : (ms : List Action) → IsBeside ms ms
-beside_refl ms = record { row = λ s. refl; out = λ s. refl; unanswered = λ s. refl; met = refl; vote = λ x. refl; phase = refl; round = refl; counted = λ c p. omega arith; heard = λ s row h. h; sent = λ a h. h }
+beside_refl ms = record { row = λ s. refl; out = λ s. refl; unanswered = λ s. refl; met = refl; vote = λ x. refl; phase = refl; round = refl; counted = λ c p. omega arith; heard = λ s row h. h; sent = λ a h. h; promised = λ v h. h }
 
 pub beside_trans : (ms ns os : List Action) → IsBeside ms ns → IsBeside ns os → IsBeside ms os
 beside_trans ms ns os h k = record {
@@ -63,6 +66,7 @@ beside_trans ms ns os h k = record {
   counted = λ (c : Config) (p : RowAt → Bool). omega (arith, h.counted c p, k.counted c p);
   heard = λ (s : ℕ) (row : RowAt) (w : WasHeard ms s row). k.heard s row (h.heard s row w);
   sent = λ (a : Asked) (w : WasSent ms a). k.sent a (h.sent a w);
+  promised = λ (v : ℕ) (u : IsUnpromised ms v). k.promised v (h.promised v u);
 }
 
 -- an action of a request for a blob
@@ -78,11 +82,12 @@ beside_blob m ms e = record {
   counted = λ (c : Config) (p : RowAt → Bool). heard_at_more c p m ms;
   heard = λ (s : ℕ) (row : RowAt) (w : WasHeard ms s row). inr w;
   sent = λ (a : Asked) (w : WasSent ms a). inr w;
+  promised = λ (v : ℕ) (u : IsUnpromised ms v). unpromised_more m ms v (blob_unsent promise_by m e) u;
 }
 
 -- row requests rest
 pub beside_rested : (ms : List Action) → IsBeside ms (Rested ∷ ms)
-beside_rested ms = record { row = λ s. refl; out = λ s. refl; unanswered = λ s. refl; met = refl; vote = λ x. refl; phase = refl; round = refl; counted = λ (c : Config) (p : RowAt → Bool). heard_at_more c p Rested ms; heard = λ s row w. inr w; sent = λ a w. inr w }
+beside_rested ms = record { row = λ s. refl; out = λ s. refl; unanswered = λ s. refl; met = refl; vote = λ x. refl; phase = refl; round = refl; counted = λ (c : Config) (p : RowAt → Bool). heard_at_more c p Rested ms; heard = λ s row w. inr w; sent = λ a w. inr w; promised = λ v u. u }
 
 -- requests for blobs
 abbrev pub AreBlobOuts : List Out → Type 0
@@ -158,6 +163,9 @@ shown_beside c ms ns v x b (inr k) = inr (omega (arith, k, b.counted c (λ r. de
 pub current_beside : (c : Config) (ms ns : List Action) (v : ℕ) → IsBeside ms ns → IsCurrent c ms v → IsCurrent c ns v
 current_beside c ms ns v b h = omega (arith, h, b.counted c (λ r. leb (row_top r) v))
 
+quorum_beside : (c : Config) (ms ns : List Action) → IsBeside ms ns → IsQuorumHeard c ms → IsQuorumHeard c ns
+quorum_beside c ms ns b h = omega (arith, h, b.counted c (λ r. true))
+
 pub value_beside : (ms ns : List Action) (v : ℕ) (x : Value) → IsBeside ms ns → IsValueHeard ms v x → IsValueHeard ns v x
 value_beside ms ns v x b h = (h.0, h.1, b.heard h.0 h.1 h.2, h.3)
 
@@ -165,7 +173,7 @@ pub chosen_beside : (c : Config) (w : Caller) (ms ns : List Action) (v : ℕ) �
 chosen_beside c w ms ns v b h = (h.0, h.1, shown_beside c ms ns v w.name b h.2)
 
 pub learnt_beside : (c : Config) (w : Caller) (ms ns : List Action) (v : ℕ) (x : Value) → IsBeside ms ns → IsLearnt c w ms v x → IsLearnt c w ns v x
-learnt_beside c w ms ns v x b h = record { reads = h.reads; asked = asked_by c (target_of w.call) ms ns v (current_beside c ms ns v b) h.asked; shown = shown_beside c ms ns v (name_of x) b h.shown; heard = value_beside ms ns v x b h.heard }
+learnt_beside c w ms ns v x b h = record { reads = h.reads; asked = asked_by c (target_of w.call) ms ns v (current_beside c ms ns v b) (quorum_beside c ms ns b) h.asked; shown = shown_beside c ms ns v (name_of x) b h.shown; heard = value_beside ms ns v x b h.heard }
 
 pub noticed_beside : (c : Config) (w : Caller) (ms ns : List Action) (v : ℕ) → IsBeside ms ns → IsNoticed c w ms v → IsNoticed c w ns v
 noticed_beside c w ms ns v b h s l kept quiet seen last x own done =
@@ -190,7 +198,7 @@ unsure_beside : (c : Config) (w : Caller) (ms ns : List Action) (why : UnsureWhy
 unsure_beside c w ms ns (UnsureNoQuorum phase heard) b h = cut_beside c ms ns phase heard b h
 unsure_beside c w ms ns (UnsureContended m) b h = overtaken_beside c ms ns m b h
 unsure_beside c w ms ns (UnsureTrimmed floor) b h =
-    (going_beside c ms ns b h.0, record { version = h.1.version; voted = b.vote w.name ∙ h.1.voted; gone = h.1.gone; heard = floor_beside c ms ns floor b h.1.heard })
+    (going_beside c ms ns b h.0, record { version = h.1.version; voted = b.vote w.name ∙ h.1.voted; gone = h.1.gone; heard = floor_beside c ms ns floor b h.1.heard; none = evidence_same c ms ns h.1.version (λ (s : ℕ). known_beside ms ns s b) h.1.none; later = b.promised (h.1.version + 1) h.1.later })
 
 unborn_beside : (c : Config) (w : Caller) (ms ns : List Action) (latest : ℕ) → IsBeside ms ns → IsUnborn c w ms latest → IsUnborn c w ns latest
 unborn_beside c w ms ns latest b h = record { reads = h.reads; version = h.version; asked = h.asked; above = h.above; current = current_beside c ms ns latest b h.current; shown = elim h.shown [ inl none ↦ inl none | inr k ↦ inr (k.0, shown_beside c ms ns latest k.0 b k.1) ] }
@@ -198,7 +206,7 @@ unborn_beside c w ms ns latest b h = record { reads = h.reads; version = h.versi
 pub ends_beside : (c : Config) (w : Caller) (ms ns : List Action) (answer : Answer) → IsBeside ms ns → EndsBy c w ms answer → EndsBy c w ns answer
 ends_beside c w ms ns Absent b h = (going_beside c ms ns b h.0, record { reads = h.1.reads; asked = h.1.asked; blank = omega (arith, h.1.blank, b.counted c is_blank) })
 ends_beside c w ms ns (Unborn latest) b h = (going_beside c ms ns b h.0, unborn_beside c w ms ns latest b h.1)
-ends_beside c w ms ns (Collected floor) b h = (going_beside c ms ns b h.0, record { reads = h.1.reads; version = h.1.version; asked = h.1.asked; gone = h.1.gone; heard = floor_beside c ms ns floor b h.1.heard })
+ends_beside c w ms ns (Collected floor) b h = (going_beside c ms ns b h.0, record { reads = h.1.reads; version = h.1.version; asked = h.1.asked; gone = h.1.gone; heard = floor_beside c ms ns floor b h.1.heard; quorum = quorum_beside c ms ns b h.1.quorum })
 ends_beside c w ms ns (NoQuorum phase heard) b h = (voted_beside w.name ms ns b ∙ h.0, cut_beside c ms ns phase heard b h.1)
 ends_beside c w ms ns (Contended m) b h = (voted_beside w.name ms ns b ∙ h.0, overtaken_beside c ms ns m b h.1)
 ends_beside c w ms ns (Unsure why) b h = (voted_beside w.name ms ns b ∙ h.0, unsure_beside c w ms ns why b h.1)

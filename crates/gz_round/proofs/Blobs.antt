@@ -7,7 +7,7 @@ use Rattle.gz_core.specs.declared.requests.Op.{Op}
 use Rattle.gz_core.specs.declared.requests.Op.TheVariants.{WriteRow}
 use Rattle.gz_round.specs.declared.run.Run.{Run}
 use Rattle.gz_core.specs.History.{Action, Sent, Handed, GaveUp, Rested, GaveIn, Caller, Trace, is_row_request}
-use Rattle.gz_round.specs.Sites.{site_now, unheard, concerns, is_about_rows, AreBlobs, known, heard_in, seen_in, written_by, is_changed}
+use Rattle.gz_round.specs.Sites.{site_now, unheard, concerns, is_about_rows, tells_of_row, up_to_rows, AreBlobs, known, heard_in, seen_in, written_by, is_changed}
 use Rattle.gz_round.specs.Sent.{vote_by, phase_by, promise_by, of_step, of_sent, or_earlier, last_sent, phase_or_look, round_after, top_round, last_vote, phase_of, overtakes, met}
 use Rattle.gz_round.specs.Rounds.{cast_by, top_rounds}
 use Rattle.gz_round.specs.Sending.{IsAllowed, AreAllowed, MayRead, IsUndecided}
@@ -20,6 +20,7 @@ use Rattle.gz_round.specs.Goals.{looked_in, IsUnmet, IsSkipping, AreServed, stag
 use Rattle.gz_round.specs.Following.{Ready}
 use Rattle.gz_round.proofs.Lists.{count_same}
 use Rattle.gz_round.proofs.Actions.{now_other}
+use Rattle.gz_round.proofs.Heard.{current_more}
 use Rattle.gz_round.proofs.Known.{undecided_same, skipping_same}
 use Rattle.gz_round.proofs.Notices.{unnoticed_more, blob_tells}
 use Rattle.gz_round.proofs.Askable.{askably_still, askable_same}
@@ -147,10 +148,18 @@ blob_unmet c run m ms (Fast v) e none = blob_undecided c m ms v e none
 blob_unmet c run m ms (Prepare v b found) e none = blob_undecided c m ms v e none
 blob_unmet c run m ms (Accept v b x) e none = blob_undecided c m ms v e none
 
+-- nothing came of a row request
+blob_untold : (m : Action) → is_about_rows m ≡ false → tells_of_row m ≡ false
+blob_untold (Sent a) e = refl
+blob_untold (Handed a reply) e = e
+blob_untold (GaveUp a) e = e
+blob_untold Rested e = refl
+blob_untold GaveIn e = refl
+
 -- or just begun above a floor
-blob_phase_unmet : (c : Config) (run : Run) (m : Action) (ms : List Action) (stage : Stage) → is_about_rows m ≡ false → IsUnmet c run stage ms ⊎ IsSkipping c stage ms → IsUnmet c run stage (m ∷ ms) ⊎ IsSkipping c stage (m ∷ ms)
-blob_phase_unmet c run m ms stage e (inl unmet) = inl (blob_unmet c run m ms stage e unmet)
-blob_phase_unmet c run m ms stage e (inr skipping) = inr (skipping_same c ms (m ∷ ms) stage (λ (s : ℕ). ap known (blob_site m ms s e)) skipping)
+blob_phase_unmet : (c : Config) (w : Caller) (run : Run) (m : Action) (ms : List Action) (stage : Stage) → is_about_rows m ≡ false → IsUnmet c run stage ms ⊎ IsSkipping c w stage ms → IsUnmet c run stage (m ∷ ms) ⊎ IsSkipping c w stage (m ∷ ms)
+blob_phase_unmet c w run m ms stage e (inl unmet) = inl (blob_unmet c run m ms stage e unmet)
+blob_phase_unmet c w run m ms stage e (inr skipping) = inr (skipping_same c w ms (m ∷ ms) stage (λ (s : ℕ). ap known (blob_site m ms s e)) (λ (u : ℕ). current_more c m ms u) (cond-false (tells_of_row m) (m ∷ ms) (up_to_rows ms) (blob_untold m e)) skipping)
 
 -- and all that may be asked was asked
 blob_served : (c : Config) (w : Caller) (m : Action) (ms : List Action) (step : Option RowStep) → is_about_rows m ≡ false → AreServed c w ms step → AreServed c w (m ∷ ms) step
@@ -169,7 +178,7 @@ blob_runs c w past run m ms e h =
     record {
       stands = blob_stands c w past run m ms e h.stands;
       stage = stage_more c w past m ms run.stage (blob_known m ms e) (blob_quiet w m ms e) h.stage;
-      unmet = blob_phase_unmet c run m ms run.stage e h.unmet;
+      unmet = blob_phase_unmet c w run m ms run.stage e h.unmet;
       few = h.few;
       ahead = h.ahead;
       served = blob_served c w m ms (stage_step run) e h.served;

@@ -1,5 +1,5 @@
 -- How a call votes at a version at once, also where what is known there is its goal already.
-use Rattle.std.proofs.Common.{◌≡◌, ℕ, ◌+◌, ◌<◌, ◌≤◌, true, false, List, [], Option, Some, None, is_some, refl, sym, ap, ◌∙◌, subst, inl, inr, arith}
+use Rattle.std.proofs.Common.{◌≡◌, ℕ, ◌+◌, ◌<◌, ◌≤◌, true, false, List, [], Option, Some, None, is_some, refl, sym, ap, ◌∙◌, subst, inl, inr, ◌⊎◌, arith}
 use Rattle.gz_core.specs.declared.values.Value.{Value}
 use Rattle.gz_core.specs.Rows.{RowAt}
 use Rattle.gz_config.specs.declared.Config.{Config}
@@ -11,13 +11,14 @@ use Rattle.gz_round.specs.declared.run.Run.{Run}
 use Rattle.gz_round.specs.declared.run.Stage.TheVariants.{Fast}
 use Rattle.gz_round.specs.declared.following.Next.TheVariants.{Vote, Chosen}
 use Rattle.gz_round.specs.declared.outcome.Outcome.TheVariants.{Goes}
-use Rattle.gz_round.specs.Sites.{site_now}
+use Rattle.gz_round.specs.Evidence.{IsAfterEvidence}
+use Rattle.gz_round.specs.Sites.{site_now, up_to_rows}
 use Rattle.gz_round.specs.Floors.{top_floor_of, AreRows}
-use Rattle.gz_round.specs.Sending.{MayMake, NoEvidence, IsUndecided, rows_known}
+use Rattle.gz_round.specs.Sending.{MayMake, NoEvidence, NoneGone, IsUndecided, rows_known}
 use Rattle.gz_round.specs.Asking.{IsLeftBy, is_notice, round_of}
-use Rattle.gz_round.specs.Standing.{Runs, StageStands}
-use Rattle.gz_round.specs.Following.{Asks, HasAsked, HeldBy, HeldOf, IsPlain, MayMakeOf, HasTurned, NextMeans}
-use Rattle.gz_round.specs.Goals.{AreServed, HasGone, IsFewIn, IsSkipping, is_overtaken_in, stage_step, step_in, vote_for}
+use Rattle.gz_round.specs.Standing.{Runs, StageStands, AreVotesBelow}
+use Rattle.gz_round.specs.Following.{Asks, HasAsked, HeldBy, HeldOf, IsPlain, MayMakeOf, HasTurned, IsStageAt, NextMeans}
+use Rattle.gz_round.specs.Goals.{AreServed, HasGone, IsAboveFloor, IsFewIn, IsSkipping, is_overtaken_in, stage_step, step_in, vote_for}
 use Rattle.gz_round.specs.Acting.{VotesNext, HasCast, BeginsFast, Skips, GoesOnAbove, RunsOut, IsGoalUnmet, Finishes, IsShortIn, is_waiting, version_in}
 use Rattle.gz_round.specs.Goals.{looked_in}
 use Rattle.gz_round.specs.Steps.{IsStepOf}
@@ -26,8 +27,8 @@ use Rattle.gz_round.proofs.Targets.{vote_passes}
 use Rattle.gz_round.proofs.HeardFloors.{floor_reached, listed_inside, none_gone}
 use Rattle.gz_round.proofs.PastFloors.{skip_means}
 use Rattle.gz_round.proofs.Known.{listed_known, skipping_same}
-use Rattle.gz_round.proofs.Votes.{last_voted_at}
-use Rattle.gz_round.proofs.Turns.{again_from, going_sent, heard_from, idle_of, rows_sent, untaken_from, vote_is_step, waits_from}
+use Rattle.gz_round.proofs.Votes.{last_voted_at, unvoted_at_next, unvoted_before}
+use Rattle.gz_round.proofs.Turns.{again_from, current_sent, going_sent, heard_from, idle_of, over_sent, rows_sent, untaken_from, vote_is_step, waits_from}
 
 -- the vote for the call's value, which it has
 vote_is : (c : Config) (w : Caller) (past : List Trace) (run : Run) (ms : List Action) (v : ℕ) (step : Option RowStep) → (n : VotesNext c w past run ms v) → step ≡ vote_for v run.own → step ≡ Some (FastVote v n.vote.own.0)
@@ -87,12 +88,12 @@ has_cast c w past run new ms v first sent step n is asked left =
     }
 
 -- where a request is awaited then, the call runs on
-pub cast_runs : (c : Config) (w : Caller) (past : List Trace) (run : Run) (ms : List Action) (v : ℕ) → HasCast c w past run ms v → IsSkipping c (Fast v) ms → is_waiting run ≡ true → HasTurned c w past run ms Goes
+pub cast_runs : (c : Config) (w : Caller) (past : List Trace) (run : Run) (ms : List Action) (v : ℕ) → HasCast c w past run ms v → IsSkipping c w (Fast v) ms → is_waiting run ≡ true → HasTurned c w past run ms Goes
 cast_runs c w past run ms v h skipping waits =
     let runs : Runs c w past run ms = record {
       stands = h.votes.stands;
       stage = subst (λ st. StageStands c w past st ms) (sym h.stage_is) h.votes.vote;
-      unmet = inr (subst (λ st. IsSkipping c st ms) (sym h.stage_is) skipping);
+      unmet = inr (subst (λ st. IsSkipping c w st ms) (sym h.stage_is) skipping);
       few = subst (λ st. IsFewIn c run st) (sym h.stage_is) tt;
       ahead = subst (λ st. is_overtaken_in run st ≡ false) (sym h.stage_is) refl;
       again = again_from c w ms (stage_step run) h.served;
@@ -103,8 +104,18 @@ cast_runs c w past run ms v h skipping waits =
     } in
     ([], inl refl, runs)
 
+-- requests leave what came of row requests before
+rows_then : (first : ℕ) (sent : List Out) (ms : List Action) → up_to_rows (sent_from first sent ms) ≡ up_to_rows ms
+rows_then first sent ms = over_sent (λ ns. up_to_rows ns ≡ up_to_rows ms) (λ a ns e. e) first sent ms refl
+
+-- a vote that has just begun has still, once it was asked for
+skipping_sent : (c : Config) (w : Caller) (ms : List Action) (v first : ℕ) (sent : List Out) → AreVotesBelow w ms v → IsAboveFloor c ms v ⊎ (HasGone c ms v × NoEvidence c ms v × IsAfterEvidence c ms v) → IsSkipping c w (Fast v) (sent_from first sent ms)
+skipping_sent c w ms v first sent below h =
+    let here : IsSkipping c w (Fast v) ms = (unvoted_before w.name ms v (unvoted_at_next w ms v below), h) in
+    skipping_same c w ms (sent_from first sent ms) (Fast v) (rows_sent first sent ms) (λ (u : ℕ). current_sent c u first sent ms) (rows_then first sent ms) here
+
 -- a vote at a version that was collected, where no value is known to be chosen
-pub below_skipping : (c : Config) (w : Caller) (past : List Trace) (run : Run) (ms : List Action) (v floor first : ℕ) (sent : List Out) → BeginsFast c w past run ms v → v ≤ floor → floor ≡ top_floor_of run.rows → IsSkipping c (Fast v) (sent_from first sent ms)
+pub below_skipping : (c : Config) (w : Caller) (past : List Trace) (run : Run) (ms : List Action) (v floor first : ℕ) (sent : List Out) → BeginsFast c w past run ms v → v ≤ floor → floor ≡ top_floor_of run.rows → IsSkipping c w (Fast v) (sent_from first sent ms)
 below_skipping c w past run ms v floor first sent b at top =
     let above = b.votes.vote.may.above in
     let gone : HasGone c ms v = elim (floor_reached run.rows) [
@@ -113,11 +124,15 @@ below_skipping c w past run ms v floor first sent b at top =
           let inside : f.0 < c.n = listed_inside c run ms b.votes.stands.knows f.0 (Some f.1) f.2 in
           (f.0, f.1, inside, listed_known c run ms b.votes.stands.knows f.0 f.1 inside f.2, omega (arith, f.3)))
     ] in
-    skipping_same c ms (sent_from first sent ms) (Fast v) (rows_sent first sent ms) (inr (gone, b.none))
+    let after : IsAfterEvidence c ms v = elim b.follows [
+      | inl none ↦ absurd (omega (arith, none gone.0 gone.1 gone.2 gone.3, gone.4))
+      | inr follows ↦ follows
+    ] in
+    skipping_sent c w ms v first sent b.first (inr (gone, b.none, after))
 
 -- a vote two above a floor
-pub above_skipping : (c : Config) (w : Caller) (past : List Trace) (run : Run) (ms : List Action) (v first : ℕ) (sent : List Out) → Skips c w past run ms v → IsSkipping c (Fast v) (sent_from first sent ms)
-above_skipping c w past run ms v first sent s = skipping_same c ms (sent_from first sent ms) (Fast v) (rows_sent first sent ms) (inl (s.above, s.gone))
+pub above_skipping : (c : Config) (w : Caller) (past : List Trace) (run : Run) (ms : List Action) (v first : ℕ) (sent : List Out) → Skips c w past run ms v → IsSkipping c w (Fast v) (sent_from first sent ms)
+above_skipping c w past run ms v first sent s = skipping_sent c w ms v first sent s.first (inl s.above)
 
 -- where no site takes the vote at a version that was collected, the call votes two above the floor
 pub below_skips : (c : Config) (w : Caller) (past : List Trace) (run new : Run) (ms : List Action) (v floor first : ℕ) (sent : List Out) → BeginsFast c w past run ms v → HasCast c w past new (sent_from first sent ms) v → sent ≡ [] →
@@ -127,17 +142,22 @@ below_skips c w past run new ms v floor first sent b cast none are rows at top =
     let n : VotesNext c w past new ms v = here.votes in
     let some : is_some new.own ≡ true = ap (λ o. is_some o) (n.stands.own_is ∙ n.vote.own.1) in
     let other : new.last_vote ≡ Some v → ⊥ = λ (e : new.last_vote ≡ Some v). let low : v < v = b.first v (last_voted_at w.name ms v (sym n.stands.vote_is ∙ e)) in omega arith in
-    let next = skip_means c w past new ms v floor n.stands (vote_passes c w ms v n.stands.writes n.vote) some (subst AreRows (sym rows) are) at (top ∙ ap top_floor_of (sym rows)) other in
-    record { votes = record { stands = n.stands; going = n.going; unnoticed = n.unnoticed; vote = next.0 }; above = next.1; gone = next.2 }
+    let at_version : IsStageAt new.stage v = subst (λ st. IsStageAt st v) (sym here.stage_is) refl in
+    let next = skip_means c w past new ms v floor n.stands (vote_passes c w ms v n.stands.writes n.vote) at_version some (subst AreRows (sym rows) are) at (top ∙ ap top_floor_of (sym rows)) other in
+    record { votes = record { stands = n.stands; going = n.going; unnoticed = n.unnoticed; vote = next.0 }; first = next.1; above = next.2 }
 
 cast_idle : (c : Config) (w : Caller) (past : List Trace) (run : Run) (ms : List Action) (v : ℕ) → HasCast c w past run ms v → is_waiting run ≡ false → (s : ℕ) → s < c.n → (site_now ms s).awaits ≡ None
 cast_idle c w past run ms v h quiet s l = idle_of c run ms s (site_now ms s).awaits h.votes.stands.knows quiet l refl
+
+-- no known row has the version two above the greatest floor collected
+above_gone : (c : Config) (ms : List Action) (v : ℕ) → IsAboveFloor c ms v → NoneGone c ms v
+above_gone c ms v h s row l e = omega (arith, h.top s row l e)
 
 -- where no site takes the vote two above a floor, the call goes on from there
 pub skip_goes_on : (c : Config) (w : Caller) (past : List Trace) (run new : Run) (ms : List Action) (v first : ℕ) (sent : List Out) → Skips c w past run ms v → HasCast c w past new (sent_from first sent ms) v → sent ≡ [] → is_waiting new ≡ false → GoesOnAbove c w past new ms v
 skip_goes_on c w past run new ms v first sent s cast none quiet =
     let here : HasCast c w past new ms v = subst (λ outs. HasCast c w past new (sent_from first outs ms) v) none cast in
-    record { cast = here; gone = s.gone; idle = cast_idle c w past new ms v here quiet }
+    record { cast = here; gone = above_gone c ms v s.above; idle = cast_idle c w past new ms v here quiet }
 
 fast_plain : (v : ℕ) (own : Option Value) (made : RowStep) → vote_for v own ≡ Some made → is_notice made ≡ false
 fast_plain v own made e = subst IsPlain e (vote_plain v own)

@@ -30,16 +30,16 @@ use Rattle.gz_round.specs.Counting.{known_count}
 use Rattle.gz_round.specs.declared.run.Stage.{Stage}
 use Rattle.gz_round.specs.declared.run.Stage.TheVariants.{Look, Fast, Prepare, Accept}
 use Rattle.gz_round.specs.Standing.{Knows, Stands, StageStands, WritesLatest, AreVotesBelow, AreVotesUpTo, IsVoteNext}
-use Rattle.gz_round.specs.Evidence.{NoneEvident, EvidentAt}
+use Rattle.gz_round.specs.Evidence.{NoneEvident, EvidentAt, IsAfterEvidence}
 use Rattle.gz_round.specs.Following.{NoEvidence, NextMeans, MayPass, IsUnwritten, IsFound, IsStageAt, is_topless, is_blank_known}
 use Rattle.gz_round.specs.Goals.{IsUnmet, looked_in}
 use Rattle.gz_round.proofs.Lists.{all_at}
 use Rattle.gz_round.proofs.Heard.{counted_heard, heard_means, heard_passes}
 use Rattle.gz_round.proofs.Columns.{named_top, top_highest}
-use Rattle.gz_round.proofs.Known.{listed_shown, known_current, known_heard, none_evident}
+use Rattle.gz_round.proofs.Known.{listed_after, listed_shown, known_current, known_heard, known_quorum, none_evident}
 use Rattle.gz_round.proofs.Votes.{unvoted_clear, voted_some}
 use Rattle.gz_round.proofs.Unpromised.{looks_unpromised, unpromised_from}
-use Rattle.gz_round.proofs.Targets.{looked_aim, vote_passes, writes_current}
+use Rattle.gz_round.proofs.Targets.{aim_quorum, looked_aim, vote_passes, writes_current}
 use Rattle.gz_round.proofs.HeardFloors.{some_row, floors_highest, none_gone, top_floor_heard}
 
 placed : (rows : List (Option RowAt)) (s : ℕ) (row : RowAt) (o : Option (Option RowAt)) → slice_get rows s ≡ o → row_at rows s ≡ Some row → slice_get rows s ≡ Some (Some row)
@@ -107,7 +107,7 @@ votes_later w ms v u l votes t k =
     ]
 
 -- another value is chosen, and the call may vote at the next version
-pub other_means : (c : Config) (w : Caller) (past : List Trace) (run : Run) (ms : List Action) (v s : ℕ) → Stands c w past run ms → is_some run.own ≡ true → MayPass c w ms v → (e : EvidentAt c run.rows v s) → (row_name e.row v ≡ Some run.name → ⊥) → IsVoteNext c w ms (v + 1) × AreVotesBelow w ms (v + 1)
+pub other_means : (c : Config) (w : Caller) (past : List Trace) (run : Run) (ms : List Action) (v s : ℕ) → Stands c w past run ms → is_some run.own ≡ true → MayPass c w ms v → (e : EvidentAt c run.rows v s) → (row_name e.row v ≡ Some run.name → ⊥) → IsVoteNext c w ms (v + 1) × AreVotesBelow w ms (v + 1) × IsAfterEvidence c ms (v + 1)
 other_means c w past run ms v s h some m e other =
     let shown : IsShown c ms v e.name = listed_shown c run ms h.knows v e.name e.evident in
     let differs : e.name ≢ w.name = λ (k : e.name ≡ w.name). other (e.named ∙ ap (λ (x : Name). Some x) (k ∙ sym h.name_is)) in
@@ -128,6 +128,7 @@ other_means c w past run ms v s h some m e other =
         votes = votes_up w ms (v + 1) below;
       },
       below,
+      listed_after c run ms h.knows v e.name m.above e.evident,
     )
 
 unvoted_below : (w : Caller) (ms : List Action) (v : ℕ) → voted w.name ms ≡ false → AreVotesBelow w ms v
@@ -194,6 +195,7 @@ first_means c w past run ms h f some =
       },
       below,
       f.none.evident,
+      inl f.none.gone,
     )
 
 -- to a call that reads the latest version it is absent
@@ -256,13 +258,14 @@ looked_unmet c run ms k shown asked none =
     inr (highest_positive run.rows shown, record { evident = none_evident c run ms k (looked_in run) none; gone = none_gone c run ms (looked_in run) k above.1 })
 
 -- the version that is asked for was collected
-pub collected_means : (c : Config) (w : Caller) (past : List Trace) (run : Run) (ms : List Action) (floor : ℕ) → Stands c w past run ms → IsAskedBelow run floor → 1 ≤ known_count c ms → NextMeans c w run ms (CollectedNext floor)
-collected_means c w past run ms floor h a some = record {
+pub collected_means : (c : Config) (w : Caller) (past : List Trace) (run : Run) (ms : List Action) (floor : ℕ) → Stands c w past run ms → IsAskedBelow run floor → 1 ≤ known_count c ms → c.qc ≤ known_count c ms → NextMeans c w run ms (CollectedNext floor)
+collected_means c w past run ms floor h a some enough = record {
   reads = reads_at c w past run ms a.asked h a.target;
   version = a.asked;
   asked = sym h.target_is ∙ a.target;
   gone = a.gone;
   heard = subst (HasFloor c ms) (sym a.top) (top_floor_heard c run ms h.knows some);
+  quorum = known_quorum c ms enough;
 }
 
 -- a call that writes nothing has learnt the value
@@ -286,10 +289,10 @@ latest_found c w past run ms v s h m e none latest =
     found_means c w past run ms v s h (subst (λ (t : Target). IsAskedFor c t ms v) (sym is) current) e (no_own c w past run ms h none)
 
 -- or that of the number
-pub number_found : (c : Config) (w : Caller) (past : List Trace) (run : Run) (ms : List Action) (v s : ℕ) → Stands c w past run ms → EvidentAt c run.rows v s → run.target ≡ At v → NextMeans c w run ms (LearntNext v s)
-number_found c w past run ms v s h e at =
+pub number_found : (c : Config) (w : Caller) (past : List Trace) (run : Run) (ms : List Action) (v s : ℕ) → Stands c w past run ms → MayPass c w ms v → EvidentAt c run.rows v s → run.target ≡ At v → NextMeans c w run ms (LearntNext v s)
+number_found c w past run ms v s h m e at =
     let is : target_of w.call ≡ At v = sym h.target_is ∙ at in
-    found_means c w past run ms v s h (subst (λ (t : Target). IsAskedFor c t ms v) (sym is) refl) e (reads_at c w past run ms v h at)
+    found_means c w past run ms v s h (subst (λ (t : Target). IsAskedFor c t ms v) (sym is) (refl, aim_quorum c (target_of w.call) ms v m.aim)) e (reads_at c w past run ms v h at)
 
 -- or else the version that is asked for lies above
 pub later_unborn : (c : Config) (w : Caller) (past : List Trace) (run : Run) (ms : List Action) (v s version : ℕ) → Stands c w past run ms → MayPass c w ms v → EvidentAt c run.rows v s → run.target ≡ At version → version ≢ v → NextMeans c w run ms (UnbornNext v)
@@ -297,7 +300,7 @@ later_unborn c w past run ms v s version h m e at apart =
     let is : target_of w.call ≡ At version = sym h.target_is ∙ at in
     let aim : IsAim c (At version) ms v = subst (λ (t : Target). IsAim c t ms v) is m.aim in
     elim aim [
-      | inl same ↦ absurd (apart (sym same))
+      | inl same ↦ absurd (apart (sym same.0))
       | inr low ↦ record { reads = reads_at c w past run ms version h at; version = version; asked = is; above = low.0; current = low.1; shown = inr (e.name, listed_shown c run ms h.knows v e.name e.evident) }
     ]
 

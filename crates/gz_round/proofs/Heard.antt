@@ -12,7 +12,7 @@ use Rattle.gz_pick.specs.Evidences.{votes_for, decides}
 use Rattle.gz_round.specs.declared.hearing.Seen.{Seen}
 use Rattle.gz_core.specs.History.{Action}
 use Rattle.gz_round.specs.Sites.{heard_in, concerns, passes, some_heard, WasHeard}
-use Rattle.gz_round.specs.Shown.{heard_at, IsShown, IsCurrent, IsNext}
+use Rattle.gz_round.specs.Shown.{heard_at, IsShown, IsCurrent, IsQuorumHeard, IsNext}
 
 -- a row that was heard stays heard
 pub heard_more : (p : RowAt → Bool) (m : Action) (ms : List Action) (s : ℕ) → some_heard p ms s ≡ true → some_heard p (m ∷ ms) s ≡ true
@@ -31,6 +31,9 @@ shown_more c m ms v x h =
 
 pub current_more : (c : Config) (m : Action) (ms : List Action) (v : ℕ) → IsCurrent c ms v → IsCurrent c (m ∷ ms) v
 current_more c m ms v h = omega (arith, h, heard_at_more c (λ r. leb (row_top r) v) m ms)
+
+pub quorum_more : (c : Config) (m : Action) (ms : List Action) → IsQuorumHeard c ms → IsQuorumHeard c (m ∷ ms)
+quorum_more c m ms h = omega (arith, h, heard_at_more c (λ r. true) m ms)
 
 pub next_more : (c : Config) (m : Action) (ms : List Action) (v : ℕ) → IsNext c ms v → IsNext c (m ∷ ms) v
 next_more c m ms v h =
@@ -62,6 +65,14 @@ heard_passes p (m ∷ ms) s row (inl k) h =
     let test : passes p (heard_in m) ≡ true = subst (λ o. passes p o ≡ true) (sym e) (subst (λ r. p r ≡ true) (sym same) h) in
     or_left (passes p (heard_in m) && concerns m s) (some_heard p ms s) (and_from (passes p (heard_in m)) (concerns m s) test k.1)
 heard_passes p (m ∷ ms) s row (inr k) h = or_right (passes p (heard_in m) && concerns m s) (some_heard p ms s) (heard_passes p ms s row k h)
+
+-- rows of a quorum that show something were heard
+pub current_quorum : (c : Config) (ms : List Action) (v : ℕ) → IsCurrent c ms v → IsQuorumHeard c ms
+current_quorum c ms v h =
+    let weaker : heard_at c (λ r. leb (row_top r) v) ms ≤ heard_at c (λ r. true) ms = count_weaker c.n (some_heard (λ r. leb (row_top r) v) ms) (some_heard (λ r. true) ms) (λ (s : ℕ) (k : some_heard (λ r. leb (row_top r) v) ms s ≡ true).
+    let w = heard_means (λ r. leb (row_top r) v) ms s k in
+    heard_passes (λ r. true) ms s w.0 w.2 refl) in
+    omega (arith, h)
 
 -- where one row that passes was heard, at least one is counted
 pub heard_one : (c : Config) (p : RowAt → Bool) (ms : List Action) (s : ℕ) (row : RowAt) → s < c.n → WasHeard ms s row → p row ≡ true → 1 ≤ heard_at c p ms

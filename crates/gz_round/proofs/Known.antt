@@ -1,5 +1,5 @@
 -- The rows that are known are rows that were heard, and what they show is shown.
-use Rattle.std.proofs.Common.{◌≡◌, ℕ, ◌<◌, ◌≤◌, ◌^◌, Bool, true, false, List, [], ◌∷◌, length, Option, Some, None, is_some, refl, sym, ap, ◌∙◌, subst, inl, inr, ◌⊎◌, arith, leb}
+use Rattle.std.proofs.Common.{◌≡◌, ℕ, ◌+◌, ◌<◌, ◌≤◌, ◌^◌, Bool, true, false, List, [], ◌∷◌, length, Option, Some, None, is_some, refl, sym, ap, ◌∙◌, subst, inl, inr, ◌⊎◌, arith, leb}
 use Rattle.std.specs.List.{slice_get, count_by}
 use Rattle.std.proofs.lemmas.Bool.{cases_Bool, cond-true, cond-false, le-leb}
 use Rattle.std.proofs.lemmas.Option.{same_Some, none-some, slice_get_within}
@@ -14,14 +14,15 @@ use Rattle.gz_round.specs.declared.run.Run.{Run}
 use Rattle.gz_round.specs.declared.run.Stage.{Stage}
 use Rattle.gz_round.specs.declared.run.Stage.TheVariants.{Look, Fast, Prepare, Accept}
 use Rattle.gz_core.specs.History.{Asked, Action, Sent, Handed, GaveUp, Rested, GaveIn, Caller, Trace}
-use Rattle.gz_round.specs.Sites.{SiteNow, site_now, after, after_reply, after_sent, known, row_seen, seen_in, written_by, is_changed, concerns, is_about_rows, heard_in, WasHeard}
-use Rattle.gz_round.specs.Shown.{heard_at, IsShown, IsCurrent}
+use Rattle.gz_round.specs.Sites.{SiteNow, site_now, after, after_reply, after_sent, known, row_seen, seen_in, written_by, is_changed, concerns, is_about_rows, heard_in, up_to_rows, WasHeard}
+use Rattle.gz_round.specs.Sent.{voted_at}
+use Rattle.gz_round.specs.Shown.{heard_at, IsShown, IsCurrent, IsQuorumHeard}
 use Rattle.gz_round.specs.Counting.{known_count, outs}
 use Rattle.gz_round.specs.Causes.{rows_known}
 use Rattle.gz_round.specs.Standing.{Knows, Stands, mark_of}
-use Rattle.gz_round.specs.Evidence.{NoneEvident}
+use Rattle.gz_round.specs.Evidence.{NoneEvident, IsAfterEvidence}
 use Rattle.gz_round.specs.Sending.{NoEvidence, NoneGone, IsUndecided}
-use Rattle.gz_round.specs.Goals.{IsSkipping}
+use Rattle.gz_round.specs.Goals.{IsAboveFloor, IsSkipping}
 use Rattle.gz_round.proofs.Lists.{count_same, count_told}
 use Rattle.gz_round.proofs.Actions.{concerns_rows, heard_row, now_here, now_other, each_site}
 use Rattle.gz_round.proofs.Heard.{counted_heard}
@@ -145,7 +146,7 @@ evident_same c rows others v x same (inr k) =
 pub gone_same : (c : Config) (ms ns : List Action) (v : ℕ) → ((s : ℕ) → rows_known ns s ≡ rows_known ms s) → NoneGone c ms v → NoneGone c ns v
 gone_same c ms ns v same h s row l e = h s row l (sym (same s) ∙ e)
 
-evidence_same : (c : Config) (ms ns : List Action) (v : ℕ) → ((s : ℕ) → rows_known ns s ≡ rows_known ms s) → NoEvidence c ms v → NoEvidence c ns v
+pub evidence_same : (c : Config) (ms ns : List Action) (v : ℕ) → ((s : ℕ) → rows_known ns s ≡ rows_known ms s) → NoEvidence c ms v → NoEvidence c ns v
 evidence_same c ms ns v same h x e = h x (evident_same c (rows_known ns) (rows_known ms) v x (λ (s : ℕ) (l : s < c.n). same s) e)
 
 pub undecided_same : (c : Config) (ms ns : List Action) (v : ℕ) → ((s : ℕ) → rows_known ns s ≡ rows_known ms s) → IsUndecided c ms v → IsUndecided c ns v
@@ -154,16 +155,40 @@ undecided_same c ms ns v same h = record {
   gone = gone_same c ms ns v same h.gone;
 }
 
-pub skipping_same : (c : Config) (ms ns : List Action) (stage : Stage) → ((s : ℕ) → rows_known ns s ≡ rows_known ms s) → IsSkipping c stage ms → IsSkipping c stage ns
-skipping_same c ms ns (Fast v) same (inl h) = inl ((h.0.0, h.0.1, h.0.2, same h.0.0 ∙ h.0.3, h.0.4), gone_same c ms ns v same h.1)
-skipping_same c ms ns (Fast v) same (inr h) = inr ((h.0.0, h.0.1, h.0.2, same h.0.0 ∙ h.0.3, h.0.4), evidence_same c ms ns v same h.1)
-skipping_same c ms ns Look same h = h
-skipping_same c ms ns (Prepare v b found) same h = h
-skipping_same c ms ns (Accept v b x) same h = h
+above_same : (c : Config) (ms ns : List Action) (v : ℕ) → ((s : ℕ) → rows_known ns s ≡ rows_known ms s) → ((u : ℕ) → IsCurrent c ms u → IsCurrent c ns u) → IsAboveFloor c ms v → IsAboveFloor c ns v
+above_same c ms ns v same more h = record {
+  site = h.site;
+  row = h.row;
+  inside = h.inside;
+  known = same h.site ∙ h.known;
+  two = h.two;
+  top = λ (s : ℕ) (other : RowAt) (l : s < c.n) (e : rows_known ns s ≡ Some other). h.top s other l (sym (same s) ∙ e);
+  current = more h.row.floor h.current;
+}
+
+after_same : (c : Config) (ms ns : List Action) (v : ℕ) → ((s : ℕ) → rows_known ns s ≡ rows_known ms s) → IsAfterEvidence c ms v → IsAfterEvidence c ns v
+after_same c ms ns v same h = record { before = h.before; next = h.next; above = h.above; name = h.name; evident = evident_same c (rows_known ms) (rows_known ns) h.before h.name (λ (s : ℕ) (l : s < c.n). sym (same s)) h.evident }
+
+-- a vote that has just begun, where what came of row requests is the same
+pub skipping_same : (c : Config) (w : Caller) (ms ns : List Action) (stage : Stage) → ((s : ℕ) → rows_known ns s ≡ rows_known ms s) → ((u : ℕ) → IsCurrent c ms u → IsCurrent c ns u) → up_to_rows ns ≡ up_to_rows ms → IsSkipping c w stage ms → IsSkipping c w stage ns
+skipping_same c w ms ns (Fast v) same more then h = (
+  ap (λ os. voted_at w.name os v) then ∙ h.0,
+  elim h.1 [
+    | inl above ↦ inl (above_same c ms ns v same more above)
+    | inr below ↦ inr ((below.0.0, below.0.1, below.0.2, same below.0.0 ∙ below.0.3, below.0.4), evidence_same c ms ns v same below.1, after_same c ms ns v same below.2)
+  ],
+)
+skipping_same c w ms ns Look same more then h = h
+skipping_same c w ms ns (Prepare v b found) same more then h = h
+skipping_same c w ms ns (Accept v b x) same more then h = h
 
 -- what the list makes evident is shown
 pub listed_shown : (c : Config) (run : Run) (ms : List Action) → Knows c run ms → (v : ℕ) (x : Name) → IsEvident c.n c.qc c.qf (row_at run.rows) v x → IsShown c ms v x
 listed_shown c run ms k v x e = evident_shown c ms v x (evident_same c (row_at run.rows) (rows_known ms) v x (row_at_known c run ms k) e)
+
+-- and makes a value known there
+pub listed_after : (c : Config) (run : Run) (ms : List Action) → Knows c run ms → (v : ℕ) (x : Name) → 1 ≤ v → IsEvident c.n c.qc c.qf (row_at run.rows) v x → IsAfterEvidence c ms (v + 1)
+listed_after c run ms k v x l e = record { before = v; next = refl; above = l; name = x; evident = evident_same c (row_at run.rows) (rows_known ms) v x (row_at_known c run ms k) e }
 
 -- what the list does not make evident is not evident
 pub none_evident : (c : Config) (run : Run) (ms : List Action) → Knows c run ms → (v : ℕ) → NoneEvident c run.rows v → NoEvidence c ms v
@@ -183,6 +208,14 @@ known_current c run ms k v enough low =
     let w = some_shown (rows_known ms s) h in
     let listed : slice_get run.rows s ≡ Some (Some w.0) = k.rows s l ∙ ap (λ o. Some o) w.1 in
     (w.0, known_heard ms s w.0 w.1, le-leb (row_top w.0) v (low s w.0 listed))) in
+    omega arith
+
+-- rows of that quorum were heard
+pub known_quorum : (c : Config) (ms : List Action) → c.qc ≤ known_count c ms → IsQuorumHeard c ms
+known_quorum c ms enough =
+    let counted : known_count c ms ≤ heard_at c (λ r. true) ms = counted_heard c (λ r. true) (λ s. is_some (rows_known ms s)) ms (λ (s : ℕ) (l : s < c.n) (h : is_some (rows_known ms s) ≡ true).
+    let w = some_shown (rows_known ms s) h in
+    (w.0, known_heard ms s w.0 w.1, refl)) in
     omega arith
 
 -- no known row shows a version beyond those that a run reaches

@@ -25,7 +25,7 @@ use Rattle.gz_round.specs.Sending.{NoneAbove}
 use Rattle.gz_round.specs.Targets.{target_of}
 use Rattle.gz_round.specs.Standing.{StageStands, ArePassed, AreVotesUpTo, MayPass, IsWorking, IsPreparing, IsVoting}
 use Rattle.gz_round.specs.Following.{HeldBy, HeldOf}
-use Rattle.gz_round.proofs.Heard.{current_more, next_more, shown_more, heard_at_more}
+use Rattle.gz_round.proofs.Heard.{current_more, next_more, quorum_more, shown_more, heard_at_more}
 use Rattle.gz_round.proofs.Actions.{now_here, now_other}
 use Rattle.gz_round.proofs.LookBacks.{back_more, begun_more, last_promised_at}
 use Rattle.gz_round.proofs.Targets.{aim_by}
@@ -63,7 +63,7 @@ votes_more w m ms v e h u k =
       | inr last ↦ inr (last.0, ap (λ o. or_earlier o (last_vote w.name ms)) e ∙ last.1)
     ]
 
-unpromised_more : (m : Action) (ms : List Action) (v : ℕ) → of_sent promise_by m ≡ None → IsUnpromised ms v → IsUnpromised (m ∷ ms) v
+pub unpromised_more : (m : Action) (ms : List Action) (v : ℕ) → of_sent promise_by m ≡ None → IsUnpromised ms v → IsUnpromised (m ∷ ms) v
 unpromised_more m ms v e h u d l = unsent promise_by (λ p. (p.0 == u) && same_ballot p.1 d) m ms e ∙ h u d l
 
 grounded_more : (c : Config) (m : Action) (ms : List Action) (v : ℕ) → IsGrounded c ms v → IsGrounded c (m ∷ ms) v
@@ -84,7 +84,7 @@ last_more : (m : Action) (ms : List Action) (v : ℕ) (b : BallotAt) → of_sent
 last_more m ms v b e h = ap (λ o. or_earlier o (last_promise ms)) e ∙ h
 
 pass_more : (c : Config) (w : Caller) (m : Action) (ms : List Action) (v : ℕ) → IsQuiet w m ms → MayPass c w ms v → MayPass c w (m ∷ ms) v
-pass_more c w m ms v q h = record { above = h.above; aim = aim_by c (target_of w.call) ms (m ∷ ms) v (current_more c m ms v) h.aim; clear = clear_more c w.name m ms v q.vote h.clear; later = unpromised_more m ms (v + 1) q.promise h.later; votes = votes_more w m ms v q.vote h.votes }
+pass_more c w m ms v q h = record { above = h.above; aim = aim_by c (target_of w.call) ms (m ∷ ms) v (current_more c m ms v) (quorum_more c m ms) h.aim; clear = clear_more c w.name m ms v q.vote h.clear; later = unpromised_more m ms (v + 1) q.promise h.later; votes = votes_more w m ms v q.vote h.votes }
 
 works_more : (c : Config) (w : Caller) (past : List Trace) (m : Action) (ms : List Action) (v : ℕ) (b : BallotAt) → IsQuiet w m ms → IsWorking c w past ms v b → IsWorking c w past (m ∷ ms) v b
 works_more c w past m ms v b q h = record {
@@ -207,7 +207,7 @@ later_kept : (ms : List Action) (a : Asked) (v : ℕ) (b : BallotAt) → (of_ste
 later_kept ms a v b sent h u d l = other_version (of_step promise_by a.op) v u b d (has_promised_at ms u d) sent (omega arith) (h u d l)
 
 pass_kept : (c : Config) (w : Caller) (ms : List Action) (a : Asked) (v : ℕ) (b : BallotAt) → ((u : ℕ) → passes_sent (λ k. k == u) (of_step (vote_by w.name) a.op) ≡ true → v ≡ u) → (of_step promise_by a.op ≡ None) ⊎ (of_step promise_by a.op ≡ Some (v, b)) → MayPass c w ms v → MayPass c w (Sent a ∷ ms) v
-pass_kept c w ms a v b only sent h = record { above = h.above; aim = aim_by c (target_of w.call) ms (Sent a ∷ ms) v (λ current. current) h.aim; clear = clear_vote c w.name ms a v only h.clear; later = later_kept ms a v b sent h.later; votes = votes_kept w ms a v only h.votes }
+pass_kept c w ms a v b only sent h = record { above = h.above; aim = aim_by c (target_of w.call) ms (Sent a ∷ ms) v (λ current. current) (λ quorum. quorum) h.aim; clear = clear_vote c w.name ms a v only h.clear; later = later_kept ms a v b sent h.later; votes = votes_kept w ms a v only h.votes }
 
 none_voted : (x : Name) (op : Op) (v u : ℕ) → of_step (vote_by x) op ≡ None → passes_sent (λ k. k == u) (of_step (vote_by x) op) ≡ true → v ≡ u
 none_voted x op v u e h = absurd (false≢true (sym (ap (passes_sent (λ k. k == u)) e) ∙ h))

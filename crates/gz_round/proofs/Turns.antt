@@ -29,10 +29,11 @@ use Rattle.gz_round.specs.declared.run.Run.{Run}
 use Rattle.gz_round.specs.declared.run.Stage.{Stage}
 use Rattle.gz_round.specs.declared.run.Stage.TheVariants.{Look, Fast, Prepare, Accept}
 use Rattle.gz_core.specs.History.{Asked, Action, Sent, Caller, Trace, IsEarlier, asked_of, sent_from}
+use Rattle.gz_round.specs.Starting.{MakeNoStep}
 use Rattle.gz_round.specs.Steps.{IsStepOf}
 use Rattle.gz_round.specs.Sites.{SiteNow, site_now, after_sent, known}
 use Rattle.gz_round.specs.Sent.{met, last_promise}
-use Rattle.gz_round.specs.Shown.{heard_at, IsShown, IsCurrent, HasFloor}
+use Rattle.gz_round.specs.Shown.{heard_at, IsShown, IsCurrent, IsQuorumHeard, HasFloor}
 use Rattle.gz_round.specs.Targets.{target_of, looked_at}
 use Rattle.gz_round.specs.Rounds.{promises_known, MayPromise, rounds_used, promises_above, above_known}
 use Rattle.gz_round.specs.Sending.{MayMake, NoneAbove, NoneGone, IsUndecided, answer_of}
@@ -49,8 +50,9 @@ use Rattle.gz_round.proofs.Lists.{count_same, any_found, any_told}
 use Rattle.gz_round.proofs.Actions.{each_site}
 use Rattle.gz_round.proofs.Columns.{highest_reached}
 use Rattle.gz_round.proofs.Targets.{asked_by}
+use Rattle.gz_round.proofs.Unpromised.{unpromised_sent}
 use Rattle.gz_round.proofs.Votes.{voted_still}
-use Rattle.gz_round.proofs.Known.{undecided_same, listed_known, last_known, known_last, known_after_sent, out_after_sent, row_after_sent}
+use Rattle.gz_round.proofs.Known.{evidence_same, undecided_same, listed_known, last_known, known_last, known_after_sent, out_after_sent, row_after_sent}
 use Rattle.gz_round.proofs.LookBacks.{earlier_refl, back_later, last_promised_at}
 
 -- what one request more leaves holds after all requests of an event
@@ -84,6 +86,9 @@ shown_sent c v x first sent ms h = over_sent (λ ns. IsShown c ns v x) (λ a ns 
 pub current_sent : (c : Config) (v : ℕ) (first : ℕ) (sent : List Out) (ms : List Action) → IsCurrent c ms v → IsCurrent c (sent_from first sent ms) v
 current_sent c v first sent ms h = over_sent (λ ns. IsCurrent c ns v) (λ a ns k. k) first sent ms h
 
+quorum_sent : (c : Config) (first : ℕ) (sent : List Out) (ms : List Action) → IsQuorumHeard c ms → IsQuorumHeard c (sent_from first sent ms)
+quorum_sent c first sent ms h = over_sent (λ ns. IsQuorumHeard c ns) (λ a ns k. k) first sent ms h
+
 pub value_sent : (v : ℕ) (x : Value) (first : ℕ) (sent : List Out) (ms : List Action) → IsValueHeard ms v x → IsValueHeard (sent_from first sent ms) v x
 value_sent v x first sent ms h = over_sent (λ ns. IsValueHeard ns v x) (λ a ns k. (k.0, k.1, inr k.2, k.3)) first sent ms h
 
@@ -114,35 +119,35 @@ overtaken_sent c ms ns m same h = (omega (arith, h.0), h.1 ∙ same)
 floor_sent : (c : Config) (floor : ℕ) (first : ℕ) (sent : List Out) (ms : List Action) → HasFloor c ms floor → HasFloor c (sent_from first sent ms) floor
 floor_sent c floor first sent ms h = over_sent (λ ns. HasFloor c ns floor) (λ a ns k. k) first sent ms h
 
-trimmed_sent : (c : Config) (w : Caller) (past : List Trace) (run new : Run) (first : ℕ) (sent : List Out) (ms : List Action) (floor : ℕ) → Stands c w past run ms → Stands c w past new (sent_from first sent ms) → new.last_vote ≡ run.last_vote → IsTrimmed c w ms floor → IsTrimmed c w (sent_from first sent ms) floor
-trimmed_sent c w past run new first sent ms floor h k vote cause = record { version = cause.version; voted = sym k.vote_is ∙ (vote ∙ (h.vote_is ∙ cause.voted)); gone = cause.gone; heard = floor_sent c floor first sent ms cause.heard }
+trimmed_sent : (c : Config) (w : Caller) (past : List Trace) (run new : Run) (first : ℕ) (sent : List Out) (ms : List Action) (floor : ℕ) → Stands c w past run ms → Stands c w past new (sent_from first sent ms) → new.last_vote ≡ run.last_vote → MakeNoStep sent → IsTrimmed c w ms floor → IsTrimmed c w (sent_from first sent ms) floor
+trimmed_sent c w past run new first sent ms floor h k vote stepless cause = record { version = cause.version; voted = sym k.vote_is ∙ (vote ∙ (h.vote_is ∙ cause.voted)); gone = cause.gone; heard = floor_sent c floor first sent ms cause.heard; none = evidence_same c ms (sent_from first sent ms) cause.version (rows_sent first sent ms) cause.none; later = unpromised_sent first sent ms (cause.version + 1) stepless cause.later }
 
-unsure_sent : (c : Config) (w : Caller) (past : List Trace) (run new : Run) (first : ℕ) (sent : List Out) (ms : List Action) (why : UnsureWhy) → Stands c w past run ms → Stands c w past new (sent_from first sent ms) → new.last_vote ≡ run.last_vote → new.wrote ≡ run.wrote → UnsureCause c w ms why → UnsureCause c w (sent_from first sent ms) why
-unsure_sent c w past run new first sent ms (UnsureNoQuorum phase heard) h k vote wrote cause = cut_sent c w past run new ms (sent_from first sent ms) phase heard h k wrote (met_sent first sent ms) (outs_sent c first sent ms) (known_sent c first sent ms) cause
-unsure_sent c w past run new first sent ms (UnsureContended m) h k vote wrote cause = overtaken_sent c ms (sent_from first sent ms) m (met_sent first sent ms) cause
-unsure_sent c w past run new first sent ms (UnsureTrimmed floor) h k vote wrote cause = (going_sent c first sent ms cause.0, trimmed_sent c w past run new first sent ms floor h k vote cause.1)
+unsure_sent : (c : Config) (w : Caller) (past : List Trace) (run new : Run) (first : ℕ) (sent : List Out) (ms : List Action) (why : UnsureWhy) → Stands c w past run ms → Stands c w past new (sent_from first sent ms) → new.last_vote ≡ run.last_vote → new.wrote ≡ run.wrote → MakeNoStep sent → UnsureCause c w ms why → UnsureCause c w (sent_from first sent ms) why
+unsure_sent c w past run new first sent ms (UnsureNoQuorum phase heard) h k vote wrote stepless cause = cut_sent c w past run new ms (sent_from first sent ms) phase heard h k wrote (met_sent first sent ms) (outs_sent c first sent ms) (known_sent c first sent ms) cause
+unsure_sent c w past run new first sent ms (UnsureContended m) h k vote wrote stepless cause = overtaken_sent c ms (sent_from first sent ms) m (met_sent first sent ms) cause
+unsure_sent c w past run new first sent ms (UnsureTrimmed floor) h k vote wrote stepless cause = (going_sent c first sent ms cause.0, trimmed_sent c w past run new first sent ms floor h k vote stepless cause.1)
 
 unborn_sent : (c : Config) (w : Caller) (latest : ℕ) (first : ℕ) (sent : List Out) (ms : List Action) → IsUnborn c w ms latest → IsUnborn c w (sent_from first sent ms) latest
 unborn_sent c w latest first sent ms h = record { reads = h.reads; version = h.version; asked = h.asked; above = h.above; current = current_sent c latest first sent ms h.current; shown = elim h.shown [ inl none ↦ inl none | inr k ↦ inr (k.0, shown_sent c latest k.0 first sent ms k.1) ] }
 
 learnt_sent : (c : Config) (w : Caller) (v : ℕ) (x : Value) (first : ℕ) (sent : List Out) (ms : List Action) → IsLearnt c w ms v x → IsLearnt c w (sent_from first sent ms) v x
-learnt_sent c w v x first sent ms h = record { reads = h.reads; asked = asked_by c (target_of w.call) ms (sent_from first sent ms) v (current_sent c v first sent ms) h.asked; shown = shown_sent c v (name_of x) first sent ms h.shown; heard = value_sent v x first sent ms h.heard }
+learnt_sent c w v x first sent ms h = record { reads = h.reads; asked = asked_by c (target_of w.call) ms (sent_from first sent ms) v (current_sent c v first sent ms) (quorum_sent c first sent ms) h.asked; shown = shown_sent c v (name_of x) first sent ms h.shown; heard = value_sent v x first sent ms h.heard }
 
 -- requests leave the cause of an answer
 cause_sent : (c : Config) (w : Caller) (past : List Trace) (run new : Run) (first : ℕ) (sent : List Out) (ms : List Action) (answer : Answer) → Stands c w past run ms → Stands c w past new (sent_from first sent ms) → new.last_vote ≡ run.last_vote → new.wrote ≡ run.wrote →
-    EndsBy c w ms answer → EndsBy c w (sent_from first sent ms) answer
-cause_sent c w past run new first sent ms Absent h k vote_same wrote_same cause =
+    MakeNoStep sent → EndsBy c w ms answer → EndsBy c w (sent_from first sent ms) answer
+cause_sent c w past run new first sent ms Absent h k vote_same wrote_same stepless cause =
     (going_sent c first sent ms cause.0, record { reads = cause.1.reads; asked = cause.1.asked; blank = omega (arith, cause.1.blank, heard_sent c is_blank first sent ms) })
-cause_sent c w past run new first sent ms (Unborn latest) h k vote_same wrote_same cause = (going_sent c first sent ms cause.0, unborn_sent c w latest first sent ms cause.1)
-cause_sent c w past run new first sent ms (Collected floor) h k vote_same wrote_same cause =
-    (going_sent c first sent ms cause.0, record { reads = cause.1.reads; version = cause.1.version; asked = cause.1.asked; gone = cause.1.gone; heard = floor_sent c floor first sent ms cause.1.heard })
-cause_sent c w past run new first sent ms (NoQuorum phase heard) h k vote_same wrote_same cause =
+cause_sent c w past run new first sent ms (Unborn latest) h k vote_same wrote_same stepless cause = (going_sent c first sent ms cause.0, unborn_sent c w latest first sent ms cause.1)
+cause_sent c w past run new first sent ms (Collected floor) h k vote_same wrote_same stepless cause =
+    (going_sent c first sent ms cause.0, record { reads = cause.1.reads; version = cause.1.version; asked = cause.1.asked; gone = cause.1.gone; heard = floor_sent c floor first sent ms cause.1.heard; quorum = quorum_sent c first sent ms cause.1.quorum })
+cause_sent c w past run new first sent ms (NoQuorum phase heard) h k vote_same wrote_same stepless cause =
     (voted_still c w past run new ms (sent_from first sent ms) h k vote_same ∙ cause.0, cut_sent c w past run new ms (sent_from first sent ms) phase heard h k wrote_same (met_sent first sent ms) (outs_sent c first sent ms) (known_sent c first sent ms) cause.1)
-cause_sent c w past run new first sent ms (Contended m) h k vote_same wrote_same cause =
+cause_sent c w past run new first sent ms (Contended m) h k vote_same wrote_same stepless cause =
     (voted_still c w past run new ms (sent_from first sent ms) h k vote_same ∙ cause.0, overtaken_sent c ms (sent_from first sent ms) m (met_sent first sent ms) cause.1)
-cause_sent c w past run new first sent ms (Unsure why) h k vote_same wrote_same cause =
-    (voted_still c w past run new ms (sent_from first sent ms) h k vote_same ∙ cause.0, unsure_sent c w past run new first sent ms why h k vote_same wrote_same cause.1)
-cause_sent c w past run new first sent ms answer h k vote_same wrote_same cause = absurd cause
+cause_sent c w past run new first sent ms (Unsure why) h k vote_same wrote_same stepless cause =
+    (voted_still c w past run new ms (sent_from first sent ms) h k vote_same ∙ cause.0, unsure_sent c w past run new first sent ms why h k vote_same wrote_same stepless cause.1)
+cause_sent c w past run new first sent ms answer h k vote_same wrote_same stepless cause = absurd cause
 
 -- a site that has answered all that was asked of it before one more request
 quiet_before : (a : Asked) (now : SiteNow) → (after_sent a now).unanswered ≡ false → now.unanswered ≡ false
@@ -162,12 +167,12 @@ noticed_one c w v a ms h s l kept quiet seen last x own done =
 
 -- and what the rows come to
 comes_sent : (c : Config) (w : Caller) (past : List Trace) (run new : Run) (first : ℕ) (sent : List Out) (ms : List Action) (outcome : Outcome) → Stands c w past run ms → Stands c w past new (sent_from first sent ms) → new.last_vote ≡ run.last_vote → new.wrote ≡ run.wrote →
-    ComesTo c w ms outcome → ComesTo c w (sent_from first sent ms) outcome
-comes_sent c w past run new first sent ms Goes h k vote_same wrote_same comes = absurd comes
-comes_sent c w past run new first sent ms (Placed v) h k vote_same wrote_same comes =
+    MakeNoStep sent → ComesTo c w ms outcome → ComesTo c w (sent_from first sent ms) outcome
+comes_sent c w past run new first sent ms Goes h k vote_same wrote_same stepless comes = absurd comes
+comes_sent c w past run new first sent ms (Placed v) h k vote_same wrote_same stepless comes =
     (going_sent c first sent ms comes.0, (comes.1.0, comes.1.1, shown_sent c v w.name first sent ms comes.1.2), over_sent (λ ns. IsNoticed c w ns v) (noticed_one c w v) first sent ms comes.2)
-comes_sent c w past run new first sent ms (Learnt v x) h k vote_same wrote_same comes = (going_sent c first sent ms comes.0, learnt_sent c w v x first sent ms comes.1)
-comes_sent c w past run new first sent ms (EndsAs answer) h k vote_same wrote_same comes = cause_sent c w past run new first sent ms answer h k vote_same wrote_same comes
+comes_sent c w past run new first sent ms (Learnt v x) h k vote_same wrote_same stepless comes = (going_sent c first sent ms comes.0, learnt_sent c w v x first sent ms comes.1)
+comes_sent c w past run new first sent ms (EndsAs answer) h k vote_same wrote_same stepless comes = cause_sent c w past run new first sent ms answer h k vote_same wrote_same stepless comes
 
 -- each site that was served was asked again
 pub again_from : (c : Config) (w : Caller) (ms : List Action) (step : Option RowStep) → AreServed c w ms step → AreAskedAgain c ms
@@ -183,14 +188,14 @@ turned_done c w past run ms outcome done = done
 
 -- the rows of a call are done with after its reads
 pub close_turned : (c : Config) (w : Caller) (past : List Trace) (run new : Run) (ms : List Action) (first : ℕ) (sent : List Out) (outcome : Outcome) → Stands c w past run ms → ComesTo c w ms outcome →
-    HasAsked c w past new ms (sent_from first sent ms) None → IsLeftBy run new None → Turned c w past new (sent_from first sent ms) outcome
-close_turned c w past run new ms first sent outcome h comes asks left =
+    HasAsked c w past new ms (sent_from first sent ms) None → IsLeftBy run new None → MakeNoStep sent → Turned c w past new (sent_from first sent ms) outcome
+close_turned c w past run new ms first sent outcome h comes asks left stepless =
     turned_done c w past new (sent_from first sent ms) outcome (record {
       key_is = asks.stands.key_is;
       own_is = asks.stands.own_is;
       allowed = asks.stands.allowed;
       reads = again_from c w (sent_from first sent ms) None asks.served;
-      comes = comes_sent c w past run new first sent ms outcome h asks.stands (left.vote refl) (left.wrote refl) comes;
+      comes = comes_sent c w past run new first sent ms outcome h asks.stands (left.vote refl) (left.wrote refl) stepless comes;
       round_is = asks.stands.round_is;
     })
 
@@ -440,7 +445,7 @@ step_plain run step is = subst IsPlain (sym is) (plain_from (step_in run.stage r
 pub record Stepped (c : Config) (w : Caller) (past : List Trace) (new : Run) (ms : List Action) : Type 0 where
   pub stands : Stands c w past new ms
   pub stage : StageStands c w past new.stage ms
-  pub unmet : IsUnmet c new new.stage ms ⊎ IsSkipping c new.stage ms
+  pub unmet : IsUnmet c new new.stage ms ⊎ IsSkipping c w new.stage ms
   pub few : IsFewIn c new new.stage
   pub ahead : is_overtaken new ≡ false
   pub served : AreServed c w ms (stage_step new)

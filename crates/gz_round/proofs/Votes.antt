@@ -1,6 +1,6 @@
 -- Where a call voted for its value, and where last.
-use Rattle.std.proofs.Common.{◌≡◌, ℕ, ◌<◌, Bool, true, false, ◌||◌, ◌==◌, List, [], ◌∷◌, Option, Some, None, is_some, refl, sym, ap, ◌∙◌, inl, inr, ◌⊎◌}
-use Rattle.std.proofs.lemmas.Bool.{or_cases, or_left, or_right, both_ways, false≢true, eqb-true, eq-eqb}
+use Rattle.std.proofs.Common.{◌≡◌, ℕ, ◌<◌, Bool, true, false, ◌||◌, ◌==◌, List, [], ◌∷◌, Option, Some, None, is_some, refl, sym, ap, ◌∙◌, inl, inr, ◌⊎◌, arith}
+use Rattle.std.proofs.lemmas.Bool.{cases_Bool, cond-true, cond-false, or_cases, or_parts, or_left, or_right, both_ways, false≢true, false_from_ne_true, eqb-true, eq-eqb}
 use Rattle.std.proofs.lemmas.Option.{same_Some, none-some}
 use Rattle.gz_core.specs.Names.{Name}
 use Rattle.gz_config.specs.declared.Config.{Config}
@@ -8,7 +8,8 @@ use Rattle.gz_round.specs.declared.run.Run.{Run}
 use Rattle.gz_core.specs.History.{Asked, Action, Sent, Caller, Trace}
 use Rattle.gz_round.specs.Sent.{voted, voted_at, last_vote, vote_by, of_step, of_sent, or_earlier, passes_sent}
 use Rattle.gz_round.specs.Shown.{IsClear}
-use Rattle.gz_round.specs.Standing.{Stands, AreVotesUpTo}
+use Rattle.gz_round.specs.Sites.{tells_of_row, up_to_rows}
+use Rattle.gz_round.specs.Standing.{Stands, AreVotesUpTo, AreVotesBelow}
 
 some_earlier : (o last : Option ℕ) → is_some (or_earlier o last) ≡ (passes_sent (λ u. true) o || is_some last)
 some_earlier None last = refl
@@ -64,6 +65,19 @@ voted_some x (m ∷ ms) u h =
 -- a call that hasn't voted is clear everywhere
 pub unvoted_clear : (c : Config) (x : Name) (ms : List Action) (v : ℕ) → voted x ms ≡ false → IsClear c x ms v
 unvoted_clear c x ms v h u n k = absurd (both_ways (voted x ms) h (voted_some x ms u k))
+
+-- one that voted below a version alone didn't vote there
+pub unvoted_at_next : (w : Caller) (ms : List Action) (v : ℕ) → AreVotesBelow w ms v → voted_at w.name ms v ≡ false
+unvoted_at_next w ms v h = false_from_ne_true (voted_at w.name ms v) (λ (k : voted_at w.name ms v ≡ true). let low : v < v = h v k in omega arith)
+
+-- nor did it before
+pub unvoted_before : (x : Name) (ms : List Action) (v : ℕ) → voted_at x ms v ≡ false → voted_at x (up_to_rows ms) v ≡ false
+unvoted_before x [] v h = refl
+unvoted_before x (m ∷ ms) v h =
+    elim (cases_Bool (tells_of_row m)) [
+      | inl e ↦ ap (λ ns. voted_at x ns v) (cond-true (tells_of_row m) (m ∷ ms) (up_to_rows ms) e) ∙ h
+      | inr e ↦ ap (λ ns. voted_at x ns v) (cond-false (tells_of_row m) (m ∷ ms) (up_to_rows ms) e) ∙ unvoted_before x ms v (or_parts (passes_sent (λ k. k == v) (of_sent (vote_by x) m)) (voted_at x ms v) h).1
+    ]
 
 -- and last at none above any
 pub unvoted_up_to : (w : Caller) (ms : List Action) (v : ℕ) → voted w.name ms ≡ false → AreVotesUpTo w ms v

@@ -28,23 +28,14 @@ use Rattle.gz_round.specs.declared.outcome.Outcome.{Outcome}
 use Rattle.gz_round.specs.declared.outcome.Outcome.TheVariants.{Goes, Ends}
 pub use Rattle.gz_round.specs.Causes.{ComesTo}
 use Rattle.gz_round.specs.Standing.{Stands, StageStands, AreVotesBelow, IsVoteNext, AreAskedAgain, MayPass}
-use Rattle.gz_round.specs.Goals.{IsUnmet, IsAboveFloor, looked_in, IsFewIn, is_overtaken, AreServed, stage_step}
+pub use Rattle.gz_round.specs.Goals.{version_in, working_version}
+use Rattle.gz_round.specs.Goals.{IsUnmet, IsAboveFloor, IsFewIn, is_overtaken, AreServed, stage_step}
+use Rattle.gz_round.specs.Evidence.{IsAfterEvidence}
 use Rattle.gz_round.specs.Following.{Ready}
 
 abbrev pub notice_for : ℕ → Option Value → Option RowStep
 notice_for v None = None
 notice_for v (Some x) = Some (Decide v x)
-
--- the version at which a phase works; in `Look` it is the one at which the call looks
-abbrev pub version_in : Stage → ℕ → ℕ
-version_in Look looked = looked
-version_in (Fast v) looked = v
-version_in (Prepare v b found) looked = v
-version_in (Accept v b x) looked = v
-
--- the version that the phase works at
-abbrev pub working_version : Run → ℕ
-working_version run = version_in run.stage (looked_in run)
 
 -- the phase goes on: its goal isn't reached
 pub record IsGoalUnmet (c : Config) (w : Caller) (past : List Trace) (run : Run) (ms : List Action) : Type 0 where
@@ -179,20 +170,21 @@ pub record HasCast (c : Config) (w : Caller) (past : List Trace) (run : Run) (ms
   pub stage_is : run.stage ≡ Fast v
   pub served : AreServed c w ms (stage_step run)
 
--- it never voted there, and no value is known to be chosen there
+-- it never voted there, and no value is known to be chosen there, but at the version before, unless none has it collected
 pub record BeginsFast (c : Config) (w : Caller) (past : List Trace) (run : Run) (ms : List Action) (v : ℕ) : Type 0 where
   pub votes : VotesNext c w past run ms v
   pub first : AreVotesBelow w ms v
   pub none : NoEvidence c ms v
+  pub follows : NoneGone c ms v ⊎ IsAfterEvidence c ms v
 
 abbrev pub CanBeginFast : Config → Run → ℕ → Type 0
 CanBeginFast c run v = (w : Caller) × (past : List Trace) × (ms : List Action) × BeginsFast c w past run ms v
 
--- it votes two above a floor
+-- it votes two above the greatest floor, and never did there
 pub record Skips (c : Config) (w : Caller) (past : List Trace) (run : Run) (ms : List Action) (v : ℕ) : Type 0 where
   pub votes : VotesNext c w past run ms v
+  pub first : AreVotesBelow w ms v
   pub above : IsAboveFloor c ms v
-  pub gone : NoneGone c ms v
 
 abbrev pub CanSkip : Config → Run → ℕ → Type 0
 CanSkip c run v = (w : Caller) × (past : List Trace) × (ms : List Action) × Skips c w past run ms v

@@ -12,8 +12,9 @@ use Rattle.gz_core.specs.declared.calls.Phase.{Phase}
 use Rattle.gz_config.specs.declared.Config.{Config}
 use Rattle.gz_pick.specs.Looks.{row_top}
 use Rattle.gz_core.specs.History.{Action, Caller}
-use Rattle.gz_round.specs.Sent.{met, voted, last_vote, phase_of}
-use Rattle.gz_round.specs.Shown.{heard_at, IsShown, IsCurrent, HasFloor}
+use Rattle.gz_round.specs.Evidence.{NoEvidence}
+use Rattle.gz_round.specs.Sent.{met, voted, last_vote, phase_of, IsUnpromised}
+use Rattle.gz_round.specs.Shown.{heard_at, IsShown, IsCurrent, IsQuorumHeard, HasFloor}
 use Rattle.gz_round.specs.Targets.{target_of, IsAskedFor}
 use Rattle.gz_round.specs.declared.run.Target.TheVariants.{Latest, At}
 use Rattle.gz_round.specs.declared.outcome.Outcome.{Outcome}
@@ -52,20 +53,24 @@ pub record IsUnborn (c : Config) (w : Caller) (ms : List Action) (latest : ℕ) 
   pub current : IsCurrent c ms latest
   pub shown : (latest ≡ 0) ⊎ ((x : Name) × IsShown c ms latest x)
 
--- the version that is asked for was collected, as a row with this floor shows
+-- the version that is asked for was collected, as a row with this floor shows, and rows of a classic quorum were heard
 pub record IsCollected (c : Config) (w : Caller) (ms : List Action) (floor : ℕ) : Type 0 where
   pub reads : w.own ≡ None
   pub version : ℕ
   pub asked : target_of w.call ≡ At version
   pub gone : version ≤ floor
   pub heard : HasFloor c ms floor
+  pub quorum : IsQuorumHeard c ms
 
--- the version at which the call voted last for its value was collected, as a row with this floor shows
+-- the version at which the call voted last for its value was collected, as a row with this floor shows. The call works there
+-- still: no value is known to be chosen there, and it promised nothing above.
 pub record IsTrimmed (c : Config) (w : Caller) (ms : List Action) (floor : ℕ) : Type 0 where
   pub version : ℕ
   pub voted : last_vote w.name ms ≡ Some version
   pub gone : version ≤ floor
   pub heard : HasFloor c ms floor
+  pub none : NoEvidence c ms version
+  pub later : IsUnpromised ms (version + 1)
 
 -- too few sites are left, and the call was overtaken less often than it tries
 pub record IsCutOff (c : Config) (ms : List Action) (phase : Phase) (heard : ℕ) : Type 0 where

@@ -1,5 +1,5 @@
 -- The floors of the rows that are known: a row of a run has the version after its floor decided.
-use Rattle.std.specs.Prelude.{ℕ, ◌≡◌, ◌≤◌, ◌<◌, ◌+◌, ◌==◌, max, Bool, false, List, [], ◌∷◌, Option, Some, None, slice_get}
+use Rattle.std.specs.Prelude.{ℕ, ◌≡◌, ◌≢◌, ◌≤◌, ◌<◌, ◌+◌, ◌==◌, max, Bool, false, List, [], ◌∷◌, Option, Some, None, slice_get}
 use Rattle.gz_core.specs.Names.{Name}
 use Rattle.gz_core.specs.Rows.{RowAt, IsRow}
 use Rattle.gz_pick.specs.Looks.{row_decision}
@@ -29,6 +29,10 @@ pub record IsFloorAt (rows : List (Option RowAt)) (floor s : ℕ) : Type 0 where
   pub floor_is : row.floor ≡ floor
   pub name : Name
   pub decided : row_decision row (floor + 1) ≡ Some name
+
+-- no row before this place has the floor
+abbrev pub AreFloorless : List (Option RowAt) → ℕ → ℕ → Type 0
+AreFloorless rows floor at = (s : ℕ) (row : RowAt) → s < at → slice_get rows s ≡ Some (Some row) → row.floor ≢ floor
 
 -- the call asks for no version at or below a known floor
 abbrev pub NoneAskedIn : Target → List (Option RowAt) → Type 0

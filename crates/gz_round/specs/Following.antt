@@ -1,5 +1,5 @@
 -- How a phase reaches its goal, or ends without it, by the rows that are known.
-use Rattle.std.specs.Prelude.{ℕ, ◌≡◌, ◌≤◌, ◌<◌, ◌⊎◌, ◌==◌, Bool, true, false, List, ◌∷◌, ◌++◌, Option, Some, None, slice_get}
+use Rattle.std.specs.Prelude.{ℕ, ◌≡◌, ◌≤◌, ◌<◌, ◌+◌, ◌⊎◌, ◌==◌, Bool, true, false, List, ◌∷◌, ◌++◌, Option, Some, None, slice_get}
 use Rattle.gz_core.specs.Names.{Name}
 use Rattle.gz_core.specs.Rows.{RowAt}
 use Rattle.gz_core.specs.Calls.{key_of}
@@ -26,7 +26,8 @@ use Rattle.gz_round.specs.declared.outcome.Outcome.{Outcome}
 use Rattle.gz_round.specs.declared.outcome.Outcome.TheVariants.{Goes}
 use Rattle.gz_round.specs.Causes.{ComesTo, IsAbsent, IsUnborn, IsCollected, IsTrimmed, is_blank}
 use Rattle.gz_round.specs.Asking.{is_notice, round_of}
-use Rattle.gz_round.specs.Goals.{IsUnmet, IsAboveFloor, IsOvertakenAskably, AreServed}
+use Rattle.gz_round.specs.Goals.{IsUnmet, IsAboveFloor, IsOvertakenAskably, AreServed, working_version}
+use Rattle.gz_round.specs.Evidence.{IsAfterEvidence}
 use Rattle.gz_round.specs.Targets.{target_of, IsAskedFor}
 pub use Rattle.gz_round.specs.Standing.{MayPass, IsVoteNext, AreVotesBelow}
 use Rattle.gz_round.specs.Standing.{Stands, StageStands, AreVotesUpTo, Runs, AreAskedAgain, IsPreparing, IsVoting}
@@ -80,8 +81,8 @@ pub record IsFound (c : Config) (w : Caller) (run : Run) (ms : List Action) (v :
 -- what the rows that are known come to
 abbrev pub NextMeans : Config → Caller → Run → List Action → Next → Type 0
 NextMeans c w run ms Wait = IsUnmet c run run.stage ms
-NextMeans c w run ms (Vote v) = IsVoteNext c w ms v × AreVotesBelow w ms v × NoEvidence c ms v
-NextMeans c w run ms (Skip v) = IsVoteNext c w ms v × IsAboveFloor c ms v × NoneGone c ms v
+NextMeans c w run ms (Vote v) = IsVoteNext c w ms v × AreVotesBelow w ms v × NoEvidence c ms v × (NoneGone c ms v ⊎ IsAfterEvidence c ms v)
+NextMeans c w run ms (Skip v) = IsVoteNext c w ms v × AreVotesBelow w ms v × IsAboveFloor c ms v × (working_version run + 2 ≤ v)
 NextMeans c w run ms (Chosen v) = (1 ≤ v) × IsShown c ms v w.name × ((x : Value) × (w.own ≡ Some x))
 NextMeans c w run ms (Learnt v s) = IsFound c w run ms v s
 NextMeans c w run ms Absent = IsAbsent c w ms

@@ -16,16 +16,29 @@ use Rattle.gz_round.specs.declared.run.Run.{Run}
 use Rattle.gz_round.specs.declared.run.Stage.{Stage}
 use Rattle.gz_round.specs.declared.run.Stage.TheVariants.{Look, Fast, Prepare, Accept}
 use Rattle.gz_core.specs.History.{Action, Caller}
-use Rattle.gz_round.specs.Sites.{site_now, rows_known}
-use Rattle.gz_round.specs.Sent.{is_notice}
+use Rattle.gz_round.specs.Evidence.{NoEvidence, IsAfterEvidence}
+use Rattle.gz_round.specs.Sites.{site_now, rows_known, up_to_rows}
+use Rattle.gz_round.specs.Sent.{is_notice, voted_at}
+use Rattle.gz_round.specs.Shown.{IsCurrent}
 use Rattle.gz_round.specs.Rounds.{promises_known, promises_above, above_known}
-use Rattle.gz_round.specs.Sending.{NoEvidence, NoneGone, IsUndecided, answer_of, made_by}
+use Rattle.gz_round.specs.Sending.{IsUndecided, answer_of, made_by}
 use Rattle.gz_round.specs.Targets.{looked_at}
 use Rattle.gz_round.specs.Counting.{known_count, HasNotice}
 
 -- the version at which the call looks
 abbrev pub looked_in : Run → ℕ
 looked_in run = looked_at run.target (highest_of run.rows)
+
+-- the version at which a phase works; in `Look` it is the one at which the call looks
+abbrev pub version_in : Stage → ℕ → ℕ
+version_in Look looked = looked
+version_in (Fast v) looked = v
+version_in (Prepare v b found) looked = v
+version_in (Accept v b x) looked = v
+
+-- the version that the phase works at
+abbrev pub working_version : Run → ℕ
+working_version run = version_in run.stage (looked_in run)
 
 -- the phase's goal isn't reached
 abbrev pub IsUnmet : Config → Run → Stage → List Action → Type 0
@@ -34,21 +47,29 @@ IsUnmet c run (Fast v) ms = IsUndecided c ms v
 IsUnmet c run (Prepare v b found) ms = IsUndecided c ms v
 IsUnmet c run (Accept v b x) ms = IsUndecided c ms v
 
--- a known row's floor lies two below the version, which follows the one that is decided there
-abbrev pub IsAboveFloor : Config → List Action → ℕ → Type 0
-IsAboveFloor c ms v = (s : ℕ) × (row : RowAt) × (s < c.n) × (rows_known ms s ≡ Some row) × (v ≡ row.floor + 2)
+-- the greatest floor of the known rows lies two below the version, which follows the one that is decided there. It reached the
+-- version at which the call worked: rows of a classic quorum showed nothing above it.
+pub record IsAboveFloor (c : Config) (ms : List Action) (v : ℕ) : Type 0 where
+  pub site : ℕ
+  pub row : RowAt
+  pub inside : site < c.n
+  pub known : rows_known ms site ≡ Some row
+  pub two : v ≡ row.floor + 2
+  pub top : (s : ℕ) (other : RowAt) → s < c.n → rows_known ms s ≡ Some other → other.floor + 2 ≤ v
+  pub current : IsCurrent c ms row.floor
 
 -- a known row has the version collected
 abbrev pub HasGone : Config → List Action → ℕ → Type 0
 HasGone c ms v = (s : ℕ) × (row : RowAt) × (s < c.n) × (rows_known ms s ≡ Some row) × (v ≤ row.floor)
 
--- a call that writes has just begun to vote at the version: at the second one above a floor, whatever is known there, or at one
--- that was collected, after a version of which it had evidence
-abbrev pub IsSkipping : Config → Stage → List Action → Type 0
-IsSkipping c Look ms = ⊥
-IsSkipping c (Fast v) ms = (IsAboveFloor c ms v × NoneGone c ms v) ⊎ (HasGone c ms v × NoEvidence c ms v)
-IsSkipping c (Prepare v b found) ms = ⊥
-IsSkipping c (Accept v b x) ms = ⊥
+-- a call that writes has just begun to vote at the version, and hadn't when the last reply or give-up of a row request came: at
+-- the second one above the greatest floor, whatever is known there, or at one that was collected, after a version of which it had
+-- evidence
+abbrev pub IsSkipping : Config → Caller → Stage → List Action → Type 0
+IsSkipping c w Look ms = ⊥
+IsSkipping c w (Fast v) ms = (voted_at w.name (up_to_rows ms) v ≡ false) × (IsAboveFloor c ms v ⊎ (HasGone c ms v × NoEvidence c ms v × IsAfterEvidence c ms v))
+IsSkipping c w (Prepare v b found) ms = ⊥
+IsSkipping c w (Accept v b x) ms = ⊥
 
 -- a quorum of known rows doesn't promise the call's ballot yet
 abbrev pub IsFewIn : Config → Run → Stage → Type 0

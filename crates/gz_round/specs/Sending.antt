@@ -16,7 +16,6 @@ use Rattle.gz_accept.specs.declared.answers.Step.TheVariants.{Done, Already}
 use Rattle.gz_accept.specs.Steps.{fast_answer, fast_voted, promise_answer, promised, classic_answer, classic_voted, decide_answer, decided, trim_answer, trimmed_to}
 use Rattle.gz_core.specs.Counts.{count_sites}
 use Rattle.gz_pick.specs.Looks.{row_top}
-use Rattle.gz_pick.specs.Evidences.{IsEvident}
 use Rattle.gz_pick.specs.Choices.{pick_of, AreHeardSites}
 use Rattle.gz_pick.specs.declared.heard.Heard.{Heard}
 use Rattle.gz_pick.specs.declared.heard.Pick.TheVariants.{Free}
@@ -25,6 +24,7 @@ use Rattle.gz_round.specs.Causes.{IsChosenOwn, IsLearnt}
 use Rattle.gz_round.specs.LookBack.{before_promise, IsLookedBack}
 use Rattle.gz_round.specs.Rounds.{MayPromise, MayClassicVote, IsPromiseHeard, has_classic_cast, promises_known, promises_above, IsValueKnown}
 use Rattle.gz_core.specs.History.{Asked, Action, Sent, Handed, GaveUp, Rested, GaveIn, Caller, Trace, is_row_request}
+pub use Rattle.gz_round.specs.Evidence.{NoEvidence}
 pub use Rattle.gz_round.specs.Sites.{rows_known}
 use Rattle.gz_round.specs.Sites.{SiteNow, site_now, as_heard, written_by}
 use Rattle.gz_round.specs.Sent.{is_notice, last_promise}
@@ -112,10 +112,6 @@ pub record MaySend (c : Config) (w : Caller) (past : List Trace) (ms : List Acti
 -- row requests rest once the call's own value is chosen, or the call learnt a value
 abbrev pub MayRest : Config → Caller → List Action → Type 0
 MayRest c w ms = ((v : ℕ) × IsChosenOwn c w ms v) ⊎ ((v : ℕ) × (x : Value) × IsLearnt c w ms v x)
-
--- no value is known to be chosen at the version
-abbrev pub NoEvidence : Config → List Action → ℕ → Type 0
-NoEvidence c ms v = (x : Name) → IsEvident c.n c.qc c.qf (rows_known ms) v x → ⊥
 
 -- no row that is known promises a ballot above this one
 abbrev pub NoneAbove : Config → List Action → ℕ → BallotAt → Type 0

@@ -28,6 +28,10 @@ IsShown c ms v x = ((b : BallotAt) × (need c.qc c.qf b ≤ heard_at c (λ r. vo
 abbrev pub IsCurrent : Config → List Action → ℕ → Type 0
 IsCurrent c ms v = c.qc ≤ heard_at c (λ r. nat_le (row_top r) v) ms
 
+-- rows of a classic quorum were heard
+abbrev pub IsQuorumHeard : Config → List Action → Type 0
+IsQuorumHeard c ms = c.qc ≤ heard_at c (λ r. true) ms
+
 -- a row with this floor was heard
 abbrev pub HasFloor : Config → List Action → ℕ → Type 0
 HasFloor c ms floor = 1 ≤ heard_at c (λ r. r.floor == floor) ms

@@ -114,6 +114,19 @@ is_about_rows (GaveUp a) = is_row_request a.op
 is_about_rows Rested = true
 is_about_rows GaveIn = true
 
+-- whether an action says what came of a row request: its reply, or that none is waited for any more
+abbrev pub tells_of_row : Action → Bool
+tells_of_row (Sent a) = false
+tells_of_row (Handed a reply) = is_row_request a.op
+tells_of_row (GaveUp a) = is_row_request a.op
+tells_of_row Rested = false
+tells_of_row GaveIn = false
+
+-- what happened up to the last such action
+abbrev pub up_to_rows : List Action → List Action
+up_to_rows [] = []
+up_to_rows (m ∷ ms) = if tells_of_row m then m ∷ ms else up_to_rows ms
+
 -- each action is of a request for a blob
 abbrev pub AreBlobs : List Action → Type 0
 AreBlobs [] = Unit {0}

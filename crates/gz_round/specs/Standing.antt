@@ -149,7 +149,7 @@ IsWaiting c ms = (s : ℕ) × (a : Asked) × (s < c.n) × ((site_now ms s).await
 pub record Runs (c : Config) (w : Caller) (past : List Trace) (run : Run) (ms : List Action) : Type 0 where
   pub stands : Stands c w past run ms
   pub stage : StageStands c w past run.stage ms
-  pub unmet : IsUnmet c run run.stage ms ⊎ IsSkipping c run.stage ms
+  pub unmet : IsUnmet c run run.stage ms ⊎ IsSkipping c w run.stage ms
   pub few : IsFewIn c run run.stage
   pub ahead : is_overtaken run ≡ false
   pub again : AreAskedAgain c ms

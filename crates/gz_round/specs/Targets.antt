@@ -6,7 +6,7 @@ use Rattle.gz_core.specs.declared.calls.Call.TheVariants.{Put, Delete, Get, GetA
 use Rattle.gz_core.specs.History.{Action}
 use Rattle.gz_round.specs.declared.run.Target.{Target}
 use Rattle.gz_round.specs.declared.run.Target.TheVariants.{Latest, At}
-use Rattle.gz_round.specs.Shown.{IsCurrent}
+use Rattle.gz_round.specs.Shown.{IsCurrent, IsQuorumHeard}
 
 -- the version that a call asks for: that of a number, or the latest one, to read it or to write after it
 abbrev pub target_of : Call → Target
@@ -29,12 +29,13 @@ abbrev pub looked_at : Target → ℕ → ℕ
 looked_at Latest highest = highest
 looked_at (At asked) highest = min asked highest
 
--- a call works at the version that it asks for, or at the latest one, where that lies below
+-- a call works at the version that it asks for, once rows of a classic quorum were heard, or at the latest one, where that lies
+-- below
 abbrev pub IsAim : Config → Target → List Action → ℕ → Type 0
 IsAim c Latest ms v = IsCurrent c ms v
-IsAim c (At asked) ms v = (v ≡ asked) ⊎ ((v < asked) × IsCurrent c ms v)
+IsAim c (At asked) ms v = ((v ≡ asked) × IsQuorumHeard c ms) ⊎ ((v < asked) × IsCurrent c ms v)
 
--- the version is the one that is asked for
+-- the version is the one that is asked for, and rows of a classic quorum were heard
 abbrev pub IsAskedFor : Config → Target → List Action → ℕ → Type 0
 IsAskedFor c Latest ms v = IsCurrent c ms v
-IsAskedFor c (At asked) ms v = v ≡ asked
+IsAskedFor c (At asked) ms v = (v ≡ asked) × IsQuorumHeard c ms

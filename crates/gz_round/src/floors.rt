@@ -1,7 +1,7 @@
 //! The floors of the rows that are known.
 ghost use Rattle.std.specs.Prelude.{◌≡◌, ◌≢◌, ◌≤◌, ◌<◌, ℕ, List, ◌∷◌, Option, Some, slice_get, length, max, min, MatchOption};
 ghost use Rattle.gz_core.specs.Rows.{RowAt, IsRow};
-ghost use Rattle.gz_round.specs.Floors.{top_floor_of, has_floor, AreRows, IsFloorAt};
+ghost use Rattle.gz_round.specs.Floors.{top_floor_of, has_floor, AreRows, IsFloorAt, AreFloorless};
 
 use crate::run::Run;
 use gz_core::{Row, SiteId, Version};
@@ -21,7 +21,8 @@ impl Run {
         requires few { length self.now.rows ≤ 16 }
         requires floor { 1 ≤ floor }
         requires top { floor ≡ top_floor_of self.now.rows }
-        ensures { IsFloorAt self.now.rows floor result }
+        ensures at { IsFloorAt self.now.rows floor result }
+        ensures lowest { AreFloorless self.now.rows floor result }
     {
         match place_with_floor(self.rows.as_slice(), floor) {
             None => unreachable!(),
@@ -77,7 +78,7 @@ fn floor_in(row: &Row) -> Version
 /// The first place at which a row has this floor.
 fn place_with_floor(rows: &[Option<Row>], floor: Version) -> Option<usize>
     requires floor { 1 ≤ floor }
-    ensures { MatchOption result ((s : ℕ) (row : RowAt) → slice_get rows.now s ≡ Some (Some row) → row.floor ≢ floor) (λ at. IsFloorAt rows.now floor at) }
+    ensures { MatchOption result ((s : ℕ) (row : RowAt) → slice_get rows.now s ≡ Some (Some row) → row.floor ≢ floor) (λ at. IsFloorAt rows.now floor at × AreFloorless rows.now floor at) }
 {
     for (at, row) in rows.iter().enumerate() {
         if has_floor(row, floor) {

@@ -8,7 +8,7 @@ ghost use Rattle.gz_round.specs.Floors.{top_floor_of, AreRows, AreNoneAsked, IsA
 ghost use Rattle.gz_round.specs.Following.{IsReady, Ready, NextMeans, MayPass, IsUnwritten, IsStageAt, IsWriteNext};
 ghost use Rattle.gz_round.specs.Targets.{target_of, IsAskedFor};
 ghost use Rattle.gz_config.specs.declared.Config.{Config};
-ghost use Rattle.gz_round.specs.Evidence.{NoneEvident, EvidentAt};
+ghost use Rattle.gz_round.specs.Evidence.{NoneEvident, EvidentAt, NoEvidence};
 ghost use Rattle.gz_round.specs.Standing.{Stands, IsKept};
 
 use crate::run::{Run, Stage, Target};
@@ -184,12 +184,13 @@ impl Run {
     fn after_floor(&self, version: Version, floor: Version) -> Next
         requires low { floor + 2 < 2 ^ 63 }
         requires few { length self.now.rows ≤ 16 }
+        requires stage { IsStageAt self.now.stage version }
         requires rows { AreRows self.now.rows }
         requires above { 1 ≤ version }
         requires at { version ≤ floor }
         requires top { floor ≡ top_floor_of self.now.rows }
         ensures { (c : Config) (w : Caller) (past : List Trace) (ms : List Action) → Stands c w past self.now ms → MayPass c w ms version
-            → NextMeans c w self.now ms result }
+            → NoEvidence c ms version → NextMeans c w self.now ms result }
     {
         if self.own.is_some() {
             return self.skip_or_end(version, floor);
@@ -203,13 +204,14 @@ impl Run {
     /// A call that writes goes on two above the floor, where it didn't vote at the version.
     fn skip_or_end(&self, version: Version, floor: Version) -> Next
         requires low { floor + 2 < 2 ^ 63 }
+        requires stage { IsStageAt self.now.stage version }
         requires rows { AreRows self.now.rows }
         requires above { 1 ≤ version }
         requires at { version ≤ floor }
         requires top { floor ≡ top_floor_of self.now.rows }
         requires own { IsSome self.now.own }
         ensures { (c : Config) (w : Caller) (past : List Trace) (ms : List Action) → Stands c w past self.now ms → MayPass c w ms version
-            → NextMeans c w self.now ms result }
+            → NoEvidence c ms version → NextMeans c w self.now ms result }
     {
         if self.has_voted_last(version) {
             return Next::Trimmed { floor };

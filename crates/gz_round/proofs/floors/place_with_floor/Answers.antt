@@ -11,7 +11,7 @@ loop-at-preserved c =
 pub returns-then-has_floor : goal.returns-then-has_floor
 returns-then-has_floor c =
     let there = slice_get_read c.args.rows.now (length c.args.rows.now) c.loop-at.at c.index-rows-at.result refl (omega arith) c.index-rows-at.is in
-    floor_at c.args.rows.now c.args.floor c.loop-at.at c.index-rows-at.result there c.has_floor.ensures.row (sym c.has_floor.ensures.same ∙ c.if-has_floor.true) c.requires.floor
+    (floor_at c.args.rows.now c.args.floor c.loop-at.at c.index-rows-at.result there c.has_floor.ensures.row (sym c.has_floor.ensures.same ∙ c.if-has_floor.true) c.requires.floor, c.loop-at.invariant)
 
 pub returns : goal.returns
 returns c = λ s row e. c.loop-at.invariant s row (omega (arith, slice_get_within c.args.rows.now s _ e)) e

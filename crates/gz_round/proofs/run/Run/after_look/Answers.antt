@@ -13,4 +13,4 @@ pub returns-in-Some : goal.returns-in-Some
 returns-in-Some c = λ w past ms r.
     let counted = known_counted c.args.config.now c.args.self.now ms r.stands.knows in
     let quorums = c.requires.config.quorums in
-    collected_means c.args.config.now w past c.args.self.now ms c.in-Some.floor r.stands c.in-Some.ensures (omega arith)
+    collected_means c.args.config.now w past c.args.self.now ms c.in-Some.floor r.stands c.in-Some.ensures (omega arith) (omega arith)

@@ -5,7 +5,7 @@ use Rattle.gz_round.proofs.run.Run.close.Goals as goal
 pub returns-clause-turned : goal.returns-clause-turned
 returns-clause-turned c = λ w past ms r comes.
     let done = c.in_ok-send.ensures.asked w past ms (record { stands = r.stands; may = tt; held = tt; unnoticed = r.unnoticed }) in
-    close_turned c.args.config.now w past c.args.self.now c.first_pass.new.self ms c.args.first c.in_ok-send.send c.args.outcome r.stands comes done c.in_ok-send.ensures.left
+    close_turned c.args.config.now w past c.args.self.now c.first_pass.new.self ms c.args.first c.in_ok-send.send c.args.outcome r.stands comes done c.in_ok-send.ensures.left (c.in_ok-send.ensures.stepless tt)
 
 pub returns-clause-ends : goal.returns-clause-ends
 returns-clause-ends c = c.in_ok-send.ensures.stepless tt

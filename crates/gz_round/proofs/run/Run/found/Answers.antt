@@ -9,7 +9,7 @@ returns-in-Latest c = λ w past ms h m. latest_found c.args.config.now w past c.
 pub returns-then-eq : goal.returns-then-eq
 returns-then-eq c =
     let same : c.in-At.asked ≡ c.args.version = search rules in
-    λ w past ms h m. number_found c.args.config.now w past c.args.self.now ms c.args.version c.args.site h c.requires.evident (c.in-At.is ∙ ap (λ v. At v) same)
+    λ w past ms h m. number_found c.args.config.now w past c.args.self.now ms c.args.version c.args.site h m c.requires.evident (c.in-At.is ∙ ap (λ v. At v) same)
 
 pub returns-else-eq : goal.returns-else-eq
 returns-else-eq c =

@@ -6,4 +6,4 @@ use Rattle.gz_round.proofs.run.Run.learn_above.Goals as goal
 
 pub returns : goal.returns
 returns c = λ k w past ms h asked.
-    subst (λ v. NextMeans k w c.args.self.now ms (LearntNext v c.site_with_floor.result)) (sym c.next.ensures) (above_learnt k w past c.args.self.now ms c.args.floor c.site_with_floor.result h asked c.requires.own c.site_with_floor.ensures)
+    subst (λ v. NextMeans k w c.args.self.now ms (LearntNext v c.site_with_floor.result)) (sym c.next.ensures) (above_learnt k w past c.args.self.now ms c.args.floor c.site_with_floor.result h asked c.requires.own c.site_with_floor.ensures.at)

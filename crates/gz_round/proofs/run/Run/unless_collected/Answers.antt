@@ -25,4 +25,4 @@ returns-in-None c = λ w past ms r.
     unmet_at c.args.config.now c.args.self.now ms c.args.version c.args.self.now.stage c.requires.stage (record { evident = none_evident c.args.config.now c.args.self.now ms r.stands.knows c.args.version c.requires.none; gone = none_gone c.args.config.now c.args.self.now ms c.args.version r.stands.knows c.in-None.ensures.floor })
 
 pub returns-in-Some : goal.returns-in-Some
-returns-in-Some c = λ w past ms r. c.after_floor.ensures c.args.config.now w past ms r.stands (pass_at c.args.config.now w past ms c.args.version c.args.self.now.stage r.stands.writes c.requires.stage r.stage)
+returns-in-Some c = λ w past ms r. c.after_floor.ensures c.args.config.now w past ms r.stands (pass_at c.args.config.now w past ms c.args.version c.args.self.now.stage r.stands.writes c.requires.stage r.stage) (none_evident c.args.config.now c.args.self.now ms r.stands.knows c.args.version c.requires.none)
