@@ -1,4 +1,4 @@
-//! The program `giza`: it replays a schedule in a world of sites in memory and prints the log, or cuts bytes into the pieces of
+//! The program `giza`: it replays a schedule in a world of sites in memory and prints the log, judges a log, or cuts bytes into the pieces of
 //! a code.
 #![tactic(auto)]
 

@@ -1,7 +1,9 @@
+mod CheckLemmas
 mod CodeLemmas
 mod PlayLemmas
 mod ReplayLemmas
 mod RunLemmas
 mod TellLemmas
 mod TextLemmas
+mod Unbroken
 mod WorldLemmas

@@ -7,8 +7,9 @@ use Rattle.gz_site.specs.Files.{Exceeds}
 use Rattle.gz_text.specs.declared.faults.Fault.{Fault}
 use Rattle.gz_text.specs.declared.faults.Fault.TheVariants as faults
 use Rattle.gz_lines.specs.Schedule.{readings, AreFaultless, IsFirstFault, fault_at}
+use Rattle.gz_words.specs.Words.{replay}
 use Rattle.gz_cli.specs.declared.status.Status.{Status}
-use Rattle.gz_cli.specs.declared.status.Status.TheVariants.{Done, Usage, ShelfFault, NoFile, FileTooLarge, BadConfig, BadText, TooLong, Full, SinkFault, NoMemory}
+use Rattle.gz_cli.specs.declared.status.Status.TheVariants.{Done, NotLegal, Usage, ShelfFault, NoFile, FileTooLarge, BadConfig, BadText, TooLong, Full, SinkFault, NoMemory}
 use Rattle.gz_cli.specs.Inputs.{Files, FileIs, IsFaultAt, IsMisconfigured, IsWanted, TellsBytes, IsPlayable, IsSetting, CanConfigure}
 use Rattle.gz_cli.specs.Causes.{Counts, Cause, AreSteady, IsPossibleEnd}
 
@@ -31,17 +32,17 @@ wanted-told : (files : Files) (schedule : List ℕ) (config : Option (List ℕ))
 wanted-told files schedule config n can good (inl named) = setting-told files config n can named
 wanted-told files schedule config n can good (inr other) = schedule-told files schedule n good other.0
 
-not-absent : (files : Files) (name bytes : List ℕ) → TellsBytes files name bytes → FileIs files name (λ file. file ≡ None) → ⊥
+pub not-absent : (files : Files) (name bytes : List ℕ) → TellsBytes files name bytes → FileIs files name (λ file. file ≡ None) → ⊥
 not-absent None name bytes tells absent = tells
 not-absent (Some files) name bytes tells absent = cc
 
-not-large : (files : Files) (name bytes : List ℕ) → TellsBytes files name bytes → length bytes ≤ 67108864 → FileIs files name (λ file. Exceeds file 67108864) → ⊥
+pub not-large : (files : Files) (name bytes : List ℕ) → TellsBytes files name bytes → length bytes ≤ 67108864 → FileIs files name (λ file. Exceeds file 67108864) → ⊥
 not-large None name bytes tells within large = tells
 not-large (Some files) name bytes tells within large =
     let above : 67108864 < length bytes = subst (λ (file : Option (List ℕ)). Exceeds file 67108864) tells large in
     omega arith
 
-same-bytes : (files : Files) (name bytes others : List ℕ) → TellsBytes files name bytes → FileIs files name (λ file. file ≡ Some others) → others ≡ bytes
+pub same-bytes : (files : Files) (name bytes others : List ℕ) → TellsBytes files name bytes → FileIs files name (λ file. file ≡ Some others) → others ≡ bytes
 same-bytes None name bytes others tells is = absurd tells
 same-bytes (Some files) name bytes others tells is = cc
 
@@ -69,8 +70,9 @@ not-faulty-in files name bytes line fault tells faultless faulty =
 
 -- files that can be played give Done, or the world was full, or memory ran out
 pub replay-completes : (files : Files) (schedule : List ℕ) (config : Option (List ℕ)) (old new : Counts) (status : Status) → Cause files schedule config old new status
-    → CanConfigure files config → IsPlayable files schedule → AreSteady old new → IsPossibleEnd status
+    → CanConfigure files config → IsPlayable files schedule → AreSteady old new → IsPossibleEnd (Some (replay schedule config)) files status
 replay-completes files schedule config old new Done cause can good steady = tt
+replay-completes files schedule config old new (NotLegal clause a b) cause can good steady = cause
 replay-completes files schedule config old new Usage cause can good steady = cause
 replay-completes files schedule config old new (ShelfFault n) cause can good steady = steady.shelf cause.1
 replay-completes files schedule config old new (NoFile n) cause can good steady =

@@ -3,6 +3,9 @@ use Rattle.std.specs.Prelude.{ℕ, ◌⊎◌, ◌≡◌, ◌≤◌, List, Option
 use Rattle.gz_core.specs.Causes.{Rose}
 use Rattle.gz_core.specs.declared.texts.TextError.{TextError}
 use Rattle.gz_core.specs.declared.texts.TextError.TheVariants.{Bad, TooLong as TextTooLong, NoMemory as NoTextMemory}
+use Rattle.gz_history.specs.Broken.{IsFirstBroken}
+use Rattle.gz_history.specs.Legal.{IsLegal}
+use Rattle.gz_history.specs.declared.record.CallRec.{CallRec}
 use Rattle.gz_settings.specs.declared.refusal.ConfigText.{ConfigText}
 use Rattle.gz_settings.specs.declared.refusal.ConfigText.TheVariants.{NotToml, UnknownKey, Kind, Rule, NoMemory as NoConfigMemory}
 use Rattle.gz_site.specs.Files.{Exceeds}
@@ -12,10 +15,10 @@ use Rattle.gz_site.specs.declared.sinks.SinkError.{SinkError}
 use Rattle.gz_site.specs.declared.sinks.SinkError.TheVariants.{Failed as SinkFailed, NoMemory as NoSinkMemory}
 use Rattle.gz_text.specs.declared.faults.Fault.{Fault}
 use Rattle.gz_text.specs.declared.faults.Fault.TheVariants as faults
-use Rattle.gz_words.specs.Words.{Task, replay, code}
-use Rattle.gz_cli.specs.Inputs.{Files, FileIs, IsMisconfigured, IsConfigured, IsFaultAt, IsLoaded, IsWanted, IsPlayable, CanConfigure}
+use Rattle.gz_words.specs.Words.{Task, replay, check, code}
+use Rattle.gz_cli.specs.Inputs.{Files, FileIs, IsMisconfigured, IsConfigured, IsFaultAt, IsLoaded, IsWanted, IsPlayable, CanConfigure, IsLogFaultAt, IsLegalLog, IsBrokenLog, IsReadableLog}
 use Rattle.gz_cli.specs.declared.status.Status.{Status}
-use Rattle.gz_cli.specs.declared.status.Status.TheVariants.{Done, Usage, ShelfFault, NoFile, FileTooLarge, BadConfig, BadText, TooLong, Full, SinkFault, NoMemory}
+use Rattle.gz_cli.specs.declared.status.Status.TheVariants.{Done, NotLegal, Usage, ShelfFault, NoFile, FileTooLarge, BadConfig, BadText, TooLong, Full, SinkFault, NoMemory}
 
 -- the counts of what was handed in: faults of the shelf, files that were not there, files above the limit, and
 -- faults of the sink
@@ -34,6 +37,7 @@ pub record NoneFell (old new : Counts) : Type 0 where
 -- the status of a file that could not be read, by what the shelf answered
 abbrev pub ShelfCause : List ℕ → ShelfError → Status → Type 0
 ShelfCause name error Done = ⊥
+ShelfCause name error (NotLegal clause a b) = ⊥
 ShelfCause name error Usage = ⊥
 ShelfCause name error (ShelfFault n) = (n ≡ name) × (error ≡ Failed)
 ShelfCause name error (NoFile n) = (n ≡ name) × (error ≡ NoSuch)
@@ -49,6 +53,7 @@ ShelfCause name error NoMemory = Unit {0}
 -- refused as a configuration and as a schedule
 abbrev pub FileCause : Files → List ℕ → Counts → Counts → (ConfigText → Type 0) → (ℕ → Fault → Type 0) → Status → Type 0
 FileCause files name old new Refused Faulty Done = ⊥
+FileCause files name old new Refused Faulty (NotLegal clause a b) = ⊥
 FileCause files name old new Refused Faulty Usage = ⊥
 FileCause files name old new Refused Faulty (ShelfFault n) = (n ≡ name) × Rose old.faults new.faults
 FileCause files name old new Refused Faulty (NoFile n) = (n ≡ name) × (Rose old.absences new.absences × FileIs files name (λ file. file ≡ None))
@@ -71,6 +76,10 @@ ConfigCause files name old new status = FileCause files name old new (IsMisconfi
 -- the file gave no lines
 abbrev pub LoadCause : Files → List ℕ → Counts → Counts → Status → Type 0
 LoadCause files name old new status = FileCause files name old new (λ why. ⊥) (IsFaultAt files name) status
+
+-- the file gave no calls
+abbrev pub LogCause : Files → List ℕ → Counts → Counts → Status → Type 0
+LogCause files name old new status = FileCause files name old new (λ why. ⊥) (IsLogFaultAt files name) status
 
 -- the same of a configuration that need not be named
 abbrev pub SettingCause : Files → Option (List ℕ) → Counts → Counts → Status → Type 0
@@ -95,6 +104,7 @@ text_status NoTextMemory = NoMemory
 -- files can have only one
 abbrev pub RefusalCause : Files → List ℕ → Option (List ℕ) → Counts → Counts → Status → Type 0
 RefusalCause files schedule config old new Done = ⊥
+RefusalCause files schedule config old new (NotLegal clause a b) = ⊥
 RefusalCause files schedule config old new Usage = ⊥
 RefusalCause files schedule config old new (ShelfFault n) = IsWanted files schedule config n × Rose old.faults new.faults
 RefusalCause files schedule config old new (NoFile n) = IsWanted files schedule config n × (Rose old.absences new.absences × FileIs files n (λ file. file ≡ None))
@@ -109,6 +119,7 @@ RefusalCause files schedule config old new NoMemory = Unit {0}
 -- the cause of each status of a replay: each comes exactly where its cause does, want of memory aside
 abbrev pub Cause : Files → List ℕ → Option (List ℕ) → Counts → Counts → Status → Type 0
 Cause files schedule config old new Done = IsLoaded files schedule config
+Cause files schedule config old new (NotLegal clause a b) = ⊥
 Cause files schedule config old new Usage = ⊥
 Cause files schedule config old new (ShelfFault n) = RefusalCause files schedule config old new (ShelfFault n)
 Cause files schedule config old new (NoFile n) = RefusalCause files schedule config old new (NoFile n)
@@ -123,6 +134,7 @@ Cause files schedule config old new NoMemory = Unit {0}
 -- the cause of a status once the output is known, over the sink's count of faults before and after
 abbrev pub WriteCause : ℕ → ℕ → Status → Type 0
 WriteCause old new Done = Unit {0}
+WriteCause old new (NotLegal clause a b) = ⊥
 WriteCause old new Usage = ⊥
 WriteCause old new (ShelfFault name) = ⊥
 WriteCause old new (NoFile name) = ⊥
@@ -137,6 +149,7 @@ WriteCause old new NoMemory = Unit {0}
 -- the cause of a status once the lines are known, over the sink's count of faults before and after
 abbrev pub PlayCause : ℕ → ℕ → Status → Type 0
 PlayCause old new Done = Unit {0}
+PlayCause old new (NotLegal clause a b) = ⊥
 PlayCause old new Usage = ⊥
 PlayCause old new (ShelfFault name) = ⊥
 PlayCause old new (NoFile name) = ⊥
@@ -148,11 +161,42 @@ PlayCause old new (Full events held) = Unit {0}
 PlayCause old new SinkFault = Rose old new
 PlayCause old new NoMemory = Unit {0}
 
--- the cause of a status over the words: they ask for a replay or a code, or are of no form. Words of a form are never
+-- the cause of a status once the calls of a log are known, over the sink's count of faults before and after
+abbrev pub JudgeCause : List CallRec → ℕ → ℕ → Status → Type 0
+JudgeCause calls old new Done = IsLegal calls
+JudgeCause calls old new (NotLegal clause a b) = IsFirstBroken calls (record { clause = clause; a = a; b = b })
+JudgeCause calls old new Usage = ⊥
+JudgeCause calls old new (ShelfFault n) = ⊥
+JudgeCause calls old new (NoFile n) = ⊥
+JudgeCause calls old new (FileTooLarge n) = ⊥
+JudgeCause calls old new (BadConfig why) = ⊥
+JudgeCause calls old new (BadText line why) = ⊥
+JudgeCause calls old new (TooLong line) = ⊥
+JudgeCause calls old new (Full events held) = ⊥
+JudgeCause calls old new SinkFault = IsLegal calls × Rose old new
+JudgeCause calls old new NoMemory = IsLegal calls
+
+-- the cause of each status of a check: each comes exactly where its cause does, want of memory aside
+abbrev pub CheckCause : Files → List ℕ → Counts → Counts → Status → Type 0
+CheckCause files log old new Done = IsLegalLog files log
+CheckCause files log old new (NotLegal clause a b) = IsBrokenLog files log (record { clause = clause; a = a; b = b })
+CheckCause files log old new Usage = ⊥
+CheckCause files log old new (ShelfFault n) = LogCause files log old new (ShelfFault n)
+CheckCause files log old new (NoFile n) = LogCause files log old new (NoFile n)
+CheckCause files log old new (FileTooLarge n) = LogCause files log old new (FileTooLarge n)
+CheckCause files log old new (BadConfig why) = ⊥
+CheckCause files log old new (BadText line why) = LogCause files log old new (BadText line why)
+CheckCause files log old new (TooLong line) = LogCause files log old new (TooLong line)
+CheckCause files log old new (Full events held) = ⊥
+CheckCause files log old new SinkFault = IsLegalLog files log × Rose old.sink new.sink
+CheckCause files log old new NoMemory = Unit {0}
+
+-- the cause of a status over the words: they ask for a replay, a check or a code, or are of no form. Words of a form are never
 -- refused as usage, so each status comes exactly where its cause does, want of memory aside
 abbrev pub RunCause : Option Task → Files → Counts → Counts → Status → Type 0
 RunCause None files old new status = (status ≡ Usage) ⊎ (status ≡ NoMemory)
 RunCause (Some (replay schedule config)) files old new status = Cause files schedule config old new status
+RunCause (Some (check log)) files old new status = CheckCause files log old new status
 RunCause (Some (code k m digits)) files old new status = WriteCause old.sink new.sink status
 
 -- the status of an output that could not be written
@@ -163,6 +207,7 @@ sink_status NoSinkMemory = NoMemory
 -- the input was refused: nothing was played
 abbrev pub IsRefusal : Status → Type 0
 IsRefusal Done = ⊥
+IsRefusal (NotLegal clause a b) = Unit {0}
 IsRefusal Usage = Unit {0}
 IsRefusal (ShelfFault name) = Unit {0}
 IsRefusal (NoFile name) = Unit {0}
@@ -177,6 +222,7 @@ IsRefusal NoMemory = ⊥
 -- the schedule was played to its end
 abbrev pub HasPlayed : Status → Type 0
 HasPlayed Done = Unit {0}
+HasPlayed (NotLegal clause a b) = ⊥
 HasPlayed Usage = ⊥
 HasPlayed (ShelfFault name) = ⊥
 HasPlayed (NoFile name) = ⊥
@@ -188,10 +234,11 @@ HasPlayed (Full events held) = ⊥
 HasPlayed SinkFault = Unit {0}
 HasPlayed NoMemory = ⊥
 
--- the words ask for a replay of a file that can be played, under a configuration that can be had, or for a code
+-- the words ask for a replay of a file that can be played, under a configuration that can be had, for the check of a log, or for a code
 abbrev pub IsFeasible : Option Task → Files → Type 0
 IsFeasible None files = ⊥
 IsFeasible (Some (replay schedule config)) files = CanConfigure files config × IsPlayable files schedule
+IsFeasible (Some (check log)) files = IsReadableLog files log
 IsFeasible (Some (code k m digits)) files = Unit {0}
 
 -- no count of faults rose
@@ -199,16 +246,24 @@ pub record AreSteady (old new : Counts) : Type 0 where
   pub shelf : Rose old.faults new.faults → ⊥
   pub sink : Rose old.sink new.sink → ⊥
 
--- a run that can be done ends so: it was done, the world was full, or memory ran out
-abbrev pub IsPossibleEnd : Status → Type 0
-IsPossibleEnd Done = Unit {0}
-IsPossibleEnd Usage = ⊥
-IsPossibleEnd (ShelfFault name) = ⊥
-IsPossibleEnd (NoFile name) = ⊥
-IsPossibleEnd (FileTooLarge name) = ⊥
-IsPossibleEnd (BadConfig why) = ⊥
-IsPossibleEnd (BadText line why) = ⊥
-IsPossibleEnd (TooLong line) = ⊥
-IsPossibleEnd (Full events held) = Unit {0}
-IsPossibleEnd SinkFault = ⊥
-IsPossibleEnd NoMemory = Unit {0}
+-- the words ask for the check of a file that is no legal log
+abbrev pub ChecksIllegal : Option Task → Files → Type 0
+ChecksIllegal None files = ⊥
+ChecksIllegal (Some (replay schedule config)) files = ⊥
+ChecksIllegal (Some (check log)) files = IsLegalLog files log → ⊥
+ChecksIllegal (Some (code k m digits)) files = ⊥
+
+-- a run that can be done ends so: it was done, the log isn't legal, the world was full, or memory ran out
+abbrev pub IsPossibleEnd : Option Task → Files → Status → Type 0
+IsPossibleEnd task files Done = Unit {0}
+IsPossibleEnd task files (NotLegal clause a b) = ChecksIllegal task files
+IsPossibleEnd task files Usage = ⊥
+IsPossibleEnd task files (ShelfFault name) = ⊥
+IsPossibleEnd task files (NoFile name) = ⊥
+IsPossibleEnd task files (FileTooLarge name) = ⊥
+IsPossibleEnd task files (BadConfig why) = ⊥
+IsPossibleEnd task files (BadText line why) = ⊥
+IsPossibleEnd task files (TooLong line) = ⊥
+IsPossibleEnd task files (Full events held) = Unit {0}
+IsPossibleEnd task files SinkFault = ⊥
+IsPossibleEnd task files NoMemory = Unit {0}

@@ -1,4 +1,4 @@
--- What the files of a run give: a configuration, and the lines of a schedule.
+-- What the files of a run give: a configuration, the lines of a schedule, and the calls of a log.
 use Rattle.std.specs.Prelude.{ℕ, ◌≡◌, ◌≤◌, ◌⊎◌, List, length, filter_map, Option, Some, None, Ok, Err}
 use Rattle.gz_config.specs.declared.Config.{Config}
 use Rattle.gz_config.specs.declared.Order.TheVariants.{Parallel}
@@ -7,6 +7,11 @@ use Rattle.gz_settings.specs.declared.refusal.ConfigText.{ConfigText}
 use Rattle.gz_lines.specs.Schedule.{readings, line_of, AreFaultless, IsFirstFault}
 use Rattle.gz_lines.specs.declared.line.Line.{Line}
 use Rattle.gz_text.specs.declared.faults.Fault.{Fault}
+use Rattle.gz_history.specs.Broken.{IsFirstBroken}
+use Rattle.gz_history.specs.Legal.{IsLegal}
+use Rattle.gz_history.specs.declared.legality.Broken.{Broken}
+use Rattle.gz_history.specs.declared.record.CallRec.{CallRec}
+use Rattle.gz_logs.specs.Parsed.{Log, parsed}
 
 -- the files of a shelf, none where it does not tell them
 abbrev pub Files : Type 0
@@ -85,3 +90,31 @@ pub record IsSetting (files : Files) (name : List ℕ) : Type 0 where
 abbrev pub CanConfigure : Files → Option (List ℕ) → Type 0
 CanConfigure files None = Unit {0}
 CanConfigure files (Some name) = IsSetting files name
+
+-- the bytes spell a log of these calls
+abbrev pub SpellsCalls : List ℕ → List CallRec → Type 0
+SpellsCalls bytes calls = (events skipped : ℕ) × (parsed bytes ≡ Ok (record { calls = calls; events = events; skipped = skipped }))
+
+-- the file is a log of these calls
+abbrev pub LoadsLog : Files → List ℕ → List CallRec → Type 0
+LoadsLog files name calls = (bytes : List ℕ) × (HasBytes files name bytes × SpellsCalls bytes calls)
+
+-- this line of the file is the first that keeps it from being a log, and has this fault
+abbrev pub IsLogFaultAt : Files → List ℕ → ℕ → Fault → Type 0
+IsLogFaultAt files name line fault = (bytes : List ℕ) × (HasBytes files name bytes × (parsed bytes ≡ Err (record { line = line; fault = fault })))
+
+-- the file is a legal log
+abbrev pub IsLegalLog : Files → List ℕ → Type 0
+IsLegalLog files name = (calls : List CallRec) × (LoadsLog files name calls × IsLegal calls)
+
+-- the file is a log that isn't legal, and this is where it is first broken
+abbrev pub IsBrokenLog : Files → List ℕ → Broken → Type 0
+IsBrokenLog files name broken = (calls : List CallRec) × (LoadsLog files name calls × IsFirstBroken calls broken)
+
+-- the shelf tells the file, which is within the limit and is a log
+pub record IsReadableLog (files : Files) (name : List ℕ) : Type 0 where
+  pub bytes : List ℕ
+  pub file : TellsBytes files name bytes
+  pub within : length bytes ≤ 67108864
+  pub log : Log
+  pub reads : parsed bytes ≡ Ok log

@@ -1,4 +1,5 @@
 pub mod Causes
+pub mod Checks
 pub mod Codes
 pub mod Inputs
 pub mod Runs

@@ -1,11 +1,12 @@
 -- The number with which the program ends.
 use Rattle.std.specs.Prelude.{ℕ}
 use Rattle.gz_cli.specs.declared.status.Status.{Status}
-use Rattle.gz_cli.specs.declared.status.Status.TheVariants.{Done, Usage, ShelfFault, NoFile, FileTooLarge, BadConfig, BadText, TooLong, Full, SinkFault, NoMemory}
+use Rattle.gz_cli.specs.declared.status.Status.TheVariants.{Done, NotLegal, Usage, ShelfFault, NoFile, FileTooLarge, BadConfig, BadText, TooLong, Full, SinkFault, NoMemory}
 
 -- the program's exit status, by how a run ends
 abbrev pub exit_number : Status → ℕ
 exit_number Done = 0
+exit_number (NotLegal clause a b) = 1
 exit_number Usage = 2
 exit_number (ShelfFault name) = 3
 exit_number (NoFile name) = 4

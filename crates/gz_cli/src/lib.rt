@@ -1,8 +1,9 @@
-//! What the program does: it reads a configuration and replays a schedule in a world of sites, and writes the log of its calls, or
-//! it cuts bytes into the pieces of a code. The program itself is the crate `giza`.
+//! What the program does: it reads a configuration and replays a schedule in a world of sites, and writes the log of its calls,
+//! it judges a log, or it cuts bytes into the pieces of a code. The program itself is the crate `giza`.
 #![tactic(auto)]
 
 pub mod bench;
+mod check;
 pub mod edge;
 mod load;
 mod output;

@@ -1,12 +1,15 @@
-//! A configuration and a schedule are read from a shelf.
+//! A configuration, a schedule and a log are read from a shelf.
 ghost use Rattle.std.specs.Prelude.{◌≡◌, Some, IfOk, IfErr, All, option_map};
 ghost use Rattle.gz_config.specs.Configurations.{IsConfig};
+ghost use Rattle.gz_history.specs.Broken.{IsHistory};
 ghost use Rattle.gz_lines.specs.Schedule.{IsBoundedLine};
-ghost use Rattle.gz_cli.specs.Inputs.{HasBytes, Configures, Loads};
-ghost use Rattle.gz_cli.specs.Causes.{NoneFell, RefusalCause, UnreadCause, ConfigCause, SettingCause, LoadCause, ShelfCause, config_status, text_status};
+ghost use Rattle.gz_cli.specs.Inputs.{HasBytes, Configures, Loads, LoadsLog};
+ghost use Rattle.gz_cli.specs.Causes.{NoneFell, RefusalCause, UnreadCause, ConfigCause, SettingCause, LoadCause, LogCause, ShelfCause, config_status, text_status};
 
 use crate::status::Status;
 use gz_core::{Config, TextError, Word};
+use gz_history::CallRec;
+use gz_logs::parse_log;
 use gz_script::{Line, read_schedule};
 use gz_settings::{ConfigText, read_config};
 use gz_site::{Shelf, ShelfError};
@@ -95,6 +98,21 @@ fn lines<F: Shelf>(alloc: Global, name: &str, shelf: &mut F) -> Result<Vec<Line>
     }
 }
 
+/// The calls of the log in a file, or the status that says why there are none.
+pub fn calls<F: Shelf>(alloc: Global, name: &str, shelf: &mut F) -> Result<Vec<CallRec>, Status>
+    ensures loads { IfOk result (λ calls. LoadsLog (F.files shelf.old) name.now calls.items) }
+    ensures history { IfOk result (λ calls. IsHistory calls.items) }
+    ensures cause { IfErr result (LogCause (F.files shelf.old) name.now (record { faults = F.faults shelf.old; absences = F.absences shelf.old; excesses = F.excesses shelf.old; sink = 0 }) (record { faults = F.faults shelf.new; absences = F.absences shelf.new; excesses = F.excesses shelf.new; sink = 0 })) }
+{
+    match read(alloc, name, shelf) {
+        Ok(bytes) => match parse_log(alloc, bytes.as_slice()) {
+            Ok(calls) => Ok(calls),
+            Err(error) => Err(bad_text(error)),
+        },
+        Err(status) => Err(status),
+    }
+}
+
 /// The bytes of a file, or the status that says why there are none.
 fn read<F: Shelf>(alloc: Global, name: &str, shelf: &mut F) -> Result<Vec<u8>, Status>
     ensures bytes { IfOk result (λ bytes. HasBytes (F.files shelf.old) name.now bytes.items) }
@@ -134,7 +152,7 @@ fn bad_config(why: ConfigText) -> Status
     }
 }
 
-/// The status of a text that is no schedule.
+/// The status of a text that is no schedule, or no log.
 fn bad_text(error: TextError) -> Status
     ensures { result ≡ text_status error }
 {

@@ -6,10 +6,11 @@ ghost use Rattle.gz_site.specs.Files.{IsSomePart};
 ghost use Rattle.gz_words.specs.Words.{task_in};
 ghost use Rattle.gz_world.specs.Told.{IsReachedBy};
 ghost use Rattle.gz_cli.specs.Causes.{Cause, RunCause, IsFeasible, AreSteady, IsPossibleEnd, IsRefusal};
-ghost use Rattle.gz_cli.specs.Runs.{Replays, WritesOutput, FillsUp, Fills, IsCutShort, IsRunCut, IsCode, Whole};
+ghost use Rattle.gz_cli.specs.Runs.{Replays, WritesOutput, FillsUp, Fills, IsCutShort, IsRunCut, IsCode, IsCheck, Whole};
 ghost use Rattle.gz_cli.specs.Worlds.{AreFresh, AllTellAt, AgreesBy, log_of_world};
 
 use crate::bench::Bench;
+use crate::check::check;
 use crate::load::load;
 use crate::pieces::write_pieces;
 use crate::replay::replay_lines;
@@ -19,8 +20,8 @@ use gz_site::{Shelf, Sink, Site};
 use gz_words::{Command, command_of, texts_of};
 use std::alloc::Global;
 
-/// Does what the words ask for: plays a schedule in a world over the bench's sites and writes the log of its calls, or
-/// cuts bytes into pieces and writes a line for each.
+/// Does what the words ask for: plays a schedule in a world over the bench's sites and writes the log of its calls,
+/// judges a log and writes the number of its calls, or cuts bytes into pieces and writes a line for each.
 ///
 /// A refusal leaves the bench as it was, and writes nothing. Once a world was opened, the bench holds it, with the sites
 /// in it.
@@ -38,9 +39,10 @@ pub fn run<F: Shelf, O: Sink, S: Site>(
     ensures usage { result ≡ Status.Usage → task_in words.now ≡ None }
     ensures formless { task_in words.now ≡ None → (result ≡ Status.Usage) ⊎ (result ≡ Status.NoMemory) }
     ensures cause { RunCause (task_in words.now) (F.files shelf.old) (record { faults = F.faults shelf.old; absences = F.absences shelf.old; excesses = F.excesses shelf.old; sink = O.faults out.old }) (record { faults = F.faults shelf.new; absences = F.absences shelf.new; excesses = F.excesses shelf.new; sink = O.faults out.new }) result }
-    ensures complete { IsFeasible (task_in words.now) (F.files shelf.old) → AreSteady (record { faults = F.faults shelf.old; absences = F.absences shelf.old; excesses = F.excesses shelf.old; sink = O.faults out.old }) (record { faults = F.faults shelf.new; absences = F.absences shelf.new; excesses = F.excesses shelf.new; sink = O.faults out.new }) → IsPossibleEnd result }
+    ensures complete { IsFeasible (task_in words.now) (F.files shelf.old) → AreSteady (record { faults = F.faults shelf.old; absences = F.absences shelf.old; excesses = F.excesses shelf.old; sink = O.faults out.old }) (record { faults = F.faults shelf.new; absences = F.absences shelf.new; excesses = F.excesses shelf.new; sink = O.faults out.new }) → IsPossibleEnd (task_in words.now) (F.files shelf.old) result }
 
-    // What Done means: the lines were played and the whole log of their world written, or the whole text of the pieces.
+    // What Done means: the lines were played and the whole log of their world written, a log is legal and the number of its calls was
+    // written, or the whole text of the pieces.
     ensures done { result ≡ Status.Done → WritesOutput S.told (task_in words.now) (F.files shelf.old) bench.old.sites.items bench.new.world (λ text. Whole (O.written out.old) text (O.written out.new)) }
 
     // What holds of the world that is left, whatever the status.
@@ -50,6 +52,9 @@ pub fn run<F: Shelf, O: Sink, S: Site>(
 
     // A code reads no file, and leaves the bench as it was.
     ensures untouched { IsCode (task_in words.now) → (shelf.new ≡ shelf.old) × (bench.new ≡ bench.old) }
+
+    // A check leaves the bench as it was.
+    ensures kept { IsCheck (task_in words.now) → bench.new ≡ bench.old }
 
     // What stands after another status.
     ensures refused { IsRefusal result → (bench.new ≡ bench.old) × (O.written out.new ≡ O.written out.old) }
@@ -64,6 +69,7 @@ pub fn run<F: Shelf, O: Sink, S: Site>(
         Ok(Some(Command::Replay { schedule, config })) => {
             replay(alloc, schedule, config, shelf, out, bench)
         }
+        Ok(Some(Command::Check { log })) => check(alloc, log, shelf, out),
         Ok(Some(Command::Code { k, m, digits })) => write_pieces(alloc, k, m, digits, out),
         Ok(None) => Status::Usage,
         Err(_) => Status::NoMemory,

@@ -2,13 +2,15 @@
 ghost use Rattle.std.specs.Prelude.{◌≡◌};
 ghost use Rattle.gz_cli.specs.Statuses.{exit_number};
 
-use gz_core::{Why, Word};
+use gz_core::{PutName, Why, Word};
 use gz_settings::ConfigText;
 use std::fmt;
 
 /// How a run ends, with its number and its text.
 pub enum Status {
     Done,
+    /// The log isn't legal: the first clause that is broken, and the first two calls that break it.
+    NotLegal { clause: u8, a: PutName, b: PutName },
     /// The words are of no form.
     Usage,
     /// The shelf failed.
@@ -18,7 +20,7 @@ pub enum Status {
     FileTooLarge { name: Word },
     /// The text of the configuration gives none.
     BadConfig { why: ConfigText },
-    /// The first line of the schedule with a fault, counted from 1.
+    /// The first line of the schedule or the log with a fault, counted from 1.
     BadText { line: u32, why: Why },
     /// That line has more bytes than an object may have.
     TooLong { line: u32 },
@@ -33,6 +35,11 @@ impl Drop for Status {
     fn drop(self) {
         match self {
             Status::Done => {},
+            Status::NotLegal {
+                clause: _,
+                a: _,
+                b: _,
+            } => {},
             Status::Usage => {},
             Status::ShelfFault { name: _ } => {},
             Status::NoFile { name: _ } => {},
@@ -54,6 +61,7 @@ impl Status {
     {
         match self {
             Status::Done => 0,
+            Status::NotLegal { .. } => 1,
             Status::Usage => 2,
             Status::ShelfFault { .. } => 3,
             Status::NoFile { .. } => 4,
@@ -72,6 +80,7 @@ impl fmt::Display for Status {
     fn fmt<W: fmt::Write>(&self, f: &mut fmt::Formatter<W>) -> fmt::Result {
         match self {
             Status::Done => write!(f, "done"),
+            Status::NotLegal { clause, a, b } => not_legal(f, *clause, *a, *b),
             Status::Usage => write!(f, "usage"),
             Status::ShelfFault { name } => {
                 let name = name.as_str();
@@ -96,6 +105,23 @@ impl fmt::Display for Status {
             Status::NoMemory => write!(f, "out of memory"),
         }
     }
+}
+
+/// The text of a log that isn't legal.
+fn not_legal<W: fmt::Write>(
+    f: &mut fmt::Formatter<W>,
+    clause: u8,
+    a: PutName,
+    b: PutName,
+) -> fmt::Result {
+    let first = a.session.0;
+    let first_call = a.seq;
+    let second = b.session.0;
+    let second_call = b.seq;
+    write!(
+        f,
+        "not legal: clause {clause}, calls {first}.{first_call} and {second}.{second_call}"
+    )
 }
 
 /// The word of a fault.

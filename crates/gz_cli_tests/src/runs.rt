@@ -57,6 +57,14 @@ fn configured<'a>(config: &'a [u8], number: u8, status: &'a str, log: &'a str) -
     }
 }
 
+/// The check of a text as a log, in which nothing fails.
+fn checked<'a>(text: &'a [u8], number: u8, status: &'a str, log: &'a str) -> Case<'a> {
+    Case {
+        words: &["check", "s"],
+        ..played(text, number, status, log)
+    }
+}
+
 /// A list of one call that fails.
 fn failing(alloc: Global, call: u32) -> Result<Vec<u64>, AllocError>
     ensures { IfOk result (λ calls. All (λ call. call < 2 ^ 64 - 1) calls.items) }
@@ -254,7 +262,7 @@ static FAILURES: [(u32, u32, u8, &str, &str); 5] = [
 ];
 
 /// Words with no schedule, a call of the sink that fails, or none, and what comes of it.
-static WORDS: [(&[&str], u32, u8, &str, &str); 32] = [
+static WORDS: [(&[&str], u32, u8, &str, &str); 36] = [
     (
         &["code", "2", "1", "0102"],
         0,
@@ -311,6 +319,10 @@ static WORDS: [(&[&str], u32, u8, &str, &str); 32] = [
     (&["replay"], 0, 2, "usage", ""),
     (&["replay", "-x"], 0, 2, "usage", ""),
     (&["play", "s"], 0, 2, "usage", ""),
+    (&["check"], 0, 2, "usage", ""),
+    (&["check", "s", "s"], 0, 2, "usage", ""),
+    (&["check", "-s"], 0, 2, "usage", ""),
+    (&["check", "l"], 0, 4, "no file l", ""),
     (&["replay", "s", "s"], 0, 0, "done", "end 0 0 0\n"),
     (&["replay", "s", "c", "c"], 0, 2, "usage", ""),
     (&["replay", "s", "-c"], 0, 2, "usage", ""),
@@ -353,6 +365,154 @@ fn each_outside_call_fails_in_turn(rt: HostRuntime) -> Result<(), Fail> {
     Ok(())
 }
 
+/// Texts, and how the check of each as a log ends.
+static LOGS: [(&str, u8, &str, &str); 21] = [
+    (PUT_GET_LOG, 0, "done", "legal 2\n"),
+    ("end 0 0 0\n", 0, "done", "legal 0\n"),
+    (
+        "\r\n# a comment\n1.1 put a 01 2 20 ok 1\r\n  end  1 20 0",
+        0,
+        "done",
+        "legal 1\n",
+    ),
+    (
+        "1.1 put a 01 2 20 ok 1\n1.2 delete a - 21 33 ok 2\n1.3 get a - 34 40 gone 2 1.2\n1.4 put a 03 41 59 ok 3\n1.5 getat a 1 60 70 bytes 1 1.1 01\nend 5 70 0\n",
+        0,
+        "done",
+        "legal 5\n",
+    ),
+    (
+        "1.1 put a 01 2 20 ok 1\n2.1 put a 02 3 40 ok 1\nend 2 40 0\n",
+        1,
+        "not legal: clause 1, calls 1.1 and 2.1",
+        "",
+    ),
+    (
+        "1.1 put a 01 2 20 ok 1\n1.2 get a - 21 30 bytes 2 1.1 01\nend 2 30 0\n",
+        1,
+        "not legal: clause 2, calls 1.1 and 1.2",
+        "",
+    ),
+    (
+        "1.1 put a 0102 2 20 ok 1\n1.2 get a - 21 31 absent\nend 2 31 0\n",
+        1,
+        "not legal: clause 3, calls 1.1 and 1.2",
+        "",
+    ),
+    (
+        "1.1 get a - 2 20 bytes 1 2.1 01\nend 1 20 0\n",
+        1,
+        "not legal: clause 4, calls 1.1 and 2.1",
+        "",
+    ),
+    (
+        "1.1 put a 0102 2 20 ok 1\n1.2 get a - 21 31 bytes 1 1.1 0103\nend 2 31 0\n",
+        1,
+        "not legal: clause 5, calls 1.2 and 1.1",
+        "",
+    ),
+    (
+        "1.1 put a 01 2 20 ok 1\n1.2 getat a 2 21 31 bytes 1 1.1 01\nend 2 31 0\n",
+        1,
+        "not legal: clause 6, calls 1.2 and 1.2",
+        "",
+    ),
+    (
+        "1.1 put a 01 2 20 ok 1\n1.2 put a 02 21 40 ok 1\n1.3 get a - 41 60 bytes 3 1.2 02\nend 3 60 0\n",
+        1,
+        "not legal: clause 1, calls 1.1 and 1.2",
+        "",
+    ),
+    (
+        "1.1 put a 0102 2 20 ok 1\n1.2 get a - 21 31 bytes 1 1.1 0102\n",
+        7,
+        "line 3: end",
+        "",
+    ),
+    ("", 7, "line 1: end", ""),
+    ("end 1 0 0\n", 7, "line 1: end", ""),
+    ("end 0 0 0\nend 0 0 0\n", 7, "line 2: end", ""),
+    ("session\n", 7, "line 1: word", ""),
+    ("1.1 put a 01 2 20\nend 1 20 0\n", 7, "line 1: count", ""),
+    (
+        "1.1 put a 0A 2 20 ok 1\nend 1 20 0\n",
+        7,
+        "line 1: bytes",
+        "",
+    ),
+    (
+        "1.1 put a 01 2 20 ok 1\n1.1 get a - 21 31 absent\nend 2 31 0\n",
+        7,
+        "line 2: name",
+        "",
+    ),
+    (
+        "1.1 put a 01 20 20 ok 1\nend 1 20 0\n",
+        7,
+        "line 1: order",
+        "",
+    ),
+    (
+        "1.1 put a 01 2 20 absent\nend 1 20 0\n",
+        7,
+        "line 1: answer",
+        "",
+    ),
+];
+
+#[test]
+fn logs_are_checked(rt: HostRuntime) -> Result<(), Fail> {
+    for (text, number, status, log) in &LOGS {
+        let case = checked(text.as_bytes(), *number, status, log);
+        assert!(rt; holds(rt.alloc(), &case)?);
+    }
+    Ok(())
+}
+
+/// Calls of the shelf and the sink that fail in the check of `PUT_GET_LOG`, or none, and what comes of it.
+static CHECK_FAILURES: [(u32, u32, u8, &str, &str); 5] = [
+    (1, 0, 3, "cannot read s", ""),
+    (2, 0, 0, "done", "legal 2\n"),
+    (0, 1, 11, "cannot write", ""),
+    (0, 2, 11, "cannot write", "legal 2\n"),
+    (0, 3, 0, "done", "legal 2\n"),
+];
+
+#[test]
+fn each_outside_call_of_a_check_fails_in_turn(rt: HostRuntime) -> Result<(), Fail> {
+    for (shelf_fails, sink_fails, number, status, log) in &CHECK_FAILURES {
+        let case = Case {
+            shelf_fails: *shelf_fails,
+            sink_fails: *sink_fails,
+            ..checked(PUT_GET_LOG.as_bytes(), *number, status, log)
+        };
+        assert!(rt; holds(rt.alloc(), &case)?);
+    }
+    Ok(())
+}
+
+/// Whether the check of the log of a put, whose bytes have so many digits, ends so.
+fn put_is_checked(
+    alloc: Global,
+    digits: usize,
+    number: u8,
+    status: &str,
+    log: &str,
+) -> Result<bool, AllocError> {
+    let bytes = vec![in alloc; b'0'; digits]?;
+    let mut text = Vec::from_slice(alloc, b"1.1 put a ")?;
+    text.extend_from_slice(bytes.as_slice())?;
+    text.extend_from_slice(b" 2 20 ok 1\nend 1 20 0\n")?;
+    holds(alloc, &checked(text.as_slice(), number, status, log))
+}
+
+#[test]
+fn bytes_of_a_log_have_a_limit(rt: HostRuntime) -> Result<(), Fail> {
+    assert!(rt; put_is_checked(rt.alloc(), 2_097_152, 0, "done", "legal 1\n")?);
+    assert!(rt; put_is_checked(rt.alloc(), 2_097_154, 8, "line 1: too long", "")?);
+    Ok(())
+}
+
 #[test]
 fn codes_and_words_of_no_form(rt: HostRuntime) -> Result<(), Fail> {
     for (words, sink_fails, number, status, log) in &WORDS {
@@ -378,6 +538,17 @@ fn comment_ends(
     holds(alloc, &played(&comment, number, status, log))
 }
 
+/// Whether the check of a comment of so many bytes ends so.
+fn comment_is_checked(
+    alloc: Global,
+    length: usize,
+    number: u8,
+    status: &str,
+) -> Result<bool, AllocError> {
+    let comment = vec![in alloc; b'#'; length]?;
+    holds(alloc, &checked(&comment, number, status, ""))
+}
+
 /// Whether a configuration that is a comment of so many bytes ends so.
 fn comment_configures(
     alloc: Global,
@@ -399,8 +570,16 @@ fn files_have_a_limit(rt: HostRuntime) -> Result<(), Fail> {
     Ok(())
 }
 
+#[test]
+fn the_file_of_a_log_has_a_limit(rt: HostRuntime) -> Result<(), Fail> {
+    assert!(rt; comment_is_checked(rt.alloc(), 67_108_865, 5, "file too large s")?);
+    assert!(rt; comment_is_checked(rt.alloc(), 67_108_864, 7, "line 2: end")?);
+    Ok(())
+}
+
 /// Words that name a file that isn't there, and what comes of it.
-static ABSENT: [(&[&str], &str); 4] = [
+static ABSENT: [(&[&str], &str); 5] = [
+    (&["check", "none"], "no file none"),
     (&["replay", "none"], "no file none"),
     (&["replay", "none", "c"], "no file none"),
     (&["replay", "s", "nil"], "no file nil"),

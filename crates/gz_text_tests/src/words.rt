@@ -13,6 +13,9 @@ fn is_asked(command: &Option<Command>, brief: Option<Brief>) -> bool {
         (Some(Command::Replay { schedule, config }), Some((word, first, second, _, _))) => {
             word == "replay" && *schedule == first && config.unwrap_or("none") == second
         }
+        (Some(Command::Check { log }), Some((word, first, _, _, _))) => {
+            word == "check" && *log == first
+        }
         (Some(Command::Code { k, m, digits }), Some((word, first, _, pieces, more))) => {
             word == "code" && *digits == first.as_bytes() && *k == pieces && *m == more
         }
@@ -51,6 +54,13 @@ const WORDS: &[(&[&str], Option<Brief<'static>>)] = &[
     (&["replay", "--", "-a"], None),
     (&["replay", "s", "--help"], None),
     (&["Replay", "s"], None),
+    (&["check"], None),
+    (&["check", "l"], Some(("check", "l", "", 0, 0))),
+    (&["check", "check"], Some(("check", "check", "", 0, 0))),
+    (&["check", "l", "l"], None),
+    (&["check", "-l"], None),
+    (&["check", "--", "l"], None),
+    (&["Check", "l"], None),
     (&["help"], None),
     (&["", "s"], None),
     (

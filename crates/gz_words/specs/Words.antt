@@ -5,12 +5,13 @@ use Rattle.std.specs.Cmp.Lexicographic.{pointwise}
 use Rattle.std.specs.List.{list_all, list_any}
 use Rattle.gz_text.specs.Fields.{number_field}
 use Rattle.gz_words.specs.declared.command.Command.{Command}
-use Rattle.gz_words.specs.declared.command.Command.TheVariants.{Replay, Code}
+use Rattle.gz_words.specs.declared.command.Command.TheVariants.{Replay, Check, Code}
 
--- what the words ask for: to replay the schedule of a name, under the configuration of a name, or to cut the bytes
--- that digits spell into k + m pieces
+-- what the words ask for: to replay the schedule of a name, under the configuration of a name, to judge the log of a name,
+-- or to cut the bytes that digits spell into k + m pieces
 pub data Task : Type 0 where
   replay : List ℕ → Option (List ℕ) → Task
+  check : List ℕ → Task
   code : ℕ → ℕ → List ℕ → Task
 
 -- the word begins with a dash
@@ -30,6 +31,10 @@ is_shape k m = nat_le 1 k && nat_le (k + m) 256
 abbrev pub replay_in : List ℕ → List ℕ → Option (List ℕ) → Option Task
 replay_in verb schedule config = if pointwise nat_eq verb (codes "replay") then Some (replay schedule config) else None
 
+-- `check LOG` and `replay SCHEDULE`
+abbrev pub named_in : List ℕ → List ℕ → Option Task
+named_in verb name = if pointwise nat_eq verb (codes "check") then Some (check name) else replay_in verb name None
+
 -- `code K M HEX`, once the numbers are read
 abbrev pub code_of : Option ℕ → Option ℕ → List ℕ → Option Task
 code_of None m digits = None
@@ -43,7 +48,7 @@ code_in verb k m digits = if pointwise nat_eq verb (codes "code") then code_of (
 abbrev pub form_of : List (List ℕ) → Option Task
 form_of [] = None
 form_of (verb ∷ []) = None
-form_of (verb ∷ schedule ∷ []) = replay_in verb schedule None
+form_of (verb ∷ name ∷ []) = named_in verb name
 form_of (verb ∷ schedule ∷ config ∷ []) = replay_in verb schedule (Some config)
 form_of (verb ∷ k ∷ m ∷ digits ∷ []) = code_in verb k m digits
 form_of (verb ∷ a ∷ b ∷ c ∷ d ∷ more) = None
@@ -55,9 +60,11 @@ task_in words = if list_any is_option words then None else form_of words
 -- what a command asks for
 abbrev pub task_of : Command → Task
 task_of (Replay schedule config) = replay schedule.now (option_map (λ name. name.now) config)
+task_of (Check log) = check log.now
 task_of (Code k m digits) = code k m digits.now
 
 -- the numbers and the digits of a command are those of a code
 abbrev pub IsWellFormed : Command → Type 0
 IsWellFormed (Replay schedule config) = Unit {0}
+IsWellFormed (Check log) = Unit {0}
 IsWellFormed (Code k m digits) = (1 ≤ k) × (k + m ≤ 256) × (is_hex digits.now ≡ true)

@@ -8,6 +8,10 @@ pub enum Command<'a> {
         schedule: &'a str,
         config: Option<&'a str>,
     },
+    /// The log of this name is judged.
+    Check {
+        log: &'a str,
+    },
     /// The bytes that these digits spell are cut into k pieces, and m more are added.
     Code {
         k: usize,

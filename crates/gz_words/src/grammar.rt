@@ -2,7 +2,7 @@
 ghost use Rattle.std.specs.Prelude.{◌≡◌, ◌&&◌, IfSome, map, option_map};
 ghost use Rattle.std.specs.Char.{is_ascii_hexdigit};
 ghost use Rattle.std.specs.List.{list_all, list_any};
-ghost use Rattle.gz_words.specs.Words.{task_in, task_of, form_of, replay_in, code_in, is_option, is_shape, is_hex, IsWellFormed};
+ghost use Rattle.gz_words.specs.Words.{task_in, task_of, form_of, replay_in, named_in, code_in, is_option, is_shape, is_hex, IsWellFormed};
 
 use crate::command::Command;
 use gz_text::fields::number;
@@ -40,7 +40,7 @@ fn is_option(word: &str) -> bool
     }
 }
 
-/// What words without a dash ask for: `replay SCHEDULE`, `replay SCHEDULE CONFIG`, `code K M HEX`.
+/// What words without a dash ask for: `check LOG`, `replay SCHEDULE`, `replay SCHEDULE CONFIG`, `code K M HEX`.
 #[tactic(auto, using(crate::proofs::Forms::no_form))]
 fn form_of<'a>(words: &[&'a str]) -> Option<Command<'a>>
     ensures exact { option_map task_of result ≡ form_of (map (λ word. word.now) words.now) }
@@ -49,10 +49,22 @@ fn form_of<'a>(words: &[&'a str]) -> Option<Command<'a>>
     match words {
         [] => None,
         [_] => None,
-        [verb, schedule] => replay(verb, schedule, None),
+        [verb, name] => named(verb, name),
         [verb, schedule, config] => replay(verb, schedule, Some(*config)),
         [verb, k, m, digits] => code(verb, k, m, digits),
         [_, _, _, _, _, ..] => None,
+    }
+}
+
+/// What a verb and the name of a file ask for: `check LOG` or `replay SCHEDULE`.
+fn named<'a>(verb: &str, name: &'a str) -> Option<Command<'a>>
+    ensures exact { option_map task_of result ≡ named_in verb.now name.now }
+    ensures sound { IfSome result IsWellFormed }
+{
+    if verb == "check" {
+        Some(Command::Check { log: name })
+    } else {
+        replay(verb, name, None)
     }
 }
 

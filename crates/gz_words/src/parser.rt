@@ -40,6 +40,7 @@ fn program<'a>(alloc: Global) -> Result<Command<'a>, AllocError> {
         .disable_help_subcommand(true)
         .subcommand_required(true)
         .subcommand(replay(alloc)?)?
+        .subcommand(check(alloc)?)?
         .subcommand(code(alloc)?)
 }
 
@@ -47,6 +48,10 @@ fn replay<'a>(alloc: Global) -> Result<Command<'a>, AllocError> {
     Command::new(alloc, "replay")
         .arg(required(alloc, "schedule"))?
         .arg(Arg::new(alloc, "config").action(ArgAction::Set))
+}
+
+fn check<'a>(alloc: Global) -> Result<Command<'a>, AllocError> {
+    Command::new(alloc, "check").arg(required(alloc, "log"))
 }
 
 fn code<'a>(alloc: Global) -> Result<Command<'a>, AllocError> {
