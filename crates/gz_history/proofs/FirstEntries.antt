@@ -8,7 +8,7 @@ use Rattle.gz_core.specs.Calls.{key_of}
 use Rattle.gz_history.specs.Answers.{shows, names}
 use Rattle.gz_history.specs.Broken.{KeptBefore}
 use Rattle.gz_history.specs.Legal.{Agree, TakeEffectOnce}
-use Rattle.gz_history.specs.Index.{IsBrought, AreGroups, IsHeadOf, AreHeads, named_of, versioned_of}
+use Rattle.gz_history.specs.Index.{IsBrought, AreGroups, IsRepeat, IsHeadOf, AreHeads, named_of, versioned_of}
 use Rattle.gz_history.specs.Serial.{naming}
 use Rattle.gz_history.specs.declared.record.CallRec.{CallRec}
 
@@ -32,6 +32,20 @@ heads_more_none {T = T} {V = V} marks n start heads none h = record {
     | inl s ↦ h.each place t said s m
     | inr g ↦ (let e : place ≡ n = omega arith in
         no_some ((head : ℕ × V) × ((heads t ≡ Some head) × IsHeadOf start place said head)) (marks place) (t, said) (ap marks e ∙ none) m)
+  ];
+}
+
+-- one more place, where what an earlier one says is said
+pub heads_more_same : {T V : Type 0} (marks : ℕ → Option (T × V)) (n start earlier : ℕ) (heads : T → Option (ℕ × V)) → earlier < n → marks earlier ≡ marks n → AreHeads marks n start heads → AreHeads marks (n + 1) start heads
+heads_more_same {T = T} {V = V} marks n start earlier heads before same h = record {
+  below = λ t head p. let l = h.below t head p in omega arith;
+  each = λ place t said l m. elim (cases_lt place n) [
+    | inl s ↦ h.each place t said s m
+    | inr g ↦ (let e : place ≡ n = omega arith in
+        let was = h.each earlier t said before (same ∙ ap marks (sym e) ∙ m) in
+        let is = was.1.1 in
+        let low = is.before in
+        (was.0, (was.1.0, record { before = omega arith; same = is.same })))
   ];
 }
 
@@ -103,6 +117,20 @@ pub marked_at : {M : Type 0} (mark : ℕ → CallRec → Option M) (calls : List
 marked_at {M = M} mark calls groups i a g p q =
     ap (λ (o : Option CallRec). option_and_then (λ (x : CallRec). option_and_then (λ (k : ℕ). mark k x) (slice_get groups i)) o) p
     ∙ ap (λ (o : Option ℕ). option_and_then (λ (k : ℕ). mark k a) o) q
+
+-- a place that repeats an earlier one
+heads_repeat : {T V : Type 0} (mark : ℕ → CallRec → Option (T × V)) (calls : List CallRec) (groups : List ℕ) (n start : ℕ) (heads : T → Option (ℕ × V)) → ((g : ℕ) (a b : CallRec) → naming a ≡ naming b → mark g a ≡ mark g b)
+    → IsRepeat calls groups n → AreHeads (marks_by mark calls groups) n start heads → AreHeads (marks_by mark calls groups) (n + 1) start heads
+heads_repeat mark calls groups n start heads by_naming r h =
+    let first = marked_at mark calls groups r.earlier r.a r.group r.first_is r.first_group in
+    let second = marked_at mark calls groups n r.b r.group r.second_is r.second_group in
+    heads_more_same (marks_by mark calls groups) n start r.earlier heads r.before (first ∙ by_naming r.group r.a r.b r.same ∙ sym second) h
+
+pub named_repeat : (calls : List CallRec) (groups : List ℕ) (n start : ℕ) (heads : ℕ × ℕ → Option (ℕ × Name)) → IsRepeat calls groups n → AreHeads (marks_by named_of calls groups) n start heads → AreHeads (marks_by named_of calls groups) (n + 1) start heads
+named_repeat calls groups n start heads = heads_repeat named_of calls groups n start heads (λ g a b e. ap (λ (o : Option (ℕ × Name)). option_map (λ given. ((g, given.0), given.1)) o) e)
+
+pub versioned_repeat : (calls : List CallRec) (groups : List ℕ) (n start : ℕ) (heads : ℕ × Name → Option (ℕ × ℕ)) → IsRepeat calls groups n → AreHeads (marks_by versioned_of calls groups) n start heads → AreHeads (marks_by versioned_of calls groups) (n + 1) start heads
+versioned_repeat calls groups n start heads = heads_repeat versioned_of calls groups n start heads (λ g a b e. ap (λ (o : Option (ℕ × Name)). option_map (λ given. ((g, given.1), given.0)) o) e)
 
 naming_is : (a : CallRec) (v : ℕ) (x : Name) → shows a.answer ≡ Some v → names a.name a.answer ≡ Some x → naming a ≡ Some (v, x)
 naming_is a v x p q =

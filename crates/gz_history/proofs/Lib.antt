@@ -3,5 +3,6 @@ mod Breaking
 mod FirstEntries
 mod Grouping
 mod Legalities
+mod Repeating
 pub mod Searching
 mod Serials

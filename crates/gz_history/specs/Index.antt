@@ -24,6 +24,22 @@ pub record AreGroups (calls : List CallRec) (groups : List ℕ) : Type 0 where
   pub group_of : List ℕ → Option ℕ
   pub each : (i : ℕ) (a : CallRec) (g : ℕ) → slice_get calls i ≡ Some a → slice_get groups i ≡ Some g → group_of (key_of a.call) ≡ Some g
 
+-- an earlier call of the group gives the same name to the same version
+pub record IsRepeat (calls : List CallRec) (groups : List ℕ) (place : ℕ) : Type 0 where
+  pub earlier : ℕ
+  pub a : CallRec
+  pub b : CallRec
+  pub group : ℕ
+  pub before : earlier < place
+  pub first_is : slice_get calls earlier ≡ Some a
+  pub second_is : slice_get calls place ≡ Some b
+  pub first_group : slice_get groups earlier ≡ Some group
+  pub second_group : slice_get groups place ≡ Some group
+  pub same : naming a ≡ naming b
+
+abbrev pub AreRepeats : List CallRec → List ℕ → List Bool → Type 0
+AreRepeats calls groups repeats = (place : ℕ) → slice_get repeats place ≡ Some true → IsRepeat calls groups place
+
 -- tags: a version of a group, and a name in a group
 abbrev pub version_cmp : ℕ × ℕ → ℕ × ℕ → Ordering
 version_cmp x y = ordering_then (nat_cmp x.0 y.0) (nat_cmp x.1 y.1)

@@ -5,7 +5,7 @@ ghost use Rattle.std.specs.BTreeMap as tree;
 ghost use Rattle.std.specs.Ordering.{nat_cmp, ordering_then};
 ghost use Rattle.gz_history.specs.Broken.{KeptBefore};
 ghost use Rattle.gz_history.specs.Legal.{Agree, TakeEffectOnce};
-ghost use Rattle.gz_history.specs.Index.{AreGroups, AreHeads, version_cmp, name_cmp, named_of, versioned_of};
+ghost use Rattle.gz_history.specs.Index.{AreGroups, AreRepeats, AreHeads, version_cmp, name_cmp, named_of, versioned_of};
 
 use crate::heads::brought;
 use crate::record::CallRec;
@@ -20,14 +20,20 @@ pub(crate) fn agreeing(
     alloc: Global,
     calls: &[CallRec],
     groups: &[usize],
+    repeats: &[bool],
 ) -> Result<usize, AllocError>
     requires len { length groups.now ≡ length calls.now }
     requires groups { AreGroups calls.now groups.now }
+    requires repeats_len { length repeats.now ≡ length calls.now }
+    requires repeats { AreRepeats calls.now groups.now repeats.now }
     ensures { IfOk result (λ start. KeptBefore Agree calls.now start) }
 {
     let mut heads = BTreeMap::new(alloc);
     let mut start = calls.len();
     for place in 0..calls.len() {
+        if repeats[place] {
+            continue;
+        }
         start = agreeing_with(&mut heads, start, groups[place], &calls[place], place)?;
     }
     Ok(start)
@@ -74,14 +80,20 @@ pub(crate) fn taking_effect_once(
     alloc: Global,
     calls: &[CallRec],
     groups: &[usize],
+    repeats: &[bool],
 ) -> Result<usize, AllocError>
     requires len { length groups.now ≡ length calls.now }
     requires groups { AreGroups calls.now groups.now }
+    requires repeats_len { length repeats.now ≡ length calls.now }
+    requires repeats { AreRepeats calls.now groups.now repeats.now }
     ensures { IfOk result (λ start. KeptBefore TakeEffectOnce calls.now start) }
 {
     let mut heads = BTreeMap::new(alloc);
     let mut start = calls.len();
     for place in 0..calls.len() {
+        if repeats[place] {
+            continue;
+        }
         start = taking_effect_once_with(&mut heads, start, groups[place], &calls[place], place)?;
     }
     Ok(start)

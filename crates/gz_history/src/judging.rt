@@ -9,7 +9,8 @@ use crate::groups::groups_of;
 use crate::legality::{Broken, Starts, legal, legal_from};
 use crate::order::keeping_order;
 use crate::record::CallRec;
-use crate::sources::{places_of, reading_writes, returning};
+use crate::repeats::repeats_of;
+use crate::sources::{reading_writes, returning, sources_of};
 use std::alloc::{AllocError, Global};
 
 /// The same answer as `legal` gives, in time that grows little more than linearly with the history, where there is memory
@@ -31,15 +32,16 @@ fn starts_of(alloc: Global, calls: &[CallRec]) -> Result<Starts, AllocError>
     ensures { IfOk result (λ starts. AreKept calls.now starts) }
 {
     let groups = groups_of(alloc, calls)?;
-    let agreement = agreeing(alloc, calls, groups.as_slice())?;
-    let once = taking_effect_once(alloc, calls, groups.as_slice())?;
+    let repeats = repeats_of(alloc, calls, groups.as_slice())?;
+    let agreement = agreeing(alloc, calls, groups.as_slice(), repeats.as_slice())?;
+    let once = taking_effect_once(alloc, calls, groups.as_slice(), repeats.as_slice())?;
     let order = keeping_order(alloc, calls, groups.as_slice())?;
-    let places = places_of(alloc, calls)?;
+    let sources = sources_of(alloc, calls)?;
     Ok(Starts {
         agreement,
         once,
         order,
-        sources: reading_writes(calls, &places),
-        values: returning(calls, &places),
+        sources: reading_writes(calls, sources.as_slice()),
+        values: returning(calls, sources.as_slice()),
     })
 }

@@ -316,7 +316,7 @@ fn is_before(end: Option<u32>, tick: u32) -> bool
     }
 }
 
-fn is_write(call: &Call) -> bool
+pub(crate) fn is_write(call: &Call) -> bool
     ensures yes { result ≡ true → IsWrite call.now }
     ensures no { result ≡ false → IsWrite call.now → ⊥ }
 {

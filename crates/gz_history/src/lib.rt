@@ -9,6 +9,7 @@ pub mod legality;
 pub mod log;
 mod order;
 pub mod record;
+mod repeats;
 pub mod serial;
 mod sources;
 mod text;
