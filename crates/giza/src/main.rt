@@ -1,5 +1,5 @@
-//! The program `giza`: it replays a schedule in a world of sites in memory and prints the log, judges a log, or cuts bytes into the pieces of
-//! a code.
+//! The program `giza`: it replays a schedule in a world of sites in memory and prints the log, judges a log, shows a record, or cuts
+//! bytes into the pieces of a code.
 #![tactic(auto)]
 
 use gz_cli::run::run;

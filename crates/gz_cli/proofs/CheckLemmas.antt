@@ -20,7 +20,7 @@ use Rattle.gz_words.specs.Words.{check}
 use Rattle.gz_cli.specs.Causes.{Counts as CountsOf, LogCause, CheckCause, JudgeCause, AreSteady, IsPossibleEnd, text_status}
 use Rattle.gz_cli.specs.Inputs.{Files, HasBytes, LoadsLog, IsReadableLog, IsLegalLog, IsBrokenLog, IsLogFaultAt}
 use Rattle.gz_cli.specs.declared.status.Status.{Status}
-use Rattle.gz_cli.specs.declared.status.Status.TheVariants.{Done, NotLegal, Usage, ShelfFault, NoFile, FileTooLarge, BadConfig, BadText, TooLong, Full, SinkFault, NoMemory}
+use Rattle.gz_cli.specs.declared.status.Status.TheVariants.{Done, NotLegal, Usage, ShelfFault, NoFile, FileTooLarge, BadConfig, BadText, TooLong, Full, BadRecord, SinkFault, NoMemory}
 use Rattle.gz_cli.proofs.RunLemmas.{not-absent, not-large, same-bytes}
 use Rattle.gz_cli.proofs.Unbroken.{legal_is_unbroken}
 
@@ -100,6 +100,7 @@ check-completes files log old new (BadConfig why) cause good steady = cause
 check-completes files log old new (BadText line why) cause good steady = not-faulty-log files log line (faults.Bad why) good cause
 check-completes files log old new (TooLong line) cause good steady = not-faulty-log files log line faults.TooLong good cause
 check-completes files log old new (Full events held) cause good steady = tt
+check-completes files log old new (BadRecord at why) cause good steady = absurd cause
 check-completes files log old new SinkFault cause good steady = steady.sink cause.1
 check-completes files log old new NoMemory cause good steady = tt
 
@@ -115,5 +116,6 @@ judged-cause files log old new calls (BadConfig why) loads cause = cause
 judged-cause files log old new calls (BadText line why) loads cause = absurd cause
 judged-cause files log old new calls (TooLong line) loads cause = absurd cause
 judged-cause files log old new calls (Full events held) loads cause = cause
+judged-cause files log old new calls (BadRecord at why) loads cause = cause
 judged-cause files log old new calls SinkFault loads cause = ((calls, (loads, cause.0)), cause.1)
 judged-cause files log old new calls NoMemory loads cause = tt

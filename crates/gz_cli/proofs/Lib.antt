@@ -3,6 +3,7 @@ mod CodeLemmas
 mod PlayLemmas
 mod ReplayLemmas
 mod RunLemmas
+mod ShowLemmas
 mod TellLemmas
 mod TextLemmas
 mod Unbroken

@@ -4,7 +4,7 @@ use Rattle.std.specs.Prelude.{Option, Some, None}
 use Rattle.gz_config.specs.declared.Config.{Config}
 use Rattle.gz_site.specs.Told.{Told}
 use Rattle.gz_lines.specs.declared.line.Line.{Line}
-use Rattle.gz_words.specs.Words.{Task, replay, check, code}
+use Rattle.gz_words.specs.Words.{Task, replay, check, show, code}
 use Rattle.gz_world.specs.States.{State}
 use Rattle.gz_world.specs.declared.world.World.{World}
 use Rattle.gz_cli.specs.declared.bench.Bench.{Bench}
@@ -25,10 +25,12 @@ pub unread-cause : (task : Option Task) (files : Files) (old new : Counts) → R
 unread-cause None files old new = inr refl
 unread-cause (Some (replay schedule config)) files old new = tt
 unread-cause (Some (check log)) files old new = tt
+unread-cause (Some (show kind file)) files old new = tt
 unread-cause (Some (code k m digits)) files old new = tt
 
 pub unread-cut : {S : Type 0} (told : S → Option Told) (task : Option Task) (files : Files) (bench : Bench S) (written : Option (List ℕ)) → IsRunCut told task files bench bench written written
 unread-cut told None files bench written = (refl, refl)
 unread-cut told (Some (replay schedule config)) files bench written = inl (refl, refl)
 unread-cut told (Some (check log)) files bench written = inl refl
+unread-cut told (Some (show kind file)) files bench written = inl refl
 unread-cut told (Some (code k m digits)) files bench written = inl refl

@@ -9,7 +9,7 @@ use Rattle.gz_text.specs.declared.faults.Fault.TheVariants as faults
 use Rattle.gz_lines.specs.Schedule.{readings, AreFaultless, IsFirstFault, fault_at}
 use Rattle.gz_words.specs.Words.{replay}
 use Rattle.gz_cli.specs.declared.status.Status.{Status}
-use Rattle.gz_cli.specs.declared.status.Status.TheVariants.{Done, NotLegal, Usage, ShelfFault, NoFile, FileTooLarge, BadConfig, BadText, TooLong, Full, SinkFault, NoMemory}
+use Rattle.gz_cli.specs.declared.status.Status.TheVariants.{Done, NotLegal, Usage, ShelfFault, NoFile, FileTooLarge, BadConfig, BadText, TooLong, Full, BadRecord, SinkFault, NoMemory}
 use Rattle.gz_cli.specs.Inputs.{Files, FileIs, IsFaultAt, IsMisconfigured, IsWanted, TellsBytes, IsPlayable, IsSetting, CanConfigure}
 use Rattle.gz_cli.specs.Causes.{Counts, Cause, AreSteady, IsPossibleEnd}
 
@@ -85,5 +85,6 @@ replay-completes files schedule config old new (BadConfig why) cause can good st
 replay-completes files schedule config old new (BadText line why) cause can good steady = not-faulty-in files schedule good.bytes line (faults.Bad why) good.file good.faultless cause.1
 replay-completes files schedule config old new (TooLong line) cause can good steady = not-faulty-in files schedule good.bytes line faults.TooLong good.file good.faultless cause.1
 replay-completes files schedule config old new (Full events held) cause can good steady = tt
+replay-completes files schedule config old new (BadRecord at why) cause can good steady = cause
 replay-completes files schedule config old new SinkFault cause can good steady = steady.sink cause.1
 replay-completes files schedule config old new NoMemory cause can good steady = tt

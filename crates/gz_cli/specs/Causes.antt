@@ -15,10 +15,14 @@ use Rattle.gz_site.specs.declared.sinks.SinkError.{SinkError}
 use Rattle.gz_site.specs.declared.sinks.SinkError.TheVariants.{Failed as SinkFailed, NoMemory as NoSinkMemory}
 use Rattle.gz_text.specs.declared.faults.Fault.{Fault}
 use Rattle.gz_text.specs.declared.faults.Fault.TheVariants as faults
-use Rattle.gz_words.specs.Words.{Task, replay, check, code}
-use Rattle.gz_cli.specs.Inputs.{Files, FileIs, IsMisconfigured, IsConfigured, IsFaultAt, IsLoaded, IsWanted, IsPlayable, CanConfigure, IsLogFaultAt, IsLegalLog, IsBrokenLog, IsReadableLog}
+use Rattle.gz_show.specs.declared.errors.RecordWhy.{RecordWhy}
+use Rattle.gz_show.specs.declared.errors.ShowError.{ShowError}
+use Rattle.gz_show.specs.declared.errors.ShowError.TheVariants.{Bad as BadBytes, NoMemory as NoShowMemory}
+use Rattle.gz_words.specs.Words.{Task, replay, check, show, code}
+use Rattle.gz_words.specs.declared.command.Record.{Record}
+use Rattle.gz_cli.specs.Inputs.{Files, FileIs, IsMisconfigured, IsConfigured, IsFaultAt, IsLoaded, IsWanted, IsPlayable, CanConfigure, IsLogFaultAt, IsLegalLog, IsBrokenLog, IsReadableLog, IsRecordFaultAt, IsShownRecord, IsReadableFile}
 use Rattle.gz_cli.specs.declared.status.Status.{Status}
-use Rattle.gz_cli.specs.declared.status.Status.TheVariants.{Done, NotLegal, Usage, ShelfFault, NoFile, FileTooLarge, BadConfig, BadText, TooLong, Full, SinkFault, NoMemory}
+use Rattle.gz_cli.specs.declared.status.Status.TheVariants.{Done, NotLegal, Usage, ShelfFault, NoFile, FileTooLarge, BadConfig, BadText, TooLong, Full, BadRecord, SinkFault, NoMemory}
 
 -- the counts of what was handed in: faults of the shelf, files that were not there, files above the limit, and
 -- faults of the sink
@@ -46,40 +50,46 @@ ShelfCause name error (BadConfig why) = ⊥
 ShelfCause name error (BadText line why) = ⊥
 ShelfCause name error (TooLong line) = ⊥
 ShelfCause name error (Full events held) = ⊥
+ShelfCause name error (BadRecord at why) = ⊥
 ShelfCause name error SinkFault = ⊥
 ShelfCause name error NoMemory = Unit {0}
 
 -- why nothing was had of a file: a table by the status, over the counts before and after, and over what it is for its bytes to be
--- refused as a configuration and as a schedule
-abbrev pub FileCause : Files → List ℕ → Counts → Counts → (ConfigText → Type 0) → (ℕ → Fault → Type 0) → Status → Type 0
-FileCause files name old new Refused Faulty Done = ⊥
-FileCause files name old new Refused Faulty (NotLegal clause a b) = ⊥
-FileCause files name old new Refused Faulty Usage = ⊥
-FileCause files name old new Refused Faulty (ShelfFault n) = (n ≡ name) × Rose old.faults new.faults
-FileCause files name old new Refused Faulty (NoFile n) = (n ≡ name) × (Rose old.absences new.absences × FileIs files name (λ file. file ≡ None))
-FileCause files name old new Refused Faulty (FileTooLarge n) = (n ≡ name) × (Rose old.excesses new.excesses × FileIs files name (λ file. Exceeds file 67108864))
-FileCause files name old new Refused Faulty (BadConfig why) = Refused why
-FileCause files name old new Refused Faulty (BadText line why) = Faulty line (faults.Bad why)
-FileCause files name old new Refused Faulty (TooLong line) = Faulty line faults.TooLong
-FileCause files name old new Refused Faulty (Full events held) = ⊥
-FileCause files name old new Refused Faulty SinkFault = ⊥
-FileCause files name old new Refused Faulty NoMemory = Unit {0}
+-- refused as a configuration, as a schedule or a log, and as a record
+abbrev pub FileCause : Files → List ℕ → Counts → Counts → (ConfigText → Type 0) → (ℕ → Fault → Type 0) → (ℕ → RecordWhy → Type 0) → Status → Type 0
+FileCause files name old new Refused Faulty Spoilt Done = ⊥
+FileCause files name old new Refused Faulty Spoilt (NotLegal clause a b) = ⊥
+FileCause files name old new Refused Faulty Spoilt Usage = ⊥
+FileCause files name old new Refused Faulty Spoilt (ShelfFault n) = (n ≡ name) × Rose old.faults new.faults
+FileCause files name old new Refused Faulty Spoilt (NoFile n) = (n ≡ name) × (Rose old.absences new.absences × FileIs files name (λ file. file ≡ None))
+FileCause files name old new Refused Faulty Spoilt (FileTooLarge n) = (n ≡ name) × (Rose old.excesses new.excesses × FileIs files name (λ file. Exceeds file 67108864))
+FileCause files name old new Refused Faulty Spoilt (BadConfig why) = Refused why
+FileCause files name old new Refused Faulty Spoilt (BadText line why) = Faulty line (faults.Bad why)
+FileCause files name old new Refused Faulty Spoilt (TooLong line) = Faulty line faults.TooLong
+FileCause files name old new Refused Faulty Spoilt (Full events held) = ⊥
+FileCause files name old new Refused Faulty Spoilt (BadRecord at why) = Spoilt at why
+FileCause files name old new Refused Faulty Spoilt SinkFault = ⊥
+FileCause files name old new Refused Faulty Spoilt NoMemory = Unit {0}
 
 -- the file was not read
 abbrev pub UnreadCause : Files → List ℕ → Counts → Counts → Status → Type 0
-UnreadCause files name old new status = FileCause files name old new (λ why. ⊥) (λ line fault. ⊥) status
+UnreadCause files name old new status = FileCause files name old new (λ why. ⊥) (λ line fault. ⊥) (λ at why. ⊥) status
 
 -- the file gave no configuration
 abbrev pub ConfigCause : Files → List ℕ → Counts → Counts → Status → Type 0
-ConfigCause files name old new status = FileCause files name old new (IsMisconfigured files (Some name)) (λ line fault. ⊥) status
+ConfigCause files name old new status = FileCause files name old new (IsMisconfigured files (Some name)) (λ line fault. ⊥) (λ at why. ⊥) status
 
 -- the file gave no lines
 abbrev pub LoadCause : Files → List ℕ → Counts → Counts → Status → Type 0
-LoadCause files name old new status = FileCause files name old new (λ why. ⊥) (IsFaultAt files name) status
+LoadCause files name old new status = FileCause files name old new (λ why. ⊥) (IsFaultAt files name) (λ at why. ⊥) status
 
 -- the file gave no calls
 abbrev pub LogCause : Files → List ℕ → Counts → Counts → Status → Type 0
-LogCause files name old new status = FileCause files name old new (λ why. ⊥) (IsLogFaultAt files name) status
+LogCause files name old new status = FileCause files name old new (λ why. ⊥) (IsLogFaultAt files name) (λ at why. ⊥) status
+
+-- the file gave no record of this kind
+abbrev pub RecordCause : Files → Record → List ℕ → Counts → Counts → Status → Type 0
+RecordCause files kind name old new status = FileCause files name old new (λ why. ⊥) (λ line fault. ⊥) (IsRecordFaultAt files kind name) status
 
 -- the same of a configuration that need not be named
 abbrev pub SettingCause : Files → Option (List ℕ) → Counts → Counts → Status → Type 0
@@ -100,6 +110,11 @@ text_status (Bad line why) = BadText line why
 text_status (TextTooLong line) = TooLong line
 text_status NoTextMemory = NoMemory
 
+-- the status of bytes that are no record
+abbrev pub record_status : ShowError → Status
+record_status (BadBytes at why) = BadRecord at why
+record_status NoShowMemory = NoMemory
+
 -- why a replay was refused, or that memory ran out: a table by the status. The file of a configuration comes first, and of these causes the
 -- files can have only one
 abbrev pub RefusalCause : Files → List ℕ → Option (List ℕ) → Counts → Counts → Status → Type 0
@@ -113,6 +128,7 @@ RefusalCause files schedule config old new (BadConfig why) = IsMisconfigured fil
 RefusalCause files schedule config old new (BadText line why) = IsConfigured files config × IsFaultAt files schedule line (faults.Bad why)
 RefusalCause files schedule config old new (TooLong line) = IsConfigured files config × IsFaultAt files schedule line faults.TooLong
 RefusalCause files schedule config old new (Full events held) = ⊥
+RefusalCause files schedule config old new (BadRecord at why) = ⊥
 RefusalCause files schedule config old new SinkFault = ⊥
 RefusalCause files schedule config old new NoMemory = Unit {0}
 
@@ -128,6 +144,7 @@ Cause files schedule config old new (BadConfig why) = RefusalCause files schedul
 Cause files schedule config old new (BadText line why) = RefusalCause files schedule config old new (BadText line why)
 Cause files schedule config old new (TooLong line) = RefusalCause files schedule config old new (TooLong line)
 Cause files schedule config old new (Full events held) = IsLoaded files schedule config
+Cause files schedule config old new (BadRecord at why) = ⊥
 Cause files schedule config old new SinkFault = IsLoaded files schedule config × Rose old.sink new.sink
 Cause files schedule config old new NoMemory = Unit {0}
 
@@ -143,6 +160,7 @@ WriteCause old new (BadConfig why) = ⊥
 WriteCause old new (BadText line why) = ⊥
 WriteCause old new (TooLong line) = ⊥
 WriteCause old new (Full events held) = ⊥
+WriteCause old new (BadRecord at why) = ⊥
 WriteCause old new SinkFault = Rose old new
 WriteCause old new NoMemory = Unit {0}
 
@@ -158,6 +176,7 @@ PlayCause old new (BadConfig why) = ⊥
 PlayCause old new (BadText line why) = ⊥
 PlayCause old new (TooLong line) = ⊥
 PlayCause old new (Full events held) = Unit {0}
+PlayCause old new (BadRecord at why) = ⊥
 PlayCause old new SinkFault = Rose old new
 PlayCause old new NoMemory = Unit {0}
 
@@ -173,6 +192,7 @@ JudgeCause calls old new (BadConfig why) = ⊥
 JudgeCause calls old new (BadText line why) = ⊥
 JudgeCause calls old new (TooLong line) = ⊥
 JudgeCause calls old new (Full events held) = ⊥
+JudgeCause calls old new (BadRecord at why) = ⊥
 JudgeCause calls old new SinkFault = IsLegal calls × Rose old new
 JudgeCause calls old new NoMemory = IsLegal calls
 
@@ -188,15 +208,33 @@ CheckCause files log old new (BadConfig why) = ⊥
 CheckCause files log old new (BadText line why) = LogCause files log old new (BadText line why)
 CheckCause files log old new (TooLong line) = LogCause files log old new (TooLong line)
 CheckCause files log old new (Full events held) = ⊥
+CheckCause files log old new (BadRecord at why) = ⊥
 CheckCause files log old new SinkFault = IsLegalLog files log × Rose old.sink new.sink
 CheckCause files log old new NoMemory = Unit {0}
 
--- the cause of a status over the words: they ask for a replay, a check or a code, or are of no form. Words of a form are never
+-- the cause of each status of a record that is shown: each comes exactly where its cause does, want of memory aside
+abbrev pub ShowCause : Files → Record → List ℕ → Counts → Counts → Status → Type 0
+ShowCause files kind file old new Done = IsShownRecord files kind file
+ShowCause files kind file old new (NotLegal clause a b) = ⊥
+ShowCause files kind file old new Usage = ⊥
+ShowCause files kind file old new (ShelfFault n) = RecordCause files kind file old new (ShelfFault n)
+ShowCause files kind file old new (NoFile n) = RecordCause files kind file old new (NoFile n)
+ShowCause files kind file old new (FileTooLarge n) = RecordCause files kind file old new (FileTooLarge n)
+ShowCause files kind file old new (BadConfig why) = ⊥
+ShowCause files kind file old new (BadText line why) = ⊥
+ShowCause files kind file old new (TooLong line) = ⊥
+ShowCause files kind file old new (Full events held) = ⊥
+ShowCause files kind file old new (BadRecord at why) = RecordCause files kind file old new (BadRecord at why)
+ShowCause files kind file old new SinkFault = IsShownRecord files kind file × Rose old.sink new.sink
+ShowCause files kind file old new NoMemory = Unit {0}
+
+-- the cause of a status over the words: they ask for a replay, a check, a record or a code, or are of no form. Words of a form are never
 -- refused as usage, so each status comes exactly where its cause does, want of memory aside
 abbrev pub RunCause : Option Task → Files → Counts → Counts → Status → Type 0
 RunCause None files old new status = (status ≡ Usage) ⊎ (status ≡ NoMemory)
 RunCause (Some (replay schedule config)) files old new status = Cause files schedule config old new status
 RunCause (Some (check log)) files old new status = CheckCause files log old new status
+RunCause (Some (show kind file)) files old new status = ShowCause files kind file old new status
 RunCause (Some (code k m digits)) files old new status = WriteCause old.sink new.sink status
 
 -- the status of an output that could not be written
@@ -216,6 +254,7 @@ IsRefusal (BadConfig why) = Unit {0}
 IsRefusal (BadText line why) = Unit {0}
 IsRefusal (TooLong line) = Unit {0}
 IsRefusal (Full events held) = ⊥
+IsRefusal (BadRecord at why) = Unit {0}
 IsRefusal SinkFault = ⊥
 IsRefusal NoMemory = ⊥
 
@@ -231,14 +270,17 @@ HasPlayed (BadConfig why) = ⊥
 HasPlayed (BadText line why) = ⊥
 HasPlayed (TooLong line) = ⊥
 HasPlayed (Full events held) = ⊥
+HasPlayed (BadRecord at why) = ⊥
 HasPlayed SinkFault = Unit {0}
 HasPlayed NoMemory = ⊥
 
--- the words ask for a replay of a file that can be played, under a configuration that can be had, for the check of a log, or for a code
+-- the words ask for a replay of a file that can be played, under a configuration that can be had, for the check of a log, for a file that can be
+-- read to be shown, or for a code
 abbrev pub IsFeasible : Option Task → Files → Type 0
 IsFeasible None files = ⊥
 IsFeasible (Some (replay schedule config)) files = CanConfigure files config × IsPlayable files schedule
 IsFeasible (Some (check log)) files = IsReadableLog files log
+IsFeasible (Some (show kind file)) files = IsReadableFile files file
 IsFeasible (Some (code k m digits)) files = Unit {0}
 
 -- no count of faults rose
@@ -251,9 +293,18 @@ abbrev pub ChecksIllegal : Option Task → Files → Type 0
 ChecksIllegal None files = ⊥
 ChecksIllegal (Some (replay schedule config)) files = ⊥
 ChecksIllegal (Some (check log)) files = IsLegalLog files log → ⊥
+ChecksIllegal (Some (show kind file)) files = ⊥
 ChecksIllegal (Some (code k m digits)) files = ⊥
 
--- a run that can be done ends so: it was done, the log isn't legal, the world was full, or memory ran out
+-- the words ask for a record of a file that is none
+abbrev pub ShowsNone : Option Task → Files → Type 0
+ShowsNone None files = ⊥
+ShowsNone (Some (replay schedule config)) files = ⊥
+ShowsNone (Some (check log)) files = ⊥
+ShowsNone (Some (show kind file)) files = IsShownRecord files kind file → ⊥
+ShowsNone (Some (code k m digits)) files = ⊥
+
+-- a run that can be done ends so: it was done, the log isn't legal, the file is no record, the world was full, or memory ran out
 abbrev pub IsPossibleEnd : Option Task → Files → Status → Type 0
 IsPossibleEnd task files Done = Unit {0}
 IsPossibleEnd task files (NotLegal clause a b) = ChecksIllegal task files
@@ -265,5 +316,6 @@ IsPossibleEnd task files (BadConfig why) = ⊥
 IsPossibleEnd task files (BadText line why) = ⊥
 IsPossibleEnd task files (TooLong line) = ⊥
 IsPossibleEnd task files (Full events held) = Unit {0}
+IsPossibleEnd task files (BadRecord at why) = ShowsNone task files
 IsPossibleEnd task files SinkFault = ⊥
 IsPossibleEnd task files NoMemory = Unit {0}

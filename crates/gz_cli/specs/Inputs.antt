@@ -1,12 +1,18 @@
--- What the files of a run give: a configuration, the lines of a schedule, and the calls of a log.
-use Rattle.std.specs.Prelude.{ℕ, ◌≡◌, ◌≤◌, ◌⊎◌, List, length, filter_map, Option, Some, None, Ok, Err}
+-- What the files of a run give: a configuration, the lines of a schedule, the calls of a log, and the lines of a record.
+use Rattle.std.specs.Prelude.{ℕ, ◌≡◌, ◌≤◌, ◌⊎◌, List, length, filter_map, Option, Some, None, Result, Ok, Err}
 use Rattle.gz_config.specs.declared.Config.{Config}
 use Rattle.gz_config.specs.declared.Order.TheVariants.{Parallel}
 use Rattle.gz_settings.specs.Settings.{read_of}
 use Rattle.gz_settings.specs.declared.refusal.ConfigText.{ConfigText}
 use Rattle.gz_lines.specs.Schedule.{readings, line_of, AreFaultless, IsFirstFault}
 use Rattle.gz_lines.specs.declared.line.Line.{Line}
+use Rattle.gz_show.specs.Shown.{IsRowText, IsFragmentText, shown_row, shown_fragment}
+use Rattle.gz_show.specs.declared.errors.RecordWhy.{RecordWhy}
+use Rattle.gz_show.specs.declared.errors.ShowError.{ShowError}
+use Rattle.gz_show.specs.declared.errors.ShowError.TheVariants.{Bad}
 use Rattle.gz_text.specs.declared.faults.Fault.{Fault}
+use Rattle.gz_words.specs.declared.command.Record.{Record}
+use Rattle.gz_words.specs.declared.command.Record.TheVariants.{Row, Fragment}
 use Rattle.gz_history.specs.Broken.{IsFirstBroken}
 use Rattle.gz_history.specs.Legal.{IsLegal}
 use Rattle.gz_history.specs.declared.legality.Broken.{Broken}
@@ -118,3 +124,31 @@ pub record IsReadableLog (files : Files) (name : List ℕ) : Type 0 where
   pub within : length bytes ≤ 67108864
   pub log : Log
   pub reads : parsed bytes ≡ Ok log
+
+-- the bytes are a record of this kind, and these are its lines
+abbrev pub IsRecordText : Record → List ℕ → List ℕ → Type 0
+IsRecordText Row bytes text = IsRowText bytes text
+IsRecordText Fragment bytes text = IsFragmentText bytes text
+
+-- the lines of the record of this kind that the bytes are, or their first fault
+abbrev pub shown : Record → List ℕ → Result (List ℕ) ShowError
+shown Row bytes = shown_row bytes
+shown Fragment bytes = shown_fragment bytes
+
+-- the file is a record of this kind, and these are its lines
+abbrev pub LoadsRecord : Files → Record → List ℕ → List ℕ → Type 0
+LoadsRecord files kind name text = (bytes : List ℕ) × (HasBytes files name bytes × IsRecordText kind bytes text)
+
+-- the file is no record of this kind, and this is its first fault
+abbrev pub IsRecordFaultAt : Files → Record → List ℕ → ℕ → RecordWhy → Type 0
+IsRecordFaultAt files kind name at why = (bytes : List ℕ) × (HasBytes files name bytes × (shown kind bytes ≡ Err (Bad at why)))
+
+-- the file is a record of this kind
+abbrev pub IsShownRecord : Files → Record → List ℕ → Type 0
+IsShownRecord files kind name = (text : List ℕ) × LoadsRecord files kind name text
+
+-- the shelf tells the file, which is within the limit
+pub record IsReadableFile (files : Files) (name : List ℕ) : Type 0 where
+  pub bytes : List ℕ
+  pub file : TellsBytes files name bytes
+  pub within : length bytes ≤ 67108864

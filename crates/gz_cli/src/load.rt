@@ -1,10 +1,11 @@
-//! A configuration, a schedule and a log are read from a shelf.
+//! A configuration, a schedule, a log and a record are read from a shelf.
 ghost use Rattle.std.specs.Prelude.{◌≡◌, Some, IfOk, IfErr, All, option_map};
 ghost use Rattle.gz_config.specs.Configurations.{IsConfig};
 ghost use Rattle.gz_history.specs.Broken.{IsHistory};
 ghost use Rattle.gz_lines.specs.Schedule.{IsBoundedLine};
-ghost use Rattle.gz_cli.specs.Inputs.{HasBytes, Configures, Loads, LoadsLog};
-ghost use Rattle.gz_cli.specs.Causes.{NoneFell, RefusalCause, UnreadCause, ConfigCause, SettingCause, LoadCause, LogCause, ShelfCause, config_status, text_status};
+ghost use Rattle.gz_show.specs.Shown.{MayShow};
+ghost use Rattle.gz_cli.specs.Inputs.{HasBytes, Configures, Loads, LoadsLog, LoadsRecord, IsRecordText, shown};
+ghost use Rattle.gz_cli.specs.Causes.{NoneFell, RefusalCause, UnreadCause, ConfigCause, SettingCause, LoadCause, LogCause, RecordCause, ShelfCause, config_status, text_status, record_status};
 
 use crate::status::Status;
 use gz_core::{Config, TextError, Word};
@@ -12,7 +13,9 @@ use gz_history::CallRec;
 use gz_logs::parse_log;
 use gz_script::{Line, read_schedule};
 use gz_settings::{ConfigText, read_config};
+use gz_show::{ShowError, show_fragment, show_row};
 use gz_site::{Shelf, ShelfError};
+use gz_words::Record;
 use std::alloc::Global;
 
 /// The most bytes of a file.
@@ -113,6 +116,36 @@ pub fn calls<F: Shelf>(alloc: Global, name: &str, shelf: &mut F) -> Result<Vec<C
     }
 }
 
+/// The lines of the record of a kind in a file, or the status that says why there are none.
+pub fn record_lines<F: Shelf>(
+    alloc: Global,
+    kind: Record,
+    name: &str,
+    shelf: &mut F,
+) -> Result<Vec<u8>, Status>
+    ensures loads { IfOk result (λ lines. LoadsRecord (F.files shelf.old) kind name.now lines.items) }
+    ensures cause { IfErr result (RecordCause (F.files shelf.old) kind name.now (record { faults = F.faults shelf.old; absences = F.absences shelf.old; excesses = F.excesses shelf.old; sink = 0 }) (record { faults = F.faults shelf.new; absences = F.absences shelf.new; excesses = F.excesses shelf.new; sink = 0 })) }
+{
+    match read(alloc, name, shelf) {
+        Ok(bytes) => match shown(alloc, kind, bytes.as_slice()) {
+            Ok(text) => Ok(text),
+            Err(error) => Err(bad_record(error)),
+        },
+        Err(status) => Err(status),
+    }
+}
+
+/// The lines of the record of a kind that these bytes are, or their first fault.
+fn shown(alloc: Global, kind: Record, bytes: &[u8]) -> Result<Vec<u8>, ShowError>
+    ensures found { IfOk result (λ lines. IsRecordText kind bytes.now lines.items) }
+    ensures exact { MayShow result (shown kind bytes.now) }
+{
+    match kind {
+        Record::Row => show_row(alloc, bytes),
+        Record::Fragment => show_fragment(alloc, bytes),
+    }
+}
+
 /// The bytes of a file, or the status that says why there are none.
 fn read<F: Shelf>(alloc: Global, name: &str, shelf: &mut F) -> Result<Vec<u8>, Status>
     ensures bytes { IfOk result (λ bytes. HasBytes (F.files shelf.old) name.now bytes.items) }
@@ -160,5 +193,15 @@ fn bad_text(error: TextError) -> Status
         TextError::Bad { line, why } => Status::BadText { line, why },
         TextError::TooLong { line } => Status::TooLong { line },
         TextError::NoMemory => Status::NoMemory,
+    }
+}
+
+/// The status of bytes that are no record.
+fn bad_record(error: ShowError) -> Status
+    ensures { result ≡ record_status error }
+{
+    match error {
+        ShowError::Bad { at, why } => Status::BadRecord { at, why },
+        ShowError::NoMemory => Status::NoMemory,
     }
 }

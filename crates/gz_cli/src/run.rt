@@ -6,7 +6,7 @@ ghost use Rattle.gz_site.specs.Files.{IsSomePart};
 ghost use Rattle.gz_words.specs.Words.{task_in};
 ghost use Rattle.gz_world.specs.Told.{IsReachedBy};
 ghost use Rattle.gz_cli.specs.Causes.{Cause, RunCause, IsFeasible, AreSteady, IsPossibleEnd, IsRefusal};
-ghost use Rattle.gz_cli.specs.Runs.{Replays, WritesOutput, FillsUp, Fills, IsCutShort, IsRunCut, IsCode, IsCheck, Whole};
+ghost use Rattle.gz_cli.specs.Runs.{Replays, WritesOutput, FillsUp, Fills, IsCutShort, IsRunCut, IsCode, OnlyReads, Whole};
 ghost use Rattle.gz_cli.specs.Worlds.{AreFresh, AllTellAt, AgreesBy, log_of_world};
 
 use crate::bench::Bench;
@@ -14,6 +14,7 @@ use crate::check::check;
 use crate::load::load;
 use crate::pieces::write_pieces;
 use crate::replay::replay_lines;
+use crate::show::show;
 use crate::status::Status;
 use gz_core::Word;
 use gz_site::{Shelf, Sink, Site};
@@ -21,7 +22,7 @@ use gz_words::{Command, command_of, texts_of};
 use std::alloc::Global;
 
 /// Does what the words ask for: plays a schedule in a world over the bench's sites and writes the log of its calls,
-/// judges a log and writes the number of its calls, or cuts bytes into pieces and writes a line for each.
+/// judges a log and writes the number of its calls, writes the lines of a record, or cuts bytes into pieces and writes a line for each.
 ///
 /// A refusal leaves the bench as it was, and writes nothing. Once a world was opened, the bench holds it, with the sites
 /// in it.
@@ -42,7 +43,7 @@ pub fn run<F: Shelf, O: Sink, S: Site>(
     ensures complete { IsFeasible (task_in words.now) (F.files shelf.old) → AreSteady (record { faults = F.faults shelf.old; absences = F.absences shelf.old; excesses = F.excesses shelf.old; sink = O.faults out.old }) (record { faults = F.faults shelf.new; absences = F.absences shelf.new; excesses = F.excesses shelf.new; sink = O.faults out.new }) → IsPossibleEnd (task_in words.now) (F.files shelf.old) result }
 
     // What Done means: the lines were played and the whole log of their world written, a log is legal and the number of its calls was
-    // written, or the whole text of the pieces.
+    // written, the lines of a record, or the whole text of the pieces.
     ensures done { result ≡ Status.Done → WritesOutput S.told (task_in words.now) (F.files shelf.old) bench.old.sites.items bench.new.world (λ text. Whole (O.written out.old) text (O.written out.new)) }
 
     // What holds of the world that is left, whatever the status.
@@ -53,8 +54,8 @@ pub fn run<F: Shelf, O: Sink, S: Site>(
     // A code reads no file, and leaves the bench as it was.
     ensures untouched { IsCode (task_in words.now) → (shelf.new ≡ shelf.old) × (bench.new ≡ bench.old) }
 
-    // A check leaves the bench as it was.
-    ensures kept { IsCheck (task_in words.now) → bench.new ≡ bench.old }
+    // A check of a log leaves the bench as it was, and so does a record that is shown.
+    ensures kept { OnlyReads (task_in words.now) → bench.new ≡ bench.old }
 
     // What stands after another status.
     ensures refused { IsRefusal result → (bench.new ≡ bench.old) × (O.written out.new ≡ O.written out.old) }
@@ -70,6 +71,7 @@ pub fn run<F: Shelf, O: Sink, S: Site>(
             replay(alloc, schedule, config, shelf, out, bench)
         }
         Ok(Some(Command::Check { log })) => check(alloc, log, shelf, out),
+        Ok(Some(Command::Show { kind, file })) => show(alloc, kind, file, shelf, out),
         Ok(Some(Command::Code { k, m, digits })) => write_pieces(alloc, k, m, digits, out),
         Ok(None) => Status::Usage,
         Err(_) => Status::NoMemory,

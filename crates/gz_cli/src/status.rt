@@ -4,6 +4,7 @@ ghost use Rattle.gz_cli.specs.Statuses.{exit_number};
 
 use gz_core::{PutName, Why, Word};
 use gz_settings::ConfigText;
+use gz_show::RecordWhy;
 use std::fmt;
 
 /// How a run ends, with its number and its text.
@@ -26,6 +27,8 @@ pub enum Status {
     TooLong { line: u32 },
     /// The world took no more events: so many are in its journal, and so many bytes are held.
     Full { events: u32, held: u64 },
+    /// The file is no record of the kind that was asked for: the place of its first fault, and what is wrong there.
+    BadRecord { at: usize, why: RecordWhy },
     /// The sink failed.
     SinkFault,
     NoMemory,
@@ -48,6 +51,7 @@ impl Drop for Status {
             Status::BadText { line: _, why: _ } => {},
             Status::TooLong { line: _ } => {},
             Status::Full { events: _, held: _ } => {},
+            Status::BadRecord { at: _, why: _ } => {},
             Status::SinkFault => {},
             Status::NoMemory => {},
         }
@@ -70,6 +74,7 @@ impl Status {
             Status::BadText { .. } => 7,
             Status::TooLong { .. } => 8,
             Status::Full { .. } => 9,
+            Status::BadRecord { .. } => 10,
             Status::SinkFault => 11,
             Status::NoMemory => 12,
         }
@@ -101,6 +106,7 @@ impl fmt::Display for Status {
             }
             Status::TooLong { line } => write!(f, "line {line}: too long"),
             Status::Full { events, held } => write!(f, "full after {events} events, {held} bytes"),
+            Status::BadRecord { at, why } => write!(f, "record: {why} at {at}"),
             Status::SinkFault => write!(f, "cannot write"),
             Status::NoMemory => write!(f, "out of memory"),
         }

@@ -5,3 +5,5 @@
 mod edge;
 #[cfg(test)]
 mod runs;
+#[cfg(test)]
+mod shows;

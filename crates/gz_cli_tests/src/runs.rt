@@ -23,19 +23,19 @@ const PUT_GET_LOG: &str =
 /// The words of a run, the texts of its files `s` and `c`, the calls of the shelf and of the sink that fail (counted from 1, 0 for none), and
 /// the number and the text of its status and what it writes.
 #[derive(Clone, Copy)]
-struct Case<'a> {
-    words: &'a [&'a str],
-    text: &'a [u8],
-    config: &'a [u8],
-    shelf_fails: u32,
-    sink_fails: u32,
-    number: u8,
-    status: &'a str,
-    log: &'a str,
+pub(crate) struct Case<'a> {
+    pub(crate) words: &'a [&'a str],
+    pub(crate) text: &'a [u8],
+    pub(crate) config: &'a [u8],
+    pub(crate) shelf_fails: u32,
+    pub(crate) sink_fails: u32,
+    pub(crate) number: u8,
+    pub(crate) status: &'a str,
+    pub(crate) log: &'a str,
 }
 
 /// The replay of a text, in which nothing fails.
-fn played<'a>(text: &'a [u8], number: u8, status: &'a str, log: &'a str) -> Case<'a> {
+pub(crate) fn played<'a>(text: &'a [u8], number: u8, status: &'a str, log: &'a str) -> Case<'a> {
     Case {
         words: &["replay", "s"],
         text,
@@ -121,7 +121,7 @@ fn ends(
 }
 
 /// Whether the run of a case ends as it says.
-fn holds(alloc: Global, case: &Case) -> Result<bool, AllocError> {
+pub(crate) fn holds(alloc: Global, case: &Case) -> Result<bool, AllocError> {
     let words = words_of(alloc, case.words)?;
     let mut shelf = shelf_of(alloc, case)?;
     ends(alloc, words.as_slice(), &mut shelf, case)

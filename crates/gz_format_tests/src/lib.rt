@@ -1,4 +1,4 @@
-//! Tests of records as bytes, of objects that are cut into them, and of objects that are gathered from them.
+//! Tests of records as bytes and of their lines, of objects that are cut into them, and of objects that are gathered from them.
 #![tactic(auto)]
 
 #[cfg(test)]
@@ -9,3 +9,5 @@ mod fragments;
 mod gatherings;
 #[cfg(test)]
 mod rows;
+#[cfg(test)]
+mod shown;

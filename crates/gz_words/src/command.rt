@@ -1,5 +1,14 @@
 //! What the words of the command line ask for.
 
+/// The records that can be shown.
+#[derive(Clone, Copy, Debug, PartialEq, Eq)]
+pub enum Record {
+    /// The row of an object at a site.
+    Row,
+    /// A fragment of an object.
+    Fragment,
+}
+
 /// What the words ask for.
 #[derive(Drop)]
 pub enum Command<'a> {
@@ -11,6 +20,11 @@ pub enum Command<'a> {
     /// The log of this name is judged.
     Check {
         log: &'a str,
+    },
+    /// The record in the file of this name is shown.
+    Show {
+        kind: Record,
+        file: &'a str,
     },
     /// The bytes that these digits spell are cut into k pieces, and m more are added.
     Code {

@@ -2,9 +2,9 @@
 ghost use Rattle.std.specs.Prelude.{◌≡◌, ◌&&◌, IfSome, map, option_map};
 ghost use Rattle.std.specs.Char.{is_ascii_hexdigit};
 ghost use Rattle.std.specs.List.{list_all, list_any};
-ghost use Rattle.gz_words.specs.Words.{task_in, task_of, form_of, replay_in, named_in, code_in, is_option, is_shape, is_hex, IsWellFormed};
+ghost use Rattle.gz_words.specs.Words.{task_in, task_of, form_of, replay_in, show_in, record_in, named_in, paired_in, code_in, is_option, is_shape, is_hex, IsWellFormed};
 
-use crate::command::Command;
+use crate::command::{Command, Record};
 use gz_text::fields::number;
 
 /// What the words ask for, none where they are of no form. A word that begins with a dash is of no form.
@@ -40,7 +40,8 @@ fn is_option(word: &str) -> bool
     }
 }
 
-/// What words without a dash ask for: `check LOG`, `replay SCHEDULE`, `replay SCHEDULE CONFIG`, `code K M HEX`.
+/// What words without a dash ask for: `check LOG`, `replay SCHEDULE`, `replay SCHEDULE CONFIG`, `show row FILE`,
+/// `show fragment FILE`, `code K M HEX`.
 #[tactic(auto, using(crate::proofs::Forms::no_form))]
 fn form_of<'a>(words: &[&'a str]) -> Option<Command<'a>>
     ensures exact { option_map task_of result ≡ form_of (map (λ word. word.now) words.now) }
@@ -50,7 +51,7 @@ fn form_of<'a>(words: &[&'a str]) -> Option<Command<'a>>
         [] => None,
         [_] => None,
         [verb, name] => named(verb, name),
-        [verb, schedule, config] => replay(verb, schedule, Some(*config)),
+        [verb, first, second] => paired(verb, first, second),
         [verb, k, m, digits] => code(verb, k, m, digits),
         [_, _, _, _, _, ..] => None,
     }
@@ -65,6 +66,39 @@ fn named<'a>(verb: &str, name: &'a str) -> Option<Command<'a>>
         Some(Command::Check { log: name })
     } else {
         replay(verb, name, None)
+    }
+}
+
+/// What a verb and two words ask for: `show row FILE`, `show fragment FILE` or `replay SCHEDULE CONFIG`.
+fn paired<'a>(verb: &str, first: &'a str, second: &'a str) -> Option<Command<'a>>
+    ensures exact { option_map task_of result ≡ paired_in verb.now first.now second.now }
+    ensures sound { IfSome result IsWellFormed }
+{
+    if verb == "show" {
+        show(first, second)
+    } else {
+        replay(verb, first, Some(second))
+    }
+}
+
+fn show<'a>(word: &str, file: &'a str) -> Option<Command<'a>>
+    ensures exact { option_map task_of result ≡ show_in word.now file.now }
+    ensures sound { IfSome result IsWellFormed }
+{
+    let kind = record_of(word)?;
+    Some(Command::Show { kind, file })
+}
+
+/// The kind of record that a word names.
+fn record_of(word: &str) -> Option<Record>
+    ensures { result ≡ record_in word.now }
+{
+    if word == "row" {
+        Some(Record::Row)
+    } else if word == "fragment" {
+        Some(Record::Fragment)
+    } else {
+        None
     }
 }
 

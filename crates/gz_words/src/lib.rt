@@ -6,5 +6,5 @@ mod grammar;
 mod parser;
 pub mod read;
 
-pub use command::Command;
+pub use command::{Command, Record};
 pub use read::{command_of, texts_of};

@@ -41,6 +41,7 @@ fn program<'a>(alloc: Global) -> Result<Command<'a>, AllocError> {
         .subcommand_required(true)
         .subcommand(replay(alloc)?)?
         .subcommand(check(alloc)?)?
+        .subcommand(show(alloc)?)?
         .subcommand(code(alloc)?)
 }
 
@@ -52,6 +53,12 @@ fn replay<'a>(alloc: Global) -> Result<Command<'a>, AllocError> {
 
 fn check<'a>(alloc: Global) -> Result<Command<'a>, AllocError> {
     Command::new(alloc, "check").arg(required(alloc, "log"))
+}
+
+fn show<'a>(alloc: Global) -> Result<Command<'a>, AllocError> {
+    Command::new(alloc, "show")
+        .arg(required(alloc, "kind"))?
+        .arg(required(alloc, "file"))
 }
 
 fn code<'a>(alloc: Global) -> Result<Command<'a>, AllocError> {

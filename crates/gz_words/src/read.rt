@@ -19,8 +19,8 @@ pub fn texts_of(alloc: Global, words: &[Word]) -> Result<Vec<&str>, AllocError>
     Ok(texts)
 }
 
-/// What the words ask for: `replay SCHEDULE [CONFIG]`, `check LOG` or `code K M HEX`; none where they are of no form. A word
-/// that begins with a dash is of no form.
+/// What the words ask for: `replay SCHEDULE [CONFIG]`, `check LOG`, `show row FILE`, `show fragment FILE` or `code K M HEX`;
+/// none where they are of no form. A word that begins with a dash is of no form.
 pub fn command_of<'a>(
     alloc: Global,
     words: &'a [&'a str],
