@@ -2,10 +2,14 @@
 //! bytes into the pieces of a code.
 #![tactic(auto)]
 
+ghost use Rattle.std.specs.Prelude.{◌≡◌, Some};
+ghost use Rattle.gz_site.specs.Told.{nothing};
+
 use gz_cli::run::run;
 use gz_cli::{Bench, FileShelf, Status, StdSink};
 use gz_core::Word;
-use std::alloc::AllocError;
+use gz_site::{BoxedSite, MemSite, Site};
+use std::alloc::{AllocError, Global};
 use std::process::ExitCode;
 use std::{env, io};
 
@@ -31,18 +35,51 @@ fn arguments(rt: &HostRuntime) -> io::Result<Vec<Word>> {
     Ok(words)
 }
 
-/// Runs the words over the files of the folder and sixteen empty sites in memory, with the output on standard output.
+/// Runs the words over the files of the folder and sixteen boxes with empty sites in memory, with the output on standard output.
 fn run_words(rt: &HostRuntime, words: &[Word]) -> Status {
-    match Bench::new(rt.alloc()) {
-        Ok(mut bench) => run(
-            rt.alloc(),
-            words,
-            &mut FileShelf::new(rt),
-            &mut StdSink::new(rt),
-            &mut bench,
-        ),
+    match run_over_boxes(rt, words) {
+        Ok(status) => status,
         Err(AllocError) => Status::NoMemory,
     }
+}
+
+fn run_over_boxes(rt: &HostRuntime, words: &[Word]) -> Result<Status, AllocError> {
+    let alloc = rt.alloc();
+    let mut bench = Bench::bare(alloc);
+    bench.add_four(
+        BoxedSite(Box::new(alloc, site(alloc))?),
+        BoxedSite(Box::new(alloc, site(alloc))?),
+        BoxedSite(Box::new(alloc, site(alloc))?),
+        BoxedSite(Box::new(alloc, site(alloc))?),
+    )?;
+    bench.add_four(
+        BoxedSite(Box::new(alloc, site(alloc))?),
+        BoxedSite(Box::new(alloc, site(alloc))?),
+        BoxedSite(Box::new(alloc, site(alloc))?),
+        BoxedSite(Box::new(alloc, site(alloc))?),
+    )?;
+    bench.add_four(
+        BoxedSite(Box::new(alloc, site(alloc))?),
+        BoxedSite(Box::new(alloc, site(alloc))?),
+        BoxedSite(Box::new(alloc, site(alloc))?),
+        BoxedSite(Box::new(alloc, site(alloc))?),
+    )?;
+    bench.add_four(
+        BoxedSite(Box::new(alloc, site(alloc))?),
+        BoxedSite(Box::new(alloc, site(alloc))?),
+        BoxedSite(Box::new(alloc, site(alloc))?),
+        BoxedSite(Box::new(alloc, site(alloc))?),
+    )?;
+    let mut shelf = FileShelf::new(rt);
+    let mut out = StdSink::new(rt);
+    Ok(run(alloc, words, &mut shelf, &mut out, &mut bench))
+}
+
+/// A site in memory that holds nothing and never fails.
+fn site(alloc: Global) -> MemSite
+    ensures { ⟦<MemSite as Site>⟧.told result ≡ Some nothing }
+{
+    MemSite::new(alloc, Vec::new(alloc))
 }
 
 /// Words that are no text are of no form.

@@ -1,5 +1,6 @@
 mod CheckLemmas
 mod CodeLemmas
+mod EmptySites
 mod PlayLemmas
 mod ReplayLemmas
 mod RunLemmas

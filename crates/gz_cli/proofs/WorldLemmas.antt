@@ -3,9 +3,7 @@ use Rattle.std.proofs.Common.{ℕ, zero, suc, ◌≡◌, ◌≤◌, ◌<◌, Lis
 use Rattle.std.specs.Prelude.{Option, IfSome, IsSome, option_map, unwrap_or}
 use Rattle.gz_config.specs.Configurations.{IsConfig}
 use Rattle.gz_config.specs.declared.Config.{Config}
-use Rattle.gz_site.specs.Told.{Told, IsEmpty, nothing}
-use Rattle.gz_site.specs.Memory.{memory}
-use Rattle.gz_site.specs.declared.memory.MemSite.{MemSite}
+use Rattle.gz_site.specs.Told.{Told, IsEmpty}
 use Rattle.gz_site.specs.Many.{told_at}
 use Rattle.gz_history.specs.Legal.{IsLegal}
 use Rattle.gz_script.specs.Plays.{Plays, PlaysInPart, ChangesBy}
@@ -127,14 +125,3 @@ pub filled_by : {S : Type 0} (w : World S) (events held : ℕ) (status : Status)
 filled_by w events held status is told full =
     let same : Full events held ≡ Full (length w.journal.items) w.held = sym is ∙ told in
     record { full = full; events_are = cc; held_is = cc }
-
--- one more site that holds nothing
-pub more-empty : {S : Type 0} (told : S → Option Told) (sites : List S) (site : S) → AreEmpty told sites → IfSome (told site) IsEmpty → AreEmpty told (sites ++ site ∷ [])
-more-empty told [] site all one zero = one
-more-empty told [] site all one (suc i) = tt
-more-empty told (first ∷ sites) site all one zero = all zero
-more-empty told (first ∷ sites) site all one (suc i) = more-empty told sites site (λ j. all (suc j)) one i
-
--- a new site in memory holds nothing
-pub empty-site : (site : MemSite) → memory site ≡ nothing → IsEmpty (memory site)
-empty-site site same = record { rows = λ key. ap (λ (t : Told). t.rows key) same; blobs = λ blob. ap (λ (t : Told). t.blobs blob) same; top = ap (λ (t : Told). t.top) same }

@@ -4,6 +4,8 @@
 #[cfg(test)]
 mod blobs;
 #[cfg(test)]
+mod boxes;
+#[cfg(test)]
 mod legality;
 #[cfg(test)]
 mod logs;

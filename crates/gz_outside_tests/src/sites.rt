@@ -9,13 +9,14 @@ use std::alloc::Global;
 use std::collections::BTreeMap;
 
 /// What a read shows: the tag of the row, and whether the row is the empty one; none where there is no row.
-type Shown = Option<(Etag, bool)>;
+pub type Shown = Option<(Etag, bool)>;
 
-const FIRST: Shown = Some((Etag(1), true));
+pub const FIRST: Shown = Some((Etag(1), true));
 
 const SECOND: Shown = Some((Etag(2), true));
 
-fn shown(read: &RowRead) -> Shown {
+/// What a read shows.
+pub fn shown(read: &RowRead) -> Shown {
     match read {
         RowRead::NoRow => None,
         RowRead::Row { etag, row } => {
@@ -30,9 +31,9 @@ fn read(alloc: Global, site: &mut MemSite, key: &Key) -> Result<Shown, SiteFault
 }
 
 /// What came of writing the empty row.
-type Written = Result<RowWrite, SiteFault>;
+pub type Written = Result<RowWrite, SiteFault>;
 
-const WRITTEN_FIRST: Written = Ok(RowWrite::Written { etag: Etag(1) });
+pub const WRITTEN_FIRST: Written = Ok(RowWrite::Written { etag: Etag(1) });
 
 const WRITTEN_SECOND: Written = Ok(RowWrite::Written { etag: Etag(2) });
 

@@ -2,6 +2,8 @@
 //! an implementation in memory.
 #![tactic(auto)]
 
+pub mod boxed;
+pub mod counted;
 pub mod many;
 pub mod memory;
 pub mod memory_files;
@@ -9,6 +11,8 @@ pub mod shelves;
 pub mod sinks;
 pub mod sites;
 
+pub use boxed::BoxedSite;
+pub use counted::CountedSite;
 pub use many::{drop_blob_at, get_blob_at, put_blob_at, read_at, write_at};
 pub use memory::{Failing, MemSite};
 pub use memory_files::{MemShelf, MemSink};

@@ -8,13 +8,13 @@ use gz_core::{Config, Order};
 use gz_history::log_text;
 use gz_script::line::Line;
 use gz_script::{play, read_schedule};
-use gz_site::MemSite;
+use gz_site::Site;
 use gz_world::{Entry, Outcome, World};
 use std::alloc::Global;
 use std::test::Fail;
 
 /// The lines of a text.
-fn lines(alloc: Global, text: &str) -> Option<Vec<Line>>
+pub fn lines(alloc: Global, text: &str) -> Option<Vec<Line>>
     ensures { IfSome result (λ lines. All IsBoundedLine lines.items) }
 {
     match read_schedule(alloc, text.as_bytes()) {
@@ -35,14 +35,14 @@ fn skipped(journal: &[Entry]) -> u32 {
 }
 
 /// The log of a world.
-fn log_of(world: &World<MemSite>) -> Option<Vec<u8>> {
+fn log_of<S: Site>(world: &World<S>) -> Option<Vec<u8>> {
     let events = u32::try_from(world.journal.len()).ok()?;
     let skipped = skipped(world.journal.as_slice());
     log_text(world.alloc, world.calls.as_slice(), events, skipped).ok()
 }
 
 /// The log of a world after lines are played in it.
-fn log_after(world: &mut World<MemSite>, lines: &[Line]) -> Option<Vec<u8>>
+pub fn log_after<S: Site>(world: &mut World<S>, lines: &[Line]) -> Option<Vec<u8>>
     requires fits { IsFitting world.old }
     requires bounded { All IsBoundedLine lines.now }
 {

@@ -4,7 +4,7 @@ use Rattle.gz_site.specs.Told.{Told}
 use Rattle.gz_site.specs.Memory.{told_of}
 use Rattle.gz_site.specs.declared.memory.MemSite.{MemSite}
 use Rattle.gz_world.specs.Opening.{AreEmpty}
-use Rattle.gz_cli.proofs.WorldLemmas.{more-empty, empty-site}
+use Rattle.gz_cli.proofs.EmptySites.{more-empty, empty-site}
 use Rattle.gz_cli.proofs.bench.Bench+MemSite.new.Goals as goal
 
 pub loop-alloc-preserved : goal.loop-alloc-preserved
