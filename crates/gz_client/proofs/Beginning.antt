@@ -46,6 +46,7 @@ use Rattle.gz_round.specs.declared.run.Target.TheVariants.{Latest, At}
 use Rattle.gz_round.proofs.Beside.{AreBlobOuts, IsBeside, beside_sent, blobs_sent, runs_sent, ready_sent, rounds_beside, going_beside}
 use Rattle.gz_round.proofs.Bounds.{turned_below}
 use Rattle.gz_round.proofs.Turns.{over_sent}
+use Rattle.gz_round.proofs.Phases.{phases_sent}
 use Rattle.gz_client.specs.Blobs.{is_put}
 use Rattle.gz_client.specs.Changes.{changed}
 use Rattle.gz_client.specs.Openings.{IsOpening, OpensBy, OpensPut, AreStored}
@@ -156,6 +157,7 @@ rows_begun c w past run puts first outs used no_put none unset reads runs =
     record {
       stands = record {
         runs = runs;
+        phases = phases_sent c w past run.stage first outs [] tt;
         fragments = puts_rows_sent c w puts first outs [] rows start;
         first = λ put. absurd (false≢true (sym no_put ∙ put));
       };
@@ -300,6 +302,7 @@ beside_begun c w past run x records awaited first reads sizes order used made ar
     record {
       stands = record {
         runs = all;
+        phases = phases_sent c w past run.stage first (reads ++ outs) [] tt;
         fragments = subst (PutsStand c w puts) (sym both) (puts_stand c w x n records awaited ms sizes asks made.own made.count is long);
         first = λ put blobs_first. absurd (not_parallel c order blobs_first);
       };

@@ -1,5 +1,5 @@
 -- What a client makes of what its rows came to: the call waits for its fragments, asks for those of a value, or ends by a cause.
-use Rattle.std.proofs.Common.{◌≡◌, ◌≢◌, ℕ, ◌+◌, Bool, true, false, List, [], ◌∷◌, ◌++◌, length, Option, Some, None, refl, sym, ap, ◌∙◌, subst, inl, inr, arith}
+use Rattle.std.proofs.Common.{◌≡◌, ℕ, ◌+◌, Bool, true, false, List, [], ◌∷◌, ◌++◌, length, Option, Some, None, refl, sym, ap, ◌∙◌, subst, inl, inr, arith}
 use Rattle.std.proofs.lemmas.Bool.{false≢true}
 use Rattle.std.proofs.lemmas.Option.{same_Some, none-some}
 use Rattle.gz_config.specs.declared.Config.{Config}
@@ -28,14 +28,15 @@ use Rattle.gz_round.specs.Causes.{EndsBy, IsChosenOwn}
 use Rattle.gz_round.specs.Counting.{IsGoing, outs}
 use Rattle.gz_round.specs.Sending.{AreAllowed}
 use Rattle.gz_round.specs.Standing.{AreAskedAgain}
-use Rattle.gz_round.specs.Starting.{AreRowRequests, MakeNoStep}
+use Rattle.gz_round.specs.Starting.{AreRowRequests, MakeNoStep, ReadAlone}
 use Rattle.gz_round.proofs.Beside.{again_sent, beside_rested, beside_sent, beside_trans, going_beside, chosen_beside, noticed_beside, rounds_beside}
 use Rattle.gz_round.proofs.GivingIn.{count_all}
+use Rattle.gz_round.proofs.Passes.{alone_stepless}
 use Rattle.gz_client.specs.Blobs.{is_put, has_asked, has_fetched}
 use Rattle.gz_client.specs.Causes.{CannotStore, HasCause, IsOpen, IsPlaced}
 use Rattle.gz_client.specs.Changes.{changed}
 use Rattle.gz_client.specs.Running.{GathersValue, HasRows, SettlesBy, StandsFor, WaitsToStore}
-use Rattle.gz_client.specs.Sends.{IsTurn}
+use Rattle.gz_client.specs.Sends.{IsTurn, tells_chosen}
 use Rattle.gz_client.specs.Traces.{AreBelow}
 use Rattle.gz_client.specs.Turning.{FollowsBy, GathersFrom, HasFollowed, HasTurnedBy, IsPutValue, PlacedAnswer, PlacesBy, ReadsBy}
 use Rattle.gz_client.specs.declared.client.Client.{Client}
@@ -121,14 +122,6 @@ rows_placed c w past ms v allowed going asked chosen = record {
 
 -- ---- the client turns
 
--- what rows come to, other than that the call goes on
-abbrev pub is_goes : RowOutcome → Bool
-is_goes Goes = true
-is_goes outcome = false
-
-pub not_goes : (outcome other : RowOutcome) → outcome ≡ other → is_goes other ≡ false → outcome ≢ Goes
-not_goes outcome other is none goes = false≢true (sym none ∙ (sym (ap is_goes is) ∙ ap is_goes goes))
-
 -- a put that is chosen waits
 placed_waits : (client : Client) (run : Run) (puts : Puts) (version first : ℕ) (send : List Out) (calls round : ℕ) (running : Running) (turn : Turn) (w : Caller) (past : List Trace) (ms : List Action)
     → AreRowRequests send → MakeNoStep send → HasFollowed client.config w past run puts [] (sent_from first send ms) (PlacedAt version) → PlacesBy client run puts version send (Runs calls round (Some running)) turn
@@ -159,8 +152,18 @@ placed_waits client run puts version first send calls round running turn w past 
         rules = keeps_rested c w ns h.rules;
         stands = subst (λ (r : Running). StandsFor c w past r (Rested ∷ ns)) (sym p.3) waits;
       }),
-      subst (λ (t : Turn). IsTurn c ms first t (Rested ∷ [])) (sym p.2) (sends_rows c ms first send None (Rested ∷ []) sent (λ done. stepless) (inr done.reads)),
+      subst (λ (t : Turn). IsTurn c ms first t (Rested ∷ [])) (sym p.2) (sends_rows c ms first send None (Rested ∷ []) sent (λ done. stepless) (λ a e other. absurd (none-some a e)) (inr done.reads)),
     )
+
+settles_tells : (c : Config) (v : ℕ) (counts : Counts) (answer : Answer) → SettlesBy c v counts (Some answer) → tells_chosen answer ≡ true
+settles_tells c v counts (Ok u) h = refl
+settles_tells c v counts (Thin u told) h = refl
+settles_tells c v counts answer h = absurd h
+
+-- the answer of a call whose own value is chosen says so
+placed_tells : (c : Config) (own : Option Value) (v : ℕ) (counts : Counts) (answer : Answer) → PlacedAnswer c own v counts answer → tells_chosen answer ≡ true
+placed_tells c own v counts answer (inl h) = settles_tells c v counts answer h.1
+placed_tells c own v counts answer (inr h) = ap tells_chosen h.1
 
 -- a call whose own value is chosen ends
 placed_ends : (client : Client) (run : Run) (puts : Puts) (version first : ℕ) (send : List Out) (calls round : ℕ) (turn : Turn) (w : Caller) (past : List Trace) (closing ms : List Action)
@@ -184,7 +187,7 @@ placed_ends client run puts version first send calls round turn w past closing m
           placed_cause c w ns version puts.counts p.2.0 (record { going = done.comes.0; can = can_store c w ns h.asked }) (record { chosen = done.comes.1; noticed = done.comes.2 }) h.own h.fragments.counts own,
         );
       }),
-      subst (λ (t : Turn). IsTurn c ms first t closing) (sym p.2.1) (sends_rows c ms first send (Some p.2.0) closing sent (λ done. stepless) (again_or_out c closing (sent_from first send ms) h.closing_is done.reads)),
+      subst (λ (t : Turn). IsTurn c ms first t closing) (sym p.2.1) (sends_rows c ms first send (Some p.2.0) closing sent (λ done. stepless) (λ a e other. absurd (false≢true (sym other ∙ ap tells_chosen (sym (same_Some p.2.0 a e)) ∙ placed_tells c run.own version puts.counts p.2.0 p.2.2))) (again_or_out c closing (sent_from first send ms) h.closing_is done.reads)),
     )
 
 pub follows_placed : (client : Client) (run : Run) (puts : Puts) (version first : ℕ) (send : List Out) (change : Change) (turn : Turn) (w : Caller) (past : List Trace) (closing ms : List Action)
@@ -211,16 +214,16 @@ follows_on client run puts first send w past closing ms sent h = (
     calls_are = refl;
     round_is = h.turned.stands.round_is;
     rules = h.rules;
-    stands = record { runs = h.turned; fragments = h.fragments; first = h.first };
+    stands = record { runs = h.turned; phases = h.phases refl; fragments = h.fragments; first = h.first };
   },
-  sends_rows client.config ms first send None closing sent (λ done. absurd (goes_undone closing h.closing_is done)) (again_or_out client.config closing (sent_from first send ms) h.closing_is h.turned.again),
+  sends_rows client.config ms first send None closing sent (λ done. absurd (goes_undone closing h.closing_is done)) (λ a e other. absurd (none-some a e)) (again_or_out client.config closing (sent_from first send ms) h.closing_is h.turned.again),
 )
 
 -- a call ends by its rows
 pub follows_ended : (client : Client) (run : Run) (puts : Puts) (answer : Answer) (first : ℕ) (send : List Out) (w : Caller) (past : List Trace) (closing ms : List Action)
-    → AreRowRequests send → MakeNoStep send → HasFollowed client.config w past run puts closing (sent_from first send ms) (Ends answer)
+    → AreRowRequests send → ReadAlone send → HasFollowed client.config w past run puts closing (sent_from first send ms) (Ends answer)
     → FollowsBy client (changed client (Runs client.calls run.round None)) first (record { send = send; answer = Some answer }) w past closing ms
-follows_ended client run puts answer first send w past closing ms sent stepless h =
+follows_ended client run puts answer first send w past closing ms sent alone h =
     let c : Config = client.config in
     let ns : List Action = closing ++ sent_from first send ms in (
       closing,
@@ -233,14 +236,14 @@ follows_ended client run puts answer first send w past closing ms sent stepless 
         rules = h.rules;
         stands = (h.turned.allowed, ended_cause c w ns answer h.turned.comes (can_store c w ns h.asked) (puts_unfetched c w puts ns h.fragments));
       },
-      sends_rows c ms first send (Some answer) closing sent (λ done. stepless) (again_or_out c closing (sent_from first send ms) h.closing_is h.turned.reads),
+      sends_rows c ms first send (Some answer) closing sent (λ done. alone_stepless send alone) (λ a e other. alone) (again_or_out c closing (sent_from first send ms) h.closing_is h.turned.reads),
     )
 
 -- a call that learnt the value of a delete ends
 pub follows_gone : (client : Client) (run : Run) (puts : Puts) (version : ℕ) (name : Name) (first : ℕ) (send : List Out) (w : Caller) (past : List Trace) (closing ms : List Action)
-    → AreRowRequests send → MakeNoStep send → HasFollowed client.config w past run puts closing (sent_from first send ms) (Learnt version (Tomb name))
+    → AreRowRequests send → ReadAlone send → HasFollowed client.config w past run puts closing (sent_from first send ms) (Learnt version (Tomb name))
     → FollowsBy client (changed client (Runs client.calls run.round None)) first (record { send = send; answer = Some (Gone version name) }) w past closing ms
-follows_gone client run puts version name first send w past closing ms sent stepless h =
+follows_gone client run puts version name first send w past closing ms sent alone h =
     let c : Config = client.config in
     let ns : List Action = closing ++ sent_from first send ms in (
       closing,
@@ -253,14 +256,14 @@ follows_gone client run puts version name first send w past closing ms sent step
         rules = h.rules;
         stands = (h.turned.allowed, (record { going = h.turned.comes.0; can = can_store c w ns h.asked }, h.turned.comes.1, puts_unfetched c w puts ns h.fragments));
       },
-      sends_rows c ms first send (Some (Gone version name)) closing sent (λ done. stepless) (again_or_out c closing (sent_from first send ms) h.closing_is h.turned.reads),
+      sends_rows c ms first send (Some (Gone version name)) closing sent (λ done. alone_stepless send alone) (λ a e other. alone) (again_or_out c closing (sent_from first send ms) h.closing_is h.turned.reads),
     )
 
 -- a call that learnt a put's value gathers it
 fetches : (client : Client) (run : Run) (puts : Puts) (version : ℕ) (put : PutData) (first : ℕ) (send sends : List Out) (running : Running) (w : Caller) (past : List Trace) (ms : List Action)
-    → AreRowRequests send → MakeNoStep send → HasFollowed client.config w past run puts [] (sent_from first send ms) (Learnt version (PutOf put)) → AreBelow first ms → GathersFrom run.key version put first send sends running
+    → AreRowRequests send → ReadAlone send → HasFollowed client.config w past run puts [] (sent_from first send ms) (Learnt version (PutOf put)) → AreBelow first ms → GathersFrom run.key version put first send sends running
     → FollowsBy client (changed client (Runs client.calls run.round (Some running))) first (record { send = sends; answer = None }) w past [] ms
-fetches client run puts version put first send sends (Gathering k g awaited) w past ms sent stepless h below p =
+fetches client run puts version put first send sends (Gathering k g awaited) w past ms sent alone h below p =
     let c : Config = client.config in
     let key : List ℕ = key_of w.call in
     let ns : List Action = sent_from first send ms in
@@ -296,26 +299,26 @@ fetches client run puts version put first send sends (Gathering k g awaited) w p
         stands = subst (λ (q : List ℕ). GathersValue c w past q g awaited (Rested ∷ fetched w n g.value ns)) (sym (p.0 ∙ done.key_is))
             (fetch_gathers c w past puts n g awaited ns can later p.4 gathers added.awaited_is added.count);
       }),
-      sends_gets c ms first send sends (gets_from g.value.name key 0 g.value.fragments) None (Rested ∷ []) sent stepless added.sent (gets_rising g.value.name key 0 g.value.fragments)
+      sends_gets c ms first send sends (gets_from g.value.name key 0 g.value.fragments) None (Rested ∷ []) sent alone added.sent (gets_rising g.value.name key 0 g.value.fragments)
           (subst (AreAskedAgain c) (sym later_sent) (again_sent c n (gets_from g.value.name key 0 g.value.fragments) ns (gets_blobs g.value.name key 0 g.value.fragments) done.reads)),
     )
-fetches client run puts version put first send sends (Storing r q) w past ms sent stepless h below p = absurd p
-fetches client run puts version put first send sends (Asking r q) w past ms sent stepless h below p = absurd p
-fetches client run puts version put first send sends (Placed v q) w past ms sent stepless h below p = absurd p
+fetches client run puts version put first send sends (Storing r q) w past ms sent alone h below p = absurd p
+fetches client run puts version put first send sends (Asking r q) w past ms sent alone h below p = absurd p
+fetches client run puts version put first send sends (Placed v q) w past ms sent alone h below p = absurd p
 
 -- a call that learnt a value ends, or gathers it
 pub follows_learnt : (client : Client) (run : Run) (puts : Puts) (version : ℕ) (value : Value) (first : ℕ) (send : List Out) (change : Change) (turn : Turn) (w : Caller) (past : List Trace) (closing ms : List Action)
-    → AreRowRequests send → MakeNoStep send → HasFollowed client.config w past run puts closing (sent_from first send ms) (Learnt version value) → AreBelow first ms → ReadsBy client run version value first send change turn
+    → AreRowRequests send → ReadAlone send → HasFollowed client.config w past run puts closing (sent_from first send ms) (Learnt version value) → AreBelow first ms → ReadsBy client run version value first send change turn
     → FollowsBy client (changed client change) first turn w past closing ms
-follows_learnt client run puts version (Tomb name) first send change turn w past closing ms sent stepless h below p =
+follows_learnt client run puts version (Tomb name) first send change turn w past closing ms sent alone h below p =
     subst (λ (t : Turn). FollowsBy client (changed client change) first t w past closing ms) (sym p.1)
     (subst (λ (k : Change). FollowsBy client (changed client k) first (record { send = send; answer = Some (Gone version name) }) w past closing ms) (sym p.0)
-    (follows_gone client run puts version name first send w past closing ms sent stepless h))
-follows_learnt client run puts version (PutOf put) first send change turn w past closing ms sent stepless h below p =
+    (follows_gone client run puts version name first send w past closing ms sent alone h))
+follows_learnt client run puts version (PutOf put) first send change turn w past closing ms sent alone h below p =
     let none : closing ≡ [] = closed_by_none client.config closing (sent_from first send ms) h.sizes h.closing_is h.turned.comes.0 in
     let here : HasFollowed client.config w past run puts [] (sent_from first send ms) (Learnt version (PutOf put)) =
     subst (λ (cs : List Action). HasFollowed client.config w past run puts cs (sent_from first send ms) (Learnt version (PutOf put))) none h in
-    let goes = fetches client run puts version put first send turn.send p.0 w past ms sent stepless here below p.3 in
+    let goes = fetches client run puts version put first send turn.send p.0 w past ms sent alone here below p.3 in
     subst (λ (cs : List Action). FollowsBy client (changed client change) first turn w past cs ms) (sym none)
     (subst (λ (k : Change). FollowsBy client (changed client k) first turn w past [] ms) (sym p.1)
     (subst (λ (o : Option Answer). FollowsBy client (changed client (Runs client.calls run.round (Some p.0))) first (record { send = turn.send; answer = o }) w past [] ms) (sym p.2) goes))

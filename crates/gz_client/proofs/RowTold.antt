@@ -16,14 +16,17 @@ use Rattle.gz_data.specs.Blobs.{is_put_blob, is_stored, stored, lost}
 use Rattle.gz_data.specs.Requests.{awaited_blob, is_numbered}
 use Rattle.gz_round.specs.Awaiting.{IsSiteOf, has_number, is_numbered as is_awaited_numbered}
 use Rattle.gz_round.specs.Following.{Ready, Turned}
-use Rattle.gz_round.specs.Sites.{as_heard, written_by, site_now}
+use Rattle.gz_round.specs.Phases.{GoesFrom, HasPhases}
+use Rattle.gz_round.specs.Sites.{as_heard, tells_of_row, written_by, site_now}
 use Rattle.gz_round.specs.Standing.{Knows, awaited_of, mark_of}
 use Rattle.gz_round.specs.Starting.{AreRowRequests}
 use Rattle.gz_round.specs.declared.outcome.Outcome.{Outcome}
+use Rattle.gz_round.specs.declared.outcome.Outcome.TheVariants.{Goes}
 use Rattle.gz_round.specs.declared.run.Mark.{Mark}
 use Rattle.gz_round.specs.declared.run.Run.{Run}
 use Rattle.gz_round.proofs.Beside.{runs_ready}
 use Rattle.gz_round.proofs.Awaits.{awaits_to}
+use Rattle.gz_round.proofs.Phases.{phases_sent, phases_told}
 use Rattle.gz_client.specs.Blobs.{HasStoredFirst, has_asked}
 use Rattle.gz_client.specs.Running.{AsksForRows, PutsStand}
 use Rattle.gz_client.specs.Traces.{AreBelow, CanLearn, Holds, IsAwaited as IsAwaitedBy, told_of}
@@ -177,12 +180,18 @@ over_closing : (P : List Action → Type 0) (closing ms : List Action) → (P ms
 over_closing P closing ms gives_in (inl none) h = subst (λ (cs : List Action). P (cs ++ ms)) (sym none) h
 over_closing P closing ms gives_in (inr gave) h = subst (λ (cs : List Action). P (cs ++ ms)) (sym gave) (gives_in h)
 
+-- the call hears of a row
+row_tells : (n : ℕ) (o : Option Reply) (a : Asked) → is_row_request a.op ≡ true → tells_of_row (told_of n o a) ≡ true
+row_tells n None a e = e
+row_tells n (Some reply) a e = e
+
 pub row_followed : (client : Client) (run later : Run) (puts : Puts) (at next first : ℕ) (o : Option Reply) (t : Trace) (ts : List Trace) (a : Asked) (closing : List Action) (send : List Out) (outcome : Outcome)
     → IsAbout client run puts at t ts a → Holds client next (t ∷ ts) → AreRowRequests send → IsClosing closing
     → Turned client.config t.caller ts later (closing ++ sent_from first send (told_of client.config.n o a ∷ t.actions)) outcome
+    → (outcome ≡ Goes → GoesFrom client.config run.stage later.stage (told_of client.config.n o a ∷ t.actions))
     → KeepsBlobRules client.config t.caller (told_of client.config.n o a ∷ t.actions) → AreBelow first (told_of client.config.n o a ∷ t.actions)
     → HasFollowed client.config t.caller ts later puts closing (sent_from first send (told_of client.config.n o a ∷ t.actions)) outcome
-row_followed client run later puts at next first o t ts a closing send outcome i h sends closes turned rules below =
+row_followed client run later puts at next first o t ts a closing send outcome i h sends closes turned goes rules below =
     let c : Config = client.config in
     let w : Caller = t.caller in
     let m : Action = told_of c.n o a in
@@ -200,6 +209,8 @@ row_followed client run later puts at next first o t ts a closing send outcome i
       closing_is = closes;
       asked = over_closing (λ (os : List Action). has_asked os ≡ true) closing ns (asked_more GaveIn ns) closes (asked_sent first send ms asked);
       turned = turned;
+      phases = λ on. over_closing (HasPhases c w ts later.stage) closing ns (λ p. p) closes
+          (phases_sent c w ts later.stage first send ms (phases_told c w ts later.stage m t.actions (row_tells c.n o a row) (run, i.asks.runs, i.asks.phases, goes on)));
       fragments = puts_closed c w puts closing ns closes (puts_rows_sent c w puts first send ms rows (puts_row_told c w puts c.n o a t.actions told.0.in_turn listed row i.asks.fragments));
       first = over_closing (HasStoredFirst c w) closing ns (first_more c w GaveIn ns) closes (first_sent c w first send ms first_stored);
       rules = over_closing (KeepsBlobRules c w) closing ns (keeps_given_in c w ns) closes (keeps_rows c w first send ms rows first_stored below rules);

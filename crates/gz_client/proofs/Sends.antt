@@ -1,5 +1,5 @@
 -- What a call sends at an event: nothing, requests for rows, or these and then the reads of fragments.
-use Rattle.std.proofs.Common.{◌≡◌, ℕ, zero, suc, ◌+◌, ◌≤◌, true, List, [], ◌∷◌, ◌++◌, length, Option, None, refl, sym, ◌∙◌, subst, inl, inr, ◌⊎◌, arith}
+use Rattle.std.proofs.Common.{◌≡◌, ℕ, zero, suc, ◌+◌, ◌≤◌, true, false, List, [], ◌∷◌, ◌++◌, length, Option, Some, None, refl, sym, ◌∙◌, subst, inl, inr, ◌⊎◌, arith}
 use Rattle.std.proofs.lemmas.Bool.{false≢true}
 use Rattle.std.proofs.lemmas.List.{append-nil}
 use Rattle.std.proofs.lemmas.List.Elements.{All-nil, All-cons}
@@ -13,9 +13,9 @@ use Rattle.gz_core.specs.History.{Action, GaveIn, Rested, IsClosing, is_row_requ
 use Rattle.gz_data.specs.Requests.{gets_from}
 use Rattle.gz_round.specs.Sites.{AreBlobs}
 use Rattle.gz_round.specs.Standing.{AreAskedAgain}
-use Rattle.gz_round.specs.Starting.{AreForRows, SitesRise, AreRowRequests, MakeNoStep, reads_from}
-use Rattle.gz_round.proofs.Passes.{none_requested, none_stepless}
-use Rattle.gz_client.specs.Sends.{AreBlobsRising, IsDone, IsOfRow, IsTurn}
+use Rattle.gz_round.specs.Starting.{AreForRows, SitesRise, AreRowRequests, MakeNoStep, ReadAlone, reads_from}
+use Rattle.gz_round.proofs.Passes.{alone_stepless, none_alone, none_requested, none_stepless}
+use Rattle.gz_client.specs.Sends.{AreBlobsRising, IsDone, IsOfRow, IsTurn, tells_chosen}
 
 -- ---- what is sent
 
@@ -67,29 +67,32 @@ sends_nothing c ms first answer again = record {
   about_rows = none_requested;
   about_blobs = tt;
   ends = λ done. none_stepless;
+  alone = λ unplaced. none_alone;
   reads = λ e. inr (again e);
 }
 
-pub sends_rows : (c : Config) (ms : List Action) (first : ℕ) (send : List Out) (answer : Option Answer) (closing : List Action) → AreRowRequests send → (IsDone answer closing → MakeNoStep send)
+pub sends_rows : (c : Config) (ms : List Action) (first : ℕ) (send : List Out) (answer : Option Answer) (closing : List Action) → AreRowRequests send → (IsDone answer closing → MakeNoStep send) → ((a : Answer) → answer ≡ Some a → tells_chosen a ≡ false → ReadAlone send)
     → ((closing ≡ GaveIn ∷ []) ⊎ AreAskedAgain c (sent_from first send ms)) → IsTurn c ms first (record { send = send; answer = answer }) closing
-sends_rows c ms first send answer closing sent stepless again = record {
+sends_rows c ms first send answer closing sent stepless alone again = record {
   rows = send;
   blobs = [];
   sends = sym (append-nil send);
   about_rows = sent;
   about_blobs = tt;
   ends = stepless;
+  alone = λ unplaced. elim unplaced [ inl k ↦ alone k.0 k.1 k.2 | inr some ↦ absurd (some refl) ];
   reads = λ e. again;
 }
 
-pub sends_gets : (c : Config) (ms : List Action) (first : ℕ) (send sends blobs : List Out) (answer : Option Answer) (closing : List Action) → AreRowRequests send → MakeNoStep send → sends ≡ send ++ blobs → AreBlobsRising 0 blobs
+pub sends_gets : (c : Config) (ms : List Action) (first : ℕ) (send sends blobs : List Out) (answer : Option Answer) (closing : List Action) → AreRowRequests send → ReadAlone send → sends ≡ send ++ blobs → AreBlobsRising 0 blobs
     → AreAskedAgain c (sent_from first sends ms) → IsTurn c ms first (record { send = sends; answer = answer }) closing
-sends_gets c ms first send sends blobs answer closing sent stepless both rising again = record {
+sends_gets c ms first send sends blobs answer closing sent alone both rising again = record {
   rows = send;
   blobs = blobs;
   sends = both;
   about_rows = sent;
   about_blobs = rising;
-  ends = λ done. stepless;
+  ends = λ done. alone_stepless send alone;
+  alone = λ unplaced. alone;
   reads = λ e. inr again;
 }

@@ -126,7 +126,7 @@ gathers_work c w past key g awaited ms turn h =
 
 work_of : (c : Config) (w : Caller) (past : List Trace) (running : Running) (ms : List Action) → AreInTurn ms → StandsFor c w past running ms → HasWork c w past ms
 work_of c w past (Storing run puts) ms turn h = inl (record { put = h.put; order = h.order; unasked = blobs_unasked ms h.only; unsettled = h.unsettled })
-work_of c w past (Asking run puts) ms turn h = inr (inl (record { run = run; runs = h.runs; unfetched = puts_unfetched c w puts ms h.fragments; first = h.first }))
+work_of c w past (Asking run puts) ms turn h = inr (inl (record { run = run; runs = h.runs; phases = h.phases; unfetched = puts_unfetched c w puts ms h.fragments; first = h.first }))
 work_of c w past (Placed version puts) ms turn h = inr (inr (inl (record { version = version; rests = h.rows.rests; placed = h.placed; put = h.put; unsettled = h.unsettled })))
 work_of c w past (Gathering key g awaited) ms turn h = inr (inr (inr (gathers_work c w past key g awaited ms turn h)))
 

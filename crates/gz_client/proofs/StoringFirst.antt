@@ -1,4 +1,5 @@
 -- A put that stores its fragments first goes on so, looks, or ends short, as its counters say.
+use Rattle.std.proofs.lemmas.Option.{none-some}
 use Rattle.std.proofs.Common.{◌≡◌, ℕ, zero, suc, ◌+◌, ◌<◌, ◌≤◌, List, [], Option, Some, None, option_map, refl, sym, subst, inl, inr, arith}
 use Rattle.std.proofs.lemmas.Bool.{cases_lt}
 use Rattle.gz_config.specs.declared.Config.{Config}
@@ -12,6 +13,7 @@ use Rattle.gz_round.specs.declared.run.Run.{Run}
 use Rattle.gz_round.specs.Rounds.{rounds_used}
 use Rattle.gz_round.specs.Standing.{Runs as RunsOn}
 use Rattle.gz_round.specs.Starting.{AreRowRequests, reads_from}
+use Rattle.gz_round.proofs.Phases.{phases_blobs, phases_sent}
 use Rattle.gz_client.specs.Blobs.{HasStoredFirst}
 use Rattle.gz_client.specs.Causes.{CannotStore}
 use Rattle.gz_client.specs.Changes.{changed, counted, counted_in}
@@ -91,7 +93,7 @@ looks client run later puts first send w past ms enough config h runs reads = λ
         calls_are = refl;
         round_is = runs.stands.round_is;
         rules = keeps_rows c w first send ms rows stored below rules;
-        stands = record { runs = runs; fragments = puts_rows_sent c w puts first send ms rows h.fragments; first = first_sent c w first send ms stored };
+        stands = record { runs = runs; phases = phases_sent c w past later.stage first send ms (phases_blobs c w past later.stage ms h.only); fragments = puts_rows_sent c w puts first send ms rows h.fragments; first = first_sent c w first send ms stored };
       },
-      sends_rows c ms first send None [] (subst AreRowRequests (sym reads) (reads_sent (key_of w.call) c.n (omega (arith, config.sites)))) (λ done. absurd (goes_undone [] (inl refl) done)) (inr runs.again),
+      sends_rows c ms first send None [] (subst AreRowRequests (sym reads) (reads_sent (key_of w.call) c.n (omega (arith, config.sites)))) (λ done. absurd (goes_undone [] (inl refl) done)) (λ a e other. absurd (none-some a e)) (inr runs.again),
     )

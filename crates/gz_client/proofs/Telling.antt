@@ -25,6 +25,7 @@ use Rattle.gz_round.specs.declared.run.Run.{Run}
 use Rattle.gz_round.specs.Sites.{as_heard, written_by, is_about_rows, site_now}
 use Rattle.gz_round.proofs.Beside.{IsBeside, beside_blob, going_beside, chosen_beside, noticed_beside}
 use Rattle.gz_round.proofs.Blobs.{blob_allowed, blob_ready, blob_runs, blob_site}
+use Rattle.gz_round.proofs.Phases.{phases_beside, untold_beside}
 use Rattle.gz_client.specs.Blobs.{is_put, MayAskBlob, AreBlobsAllowed}
 use Rattle.gz_client.specs.Changes.{counted}
 use Rattle.gz_client.specs.Running.{AsksForRows, HasRows, IsResting, PutsStand, StoresFirst, WaitsToStore}
@@ -153,6 +154,7 @@ tells_asking c w past run puts counts o a ms i count h =
     let m : Action = told_of c.n o a in
     record {
       runs = blob_runs c w past run m ms (told_blob c.n o a (awaiting ms) i) h.runs;
+      phases = phases_beside c w past run.stage m ms (untold_beside m (told_blob c.n o a (awaiting ms) i)) h.phases;
       fragments = puts_told c w puts counts c.n o a ms i count h.fragments;
       first = first_more c w m ms h.first;
     }

@@ -12,6 +12,7 @@ use Rattle.gz_core.specs.declared.values.Value.TheVariants.{Put as PutOf}
 use Rattle.gz_data.specs.Blobs.{blob_now, blob_at, wholes}
 use Rattle.gz_round.specs.declared.run.Run.{Run}
 use Rattle.gz_round.specs.Causes.{IsLearnt}
+use Rattle.gz_round.specs.Phases.{HasPhases}
 use Rattle.gz_round.specs.Standing.{Runs, IsWaiting}
 use Rattle.gz_client.specs.Blobs.{is_put, has_asked, has_fetched, HasStoredFirst}
 use Rattle.gz_client.specs.Causes.{IsOpen, IsPlaced, IsUnsettled}
@@ -24,10 +25,12 @@ pub record StoresFragments (c : Config) (w : Caller) (ms : List Action) : Type 0
   pub unasked : has_asked ms ≡ false
   pub unsettled : IsUnsettled c ms
 
--- a call works on rows, and its phase goes on; a put that stores its fragments first has stored them
+-- a call works on rows, in a phase that goes on, and to which each event of its rows led by the rules of how phases follow each
+-- other; a put that stores its fragments first has stored them
 pub record WorksOnRows (c : Config) (w : Caller) (past : List Trace) (ms : List Action) : Type 0 where
   pub run : Run
   pub runs : Runs c w past run ms
+  pub phases : HasPhases c w past run.stage ms
   pub unfetched : has_fetched ms ≡ false
   pub first : HasStoredFirst c w ms
 

@@ -24,6 +24,7 @@ use Rattle.gz_round.specs.declared.run.Stage.TheVariants.{Look}
 use Rattle.gz_round.specs.Causes.{IsLearnt}
 use Rattle.gz_round.specs.Counting.{IsGoing}
 use Rattle.gz_round.specs.Following.{Ready}
+use Rattle.gz_round.specs.Phases.{HasPhases}
 use Rattle.gz_round.specs.Sending.{AreAllowed}
 use Rattle.gz_round.specs.Sites.{site_now, AreBlobs}
 use Rattle.gz_round.specs.Standing.{Runs}
@@ -91,9 +92,10 @@ pub record StoresFirst (c : Config) (w : Caller) (past : List Trace) (run : Run)
   pub fragments : PutsStand c w puts ms
   pub unsettled : IsUnsettled c ms
 
--- a call asks sites for rows
+-- a call asks sites for rows, in the phase that it came into
 pub record AsksForRows (c : Config) (w : Caller) (past : List Trace) (run : Run) (puts : Puts) (ms : List Action) : Type 0 where
   pub runs : Runs c w past run ms
+  pub phases : HasPhases c w past run.stage ms
   pub fragments : PutsStand c w puts ms
   pub first : HasStoredFirst c w ms
 

@@ -23,10 +23,12 @@ use Rattle.gz_data.specs.declared.gathering.Heard.TheVariants.{Goes, Ends}
 use Rattle.gz_data.specs.declared.requests.AwaitedBlob.{AwaitedBlob}
 use Rattle.gz_data.specs.declared.storing.Storing.{Storing as Counts}
 use Rattle.gz_round.specs.declared.outcome.Outcome.{Outcome as RowOutcome}
+use Rattle.gz_round.specs.declared.outcome.Outcome.TheVariants.{Goes as RowsGo}
 use Rattle.gz_round.specs.declared.run.Run.{Run}
 use Rattle.gz_round.specs.declared.run.Stage.TheVariants.{Look}
 use Rattle.gz_round.specs.Counting.{IsGoing}
 use Rattle.gz_round.specs.Following.{Ready, Turned}
+use Rattle.gz_round.specs.Phases.{HasPhases}
 use Rattle.gz_round.specs.Rounds.{rounds_used}
 use Rattle.gz_round.specs.Sending.{AreAllowed}
 use Rattle.gz_round.specs.Sites.{AreBlobs}
@@ -96,6 +98,7 @@ pub record HasFollowed (c : Config) (w : Caller) (past : List Trace) (run : Run)
   pub closing_is : IsClosing closing
   pub asked : has_asked (closing ++ ms) ≡ true
   pub turned : Turned c w past run (closing ++ ms) outcome
+  pub phases : outcome ≡ RowsGo → HasPhases c w past run.stage (closing ++ ms)
   pub fragments : PutsStand c w puts (closing ++ ms)
   pub first : HasStoredFirst c w (closing ++ ms)
   pub rules : KeepsBlobRules c w (closing ++ ms)

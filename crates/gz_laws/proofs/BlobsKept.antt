@@ -57,7 +57,7 @@ same_blob_itself b =
 
 -- what lies under a name after an operation: the same, what the operation stores there, or it is dropped
 abbrev IsLeftBy : Op → BlobAt → List ℕ → Told → Type 0
-IsLeftBy op b bytes after = (after.blobs b ≡ Some bytes) ⊎ (((sent : List ℕ) × ((op ≡ PutBlob b sent) × (after.blobs b ≡ Some sent))) ⊎ (op ≡ DropBlob b))
+IsLeftBy op b bytes after = (after.blobs b ≡ Some bytes) ⊎ (((sent : List ℕ) × ((op ≡ PutBlob b sent) × (after.blobs b ≡ Some sent))) ⊎ ((op ≡ DropBlob b) × (after.blobs b ≡ None)))
 
 left_same : (op : Op) (before after : Told) (b : BlobAt) (bytes : List ℕ) → after ≡ before → before.blobs b ≡ Some bytes → IsLeftBy op b bytes after
 left_same op before after b bytes e at = inl (ap (λ (t : Told). t.blobs b) e ∙ at)
@@ -73,7 +73,7 @@ left_put before after q b sent bytes set at = elim (cases_Bool (same_blob q b)) 
 
 left_drop : (before after : Told) (q b : BlobAt) (bytes : List ℕ) → BlobSet before q None after → before.blobs b ≡ Some bytes → IsLeftBy (DropBlob q) b bytes after
 left_drop before after q b bytes set at = elim (cases_Bool (same_blob q b)) [
-  | inl e ↦ inr (inr (ap DropBlob (same_blob_is q b e)))
+  | inl e ↦ inr (inr (ap DropBlob (same_blob_is q b e), set.blobs b ∙ ap (λ t. cond t None (before.blobs b)) e))
   | inr e ↦ inl (set.blobs b ∙ ap (λ t. cond t None (before.blobs b)) e ∙ at)
 ]
 
@@ -238,7 +238,7 @@ module _ (old new : State) (n : ℕ) (r : RequestAt) (reply : Reply) (effect : E
     | inl k ↦ inl k
     | inr m ↦ elim m [
       | inl p ↦ (let one : p.0 ≡ bytes = sent_one old r was.request b p.0 bytes listed config (sent.requests n r b p.0 d.request p.1.0) (sent.requests was.number was.request b bytes was.there was.stores) in inl (p.1.1 ∙ ap (λ (x : List ℕ). Some x) one))
-      | inr op ↦ inr (drops_now i tick b here op (made.made was.number was.place tick was.request Stored (record { request = was.there; made = was.told })).1)
+      | inr dropped ↦ inr (drops_now i tick b here dropped.0 (made.made was.number was.place tick was.request Stored (record { request = was.there; made = was.told })).1)
     ]
   ]
 
@@ -271,7 +271,7 @@ module _ (old new : State) (n : ℕ) (r : RequestAt) (reply : Reply) (effect : E
           | inl k ↦ inl k
           | inr m ↦ elim m [
             | inl p ↦ inr (inl (p.0, (record { number = n; request = r; event_is = is; there = d.request; site_is = sym here; op_is = p.1.0 }, p.1.1)))
-            | inr op ↦ inr (inr (record { number = n; request = r; event_is = is; there = d.request; site_is = sym here; op_is = op }))
+            | inr dropped ↦ inr (inr (record { number = n; request = r; event_is = is; there = d.request; site_is = sym here; op_is = dropped.0 }, dropped.1))
           ]
         ])
     | inr there ↦ inl (ap (λ (x : Told). x.blobs b) (same_told after before (sym now ∙ d.others i there ∙ was)) ∙ at)

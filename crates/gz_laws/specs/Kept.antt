@@ -1,5 +1,5 @@
 -- A record that a site stored lies there with the bytes that were sent, unless a request to drop it was performed at the site since.
-use Rattle.std.specs.Prelude.{ℕ, ◌≡◌, ◌<◌, ◌⊎◌, List, Some, slice_get}
+use Rattle.std.specs.Prelude.{ℕ, ◌≡◌, ◌<◌, ◌⊎◌, List, Some, None, slice_get}
 use Rattle.gz_core.specs.Blobs.{BlobAt}
 use Rattle.gz_core.specs.declared.requests.Op.{Op}
 use Rattle.gz_core.specs.declared.requests.Op.TheVariants.{PutBlob, DropBlob}
@@ -45,7 +45,8 @@ pub record PerformsAt (old : State) (event : Event) (site : ℕ) (op : Op) : Typ
   pub site_is : request.site ≡ site
   pub op_is : request.op ≡ op
 
--- other bytes are stored in the place of what lies at a site, or it is dropped, by an event that performs a request for just that
+-- other bytes are stored in the place of what lies at a site, or it is dropped and nothing lies there, by an event that performs a
+-- request for just that
 abbrev pub BlobsStay : State → Event → State → Type 0
 BlobsStay old event new = (i : ℕ) (before after : Told) (b : BlobAt) (bytes : List ℕ) → old.sites i ≡ Some before → new.sites i ≡ Some after → before.blobs b ≡ Some bytes
-    → (after.blobs b ≡ Some bytes) ⊎ (((sent : List ℕ) × (PerformsAt old event i (PutBlob b sent) × (after.blobs b ≡ Some sent))) ⊎ PerformsAt old event i (DropBlob b))
+    → (after.blobs b ≡ Some bytes) ⊎ (((sent : List ℕ) × (PerformsAt old event i (PutBlob b sent) × (after.blobs b ≡ Some sent))) ⊎ (PerformsAt old event i (DropBlob b) × (after.blobs b ≡ None)))

@@ -31,7 +31,7 @@ use Rattle.gz_round.specs.declared.run.Stage.{Stage}
 use Rattle.gz_round.specs.declared.run.Stage.TheVariants.{Look, Fast, Prepare, Accept}
 use Rattle.gz_round.specs.Standing.{Knows, Stands, StageStands, WritesLatest, AreVotesBelow, AreVotesUpTo, IsVoteNext}
 use Rattle.gz_round.specs.Evidence.{NoneEvident, EvidentAt, IsAfterEvidence}
-use Rattle.gz_round.specs.Following.{NoEvidence, NextMeans, MayPass, IsUnwritten, IsFound, IsStageAt, is_topless, is_blank_known}
+use Rattle.gz_round.specs.Following.{NoEvidence, NextMeans, IsOnward, MayPass, IsUnwritten, IsFound, IsStageAt, is_topless, is_blank_known}
 use Rattle.gz_round.specs.Goals.{IsUnmet, looked_in}
 use Rattle.gz_round.proofs.Lists.{all_at}
 use Rattle.gz_round.proofs.Heard.{counted_heard, heard_means, heard_passes}
@@ -184,8 +184,8 @@ blank_low : (c : Config) (ms : List Action) (v : ℕ) → heard_at c is_blank ms
 blank_low c ms v = heard_weaker c is_blank (λ r. leb (row_top r) v) ms (λ (r : RowAt) (k : is_blank r ≡ true). let top : row_top r ≡ 0 = eqb-true (row_top r) 0 (and_parts (row_top r == 0) (r.floor == 0) k).0 in le-leb (row_top r) v (omega arith))
 
 -- an object that was never written is voted for at its first version
-pub first_means : (c : Config) (w : Caller) (past : List Trace) (run : Run) (ms : List Action) → Stands c w past run ms → IsUnwritten c w ms → is_some run.own ≡ true → NextMeans c w run ms (VoteAt 1)
-first_means c w past run ms h f some =
+pub first_means : (c : Config) (w : Caller) (past : List Trace) (run : Run) (ms : List Action) → Stands c w past run ms → IsUnwritten c w ms → IsOnward c run ms 1 → is_some run.own ≡ true → NextMeans c w run ms (VoteAt 1)
+first_means c w past run ms h f onward some =
     let below : AreVotesBelow w ms 1 = unvoted_below w ms 1 f.unvoted in (
       record {
         may = record { above = omega arith; current = omega (arith, f.blank, blank_low c ms 1); next = inl refl; clear = unvoted_clear c w.name ms 1 f.unvoted };
@@ -196,6 +196,7 @@ first_means c w past run ms h f some =
       below,
       f.none.evident,
       inl f.none.gone,
+      onward,
     )
 
 -- to a call that reads the latest version it is absent

@@ -23,6 +23,7 @@ pub mod Numbers
 pub mod Opens
 pub mod Passes
 pub mod PastFloors
+pub mod Phases
 pub mod Rising
 pub mod Prepares
 pub mod Proposals

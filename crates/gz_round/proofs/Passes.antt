@@ -1,14 +1,18 @@
 -- A pass over the sites, one after another.
 use Rattle.std.proofs.Common.{◌≡◌, ℕ, ◌+◌, ◌<◌, ◌≤◌, max, true, cond, List, [], ◌∷◌, ◌++◌, length, Option, Some, None, is_some, refl, sym, ap, ◌∙◌, subst, inl, inr, ◌⊎◌, arith, set}
 use Rattle.std.proofs.Math.ListN.{length-set}
-use Rattle.std.proofs.lemmas.Bool.{cases_Bool, cond-true, cond-false}
+use Rattle.std.proofs.lemmas.Bool.{cases_Bool, cond-true, cond-false, false≢true}
 use Rattle.std.proofs.lemmas.Option.{none-some}
 use Rattle.std.specs.List.{list_any}
-use Rattle.std.proofs.lemmas.List.Elements.{All-nil, All-push}
+use Rattle.std.proofs.lemmas.List.Elements.{All-nil, All-push, All-weaker}
 use Rattle.gz_core.specs.Rows.{RowAt}
 use Rattle.gz_config.specs.declared.Config.{Config}
 use Rattle.gz_core.specs.declared.requests.RowStep.{RowStep}
+use Rattle.gz_core.specs.declared.requests.Op.{Op}
+use Rattle.gz_core.specs.declared.requests.Op.TheVariants.{ReadRow}
 use Rattle.gz_core.specs.declared.requests.Out.{Out}
+use Rattle.gz_round.specs.declared.outcome.Outcome.{Outcome}
+use Rattle.gz_round.specs.declared.outcome.Outcome.TheVariants.{Goes, Placed, Learnt, Ends}
 use Rattle.gz_round.specs.declared.run.Mark.{Mark}
 use Rattle.gz_round.specs.declared.run.Run.{Run}
 use Rattle.gz_core.specs.History.{Action, Caller, Trace, is_row_request, sent_from}
@@ -17,10 +21,10 @@ use Rattle.gz_round.specs.Sent.{of_step, vote_by, phase_by, promise_by, round_af
 use Rattle.gz_round.specs.Asking.{asks_of, sent_run, marked_as, phase_after, AskedBy, IsAskedAt, IsLeftBy, round_of}
 use Rattle.gz_round.specs.Following.{Asks, HasAsked, CanAsk, IsNoticeIfAny, IsPlain}
 use Rattle.gz_round.specs.Acting.{is_waiting}
-use Rattle.gz_round.specs.Starting.{AreUnread, AreForRows, AreRowRequests, MakeNoStep, SitesRise, is_read_or_notice}
+use Rattle.gz_round.specs.Starting.{AreUnread, AreForRows, AreRowRequests, MakeNoStep, ReadAlone, SendsLast, SitesRise, is_read, is_read_or_notice}
 use Rattle.gz_round.proofs.Lists.{any_told, place_of, slice_get-set_same}
 use Rattle.gz_round.proofs.Rising.{AreBelow, below_later, below_more, rising_more}
-use Rattle.gz_round.proofs.Sends.{Kind, reads, writes, asked_kind, kind_plain, kind_row, kind_site, kind_stepless}
+use Rattle.gz_round.proofs.Sends.{Kind, reads, writes, asked_kind, kind_plain, kind_row, kind_site, kind_stepless, kind_alone}
 use Rattle.gz_round.proofs.Serves.{Passed, passed_none, passed_more, passed_all, round_rises}
 use Rattle.gz_round.proofs.Unread.{AreRead, read_none, read_more}
 
@@ -112,6 +116,13 @@ stepless_asked run new at first outs sent step (one mark row out asks is more) n
     let told : is_read_or_notice out.op ≡ true = kind_stepless run at mark step row out (asked_kind run at mark step row out asks).2 notice in
     subst MakeNoStep (sym more) (All-push (λ (o : Out). is_read_or_notice o.op ≡ true) outs out h told)
 
+-- where there is no step, it reads
+alone_asked : (run new : Run) (at first : ℕ) (outs sent : List Out) (step : Option RowStep) → Went run new at first outs sent step → step ≡ None → ReadAlone outs → ReadAlone sent
+alone_asked run new at first outs sent step (nothing same none) no_step h = subst ReadAlone (sym none) h
+alone_asked run new at first outs sent step (one mark row out asks is more) no_step h =
+    let read : is_read out.op ≡ true = kind_alone run at mark step row out (asked_kind run at mark step row out asks).2 no_step in
+    subst ReadAlone (sym more) (All-push (λ (o : Out). is_read o.op ≡ true) outs out h read)
+
 -- a request that is awaited is kept
 waits_marked : (run : Run) (at number : ℕ) (mark : Mark) (out : Out) → at < length run.marks → out.awaited ≡ true → is_waiting (sent_run run at number mark out) ≡ true
 waits_marked run at number mark out l awaited =
@@ -134,6 +145,24 @@ none_requested = record { rows = All-nil (λ (o : Out). is_row_request o.op ≡ 
 pub none_stepless : MakeNoStep []
 none_stepless = All-nil (λ (o : Out). is_read_or_notice o.op ≡ true)
 
+pub none_alone : ReadAlone []
+none_alone = All-nil (λ (o : Out). is_read o.op ≡ true)
+
+read_stepless : (op : Op) → is_read op ≡ true → is_read_or_notice op ≡ true
+read_stepless (ReadRow key) e = refl
+read_stepless op e = absurd (false≢true e)
+
+-- requests that read alone make no step
+pub alone_stepless : (outs : List Out) → ReadAlone outs → MakeNoStep outs
+alone_stepless outs h = All-weaker (λ (o : Out). is_read o.op ≡ true) (λ (o : Out). is_read_or_notice o.op ≡ true) (λ o e. read_stepless o.op e) outs h
+
+-- and may be the last ones of a call whose rows came to anything
+pub alone_last : (outcome : Outcome) (outs : List Out) → ReadAlone outs → SendsLast outcome outs
+alone_last Goes outs h = tt
+alone_last (Placed v) outs h = alone_stepless outs h
+alone_last (Learnt v x) outs h = h
+alone_last (Ends answer) outs h = h
+
 -- so far the sites below one were asked
 pub record Going (c : Config) (start run : Run) (step : Option RowStep) (first : ℕ) (outs sent : List Out) (at : ℕ) : Type 0 where
   pub few : length sent ≤ length outs + at
@@ -141,6 +170,7 @@ pub record Going (c : Config) (start run : Run) (step : Option RowStep) (first :
   pub rows : AreForRows outs → AreForRows sent
   pub rising : outs ≡ [] → SitesRise 0 sent × AreBelow at sent
   pub stepless : IsNoticeIfAny step → MakeNoStep outs → MakeNoStep sent
+  pub alone : step ≡ None → ReadAlone outs → ReadAlone sent
   pub idle : IsPlain step → (sent ≡ outs) ⊎ (is_waiting run ≡ true)
   pub reads : AreUnread c.n start → AreRead c.n start run outs sent at
   pub asked : (w : Caller) (past : List Trace) (ms : List Action) → Asks c w past start (sent_from first outs ms) step → Passed c w past run (sent_from first outs ms) (sent_from first sent ms) step at
@@ -152,6 +182,7 @@ going_none c run step first outs = record {
   rows = λ h. h;
   rising = λ none. subst (λ os. SitesRise 0 os × AreBelow 0 os) (sym none) (tt, tt);
   stepless = λ notice h. h;
+  alone = λ none h. h;
   idle = λ plain. inl refl;
   reads = read_none c.n run outs;
   asked = λ w past ms h. passed_none c w past run (sent_from first outs ms) step h;
@@ -176,6 +207,7 @@ going_more c start run new step first outs sent more at k l few asked g =
       rows = λ (h : AreForRows outs). rows_asked run new at first sent more step by (g.rows h);
       rising = λ (none : outs ≡ []). rises_asked run new at first sent more step by (g.rising none);
       stepless = λ (notice : IsNoticeIfAny step) (h : MakeNoStep outs). stepless_asked run new at first sent more step by notice (g.stepless notice h);
+      alone = λ (none : step ≡ None) (h : ReadAlone outs). alone_asked run new at first sent more step by none (g.alone none h);
       idle = λ (plain : IsPlain step). waits_asked run new at first outs sent more step in_marks by plain (g.idle plain);
       reads = λ (h : AreUnread c.n start). read_more c.n start run new outs sent more step at first l asked (g.reads h);
       asked = λ w past ms h. passed_more c w past run new (sent_from first outs ms) ms first sent more step at l asked (g.asked w past ms h);

@@ -97,7 +97,7 @@ trimmed_means c w past run ms v floor h m none are at top last = record {
 }
 
 -- a phase works at its version
-working_at : (stage : Stage) (v looked : ℕ) → IsStageAt stage v → version_in stage looked ≡ v
+pub working_at : (stage : Stage) (v looked : ℕ) → IsStageAt stage v → version_in stage looked ≡ v
 working_at Look v looked at = absurd at
 working_at (Fast u) v looked at = at
 working_at (Prepare u b found) v looked at = at
@@ -139,6 +139,7 @@ skip_means c w past run ms v floor h m stage some are at top other =
         current = current_next c ms v high.row.floor (omega (arith, high.floor_is)) current;
       },
       omega (arith, working_at run.stage v (looked_in run) stage),
+      λ look. subst (λ (st : Stage). IsStageAt st v) look stage,
     )
 
 -- a call that writes nothing learns the version after the floor, where it asks for that

@@ -38,7 +38,7 @@ use Rattle.gz_round.specs.LookBack.{lowest_vote, IsLookedBack}
 use Rattle.gz_round.specs.Rounds.{IsUnused, ClassicCast, cast_by, has_classic_cast, passed_since, above_known, round_known, slot_round, slot_promises_above, greatest, next_round, top_rounds, slot_promises, promises_known}
 use Rattle.gz_round.specs.Sending.{IsUndecided, IsIdle, NoneAbove, AreAllowed, MayAsk, MayMake, rows_known, MayRead}
 use Rattle.gz_round.specs.Counting.{known_count, IsGoing}
-use Rattle.gz_round.specs.Starting.{MakeNoStep}
+use Rattle.gz_round.specs.Starting.{ReadAlone, SendsLast}
 use Rattle.gz_round.specs.Asking.{IsLeftBy}
 use Rattle.gz_round.specs.Standing.{Knows, Stands, StageStands, ArePassed, IsWorking, MayPass, IsWaiting, Runs}
 use Rattle.gz_round.specs.Following.{Asks, HasAsked, IsAwaitedBy, HasTurned}
@@ -56,7 +56,7 @@ use Rattle.gz_round.proofs.Arms.{stands_stage}
 use Rattle.gz_round.proofs.LookBacks.{before_none, back_sent_from, begun_new, begun_heard}
 use Rattle.gz_round.proofs.Untaken.{undecided_known, kept_known, fresh_taken, open_taken}
 use Rattle.gz_round.proofs.Turns.{again_from, waits_from, idle_of, heard_from, quorum_known, none_passed, untaken_from}
-use Rattle.gz_round.proofs.Passes.{none_stepless}
+use Rattle.gz_round.proofs.Passes.{alone_last, none_alone}
 use Rattle.gz_round.specs.declared.hearing.Seen.{Seen}
 use Rattle.gz_pick.specs.Evidences.{is_in}
 
@@ -355,11 +355,11 @@ prepared_turned c w past run new ms v b found ns config p n going none back aske
     ]
 
 -- where the call gives in, nothing was sent
-pub prepared_stepless : (new : Run) (send : List Out) (outcome : Outcome) → (is_waiting new ≡ false → send ≡ []) → outcome ≡ prepared_of new → outcome ≢ Goes → MakeNoStep send
-prepared_stepless new send outcome idle is ended =
+pub prepared_last : (new : Run) (send : List Out) (outcome : Outcome) → (is_waiting new ≡ false → send ≡ []) → outcome ≡ prepared_of new → SendsLast outcome send
+prepared_last new send outcome idle is =
     elim (cases_Bool (is_waiting new)) [
-      | inl e ↦ absurd (ended (is ∙ cond-true (is_waiting new) Goes (Ends (given_in_of new)) e))
-      | inr e ↦ subst MakeNoStep (sym (idle e)) none_stepless
+      | inl e ↦ subst (λ o. SendsLast o send) (sym (is ∙ cond-true (is_waiting new) Goes (Ends (given_in_of new)) e)) tt
+      | inr e ↦ alone_last outcome send (subst ReadAlone (sym (idle e)) none_alone)
     ]
 
 unpromised_passed : (ms : List Action) (v u : ℕ) → v ≤ u → IsUnpromised ms v → (d : BallotAt) → has_promised_at ms u d ≡ true → passed_since u d ms ≡ true

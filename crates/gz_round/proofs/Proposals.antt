@@ -308,7 +308,7 @@ nothing_gives_in c w past run ms v b found heard at a reached are enough propose
 
 pub chosen_means : (c : Config) (w : Caller) (past : List Trace) (run : Run) (ms : List Action) (v : ℕ) (b : BallotAt) (found : Option Value) (heard : List Heard) (o : Option Value) → run.stage ≡ Prepare v b found → IsGoalUnmet c w past run ms → b.round ≤ run.round → AreHeardIn c run.rows v b heard c.n → c.qc ≤ length heard → IsProposal c run v found heard o → ChoiceMeans c w past run ms (choice_of v b o)
 chosen_means c w past run ms v b found heard None at a reached are enough proposed = nothing_gives_in c w past run ms v b found heard at a reached are enough proposed
-chosen_means c w past run ms v b found heard (Some x) at a reached are enough proposed = chosen_carries c w past run ms v b found heard x at a reached are enough proposed
+chosen_means c w past run ms v b found heard (Some x) at a reached are enough proposed = (tt, chosen_carries c w past run ms v b found heard x at a reached are enough proposed)
 
 -- all rows were looked at
 counted_all : (c : Config) (rows : List (Option RowAt)) (v : ℕ) (b : BallotAt) (heard : List Heard) → length rows ≡ c.n → AreHeardIn c rows v b heard c.n → length heard ≡ count_by (promises_known v b) rows

@@ -25,7 +25,7 @@ use Rattle.gz_round.specs.Sending.{MaySend, MayAsk, MayMake, IsMade, answer_of, 
 use Rattle.gz_round.specs.Asking.{asks_of, row_out, step_out, write_out, read_out, made_of, if_done, sent_run, marked_as, phase_after}
 use Rattle.gz_round.specs.Standing.{Knows, Stands, IsSound, mark_of, etag_seen, awaited_of}
 use Rattle.gz_round.specs.Following.{MayMakeOf, IsNoticeIfAny, IsPlain}
-use Rattle.gz_round.specs.Starting.{is_read_or_notice}
+use Rattle.gz_round.specs.Starting.{is_read, is_read_or_notice}
 use Rattle.gz_round.specs.Counting.{IsUntold}
 use Rattle.gz_round.proofs.Lists.{told_after_set, told_same}
 use Rattle.gz_round.proofs.Actions.{is_to_same, is_to_other, now_here, now_other, each_site}
@@ -137,6 +137,11 @@ kind_stepless run at mark step row out (reads e why) notice = ap (λ (o : Out). 
 kind_stepless run at mark step row out (writes made before new s r same made_is e) notice =
     let told : is_notice made ≡ true = subst IsNoticeIfAny s notice in
     ap (λ (o : Out). is_read_or_notice o.op) e ∙ told
+
+-- it is a read where there is no step
+pub kind_alone : (run : Run) (at : ℕ) (mark : Mark) (step : Option RowStep) (row : Option RowAt) (out : Out) → Kind run at mark step row out → step ≡ None → is_read out.op ≡ true
+kind_alone run at mark step row out (reads e why) none = ap (λ (o : Out). is_read o.op) e
+kind_alone run at mark step row out (writes made before new s r same made_is e) none = absurd (none-some made (sym none ∙ s))
 
 -- it is one that may be sent
 pub kind_may : (c : Config) (w : Caller) (past : List Trace) (run : Run) (ms : List Action) (at number : ℕ) (step : Option RowStep) (out : Out) → at < c.n → run.key ≡ key_of w.call → MayMakeOf c w past ms step → IsUntold ms at →

@@ -59,10 +59,17 @@ abbrev pub choice_of : ℕ → BallotAt → Option Value → Choice
 choice_of v b None = GiveIn
 choice_of v b (Some x) = AcceptNext (Accept v b x)
 
+-- a phase that works by a classic ballot
+abbrev pub IsClassicIn : Stage → Type 0
+IsClassicIn Look = ⊥
+IsClassicIn (Fast v) = ⊥
+IsClassicIn (Prepare v b found) = Unit {0}
+IsClassicIn (Accept v b x) = Unit {0}
+
 -- what the promises of the call's ballot come to
 abbrev pub ChoiceMeans : Config → Caller → List Trace → Run → List Action → Choice → Type 0
 ChoiceMeans c w past run ms Wait = IsFewIn c run run.stage
-ChoiceMeans c w past run ms (AcceptNext stage) = Carries c w past (record run { stage = stage }) ms
+ChoiceMeans c w past run ms (AcceptNext stage) = IsClassicIn stage × Carries c w past (record run { stage = stage }) ms
 ChoiceMeans c w past run ms GiveIn = MayGiveIn c w ms
 
 -- fewer known rows than a quorum promise the ballot that is prepared

@@ -1,5 +1,5 @@
 -- How a phase reaches its goal, or ends without it, by the rows that are known.
-use Rattle.std.specs.Prelude.{ℕ, ◌≡◌, ◌≤◌, ◌<◌, ◌+◌, ◌⊎◌, ◌==◌, Bool, true, false, List, ◌∷◌, ◌++◌, Option, Some, None, slice_get}
+use Rattle.std.specs.Prelude.{ℕ, ◌≡◌, ◌≢◌, ◌≤◌, ◌<◌, ◌+◌, ◌⊎◌, ◌==◌, Bool, true, false, List, ◌∷◌, ◌++◌, Option, Some, None, slice_get}
 use Rattle.gz_core.specs.Names.{Name}
 use Rattle.gz_core.specs.Rows.{RowAt}
 use Rattle.gz_core.specs.Calls.{key_of}
@@ -21,7 +21,7 @@ use Rattle.gz_round.specs.Shown.{heard_at, IsShown}
 use Rattle.gz_round.specs.Rounds.{rounds_used}
 pub use Rattle.gz_round.specs.Sending.{NoEvidence}
 use Rattle.gz_round.specs.Sending.{MayMake, MayRead, AreAllowed, NoneAbove, NoneGone, IsUndecided}
-use Rattle.gz_round.specs.Counting.{IsUnnoticed}
+use Rattle.gz_round.specs.Counting.{IsUnnoticed, known_count}
 use Rattle.gz_round.specs.declared.outcome.Outcome.{Outcome}
 use Rattle.gz_round.specs.declared.outcome.Outcome.TheVariants.{Goes}
 use Rattle.gz_round.specs.Causes.{ComesTo, IsAbsent, IsUnborn, IsCollected, IsTrimmed, is_blank}
@@ -78,11 +78,16 @@ pub record IsFound (c : Config) (w : Caller) (run : Run) (ms : List Action) (v :
   pub known : slice_get run.rows s ≡ Some (Some row)
   pub named : row_name row v ≡ Some name
 
+-- a call goes on to a version above the one at which its phase works, and from a look once rows of a classic quorum are known
+pub record IsOnward (c : Config) (run : Run) (ms : List Action) (v : ℕ) : Type 0 where
+  pub above : working_version run < v
+  pub looked : run.stage ≡ Look → c.qc ≤ known_count c ms
+
 -- what the rows that are known come to
 abbrev pub NextMeans : Config → Caller → Run → List Action → Next → Type 0
 NextMeans c w run ms Wait = IsUnmet c run run.stage ms
-NextMeans c w run ms (Vote v) = IsVoteNext c w ms v × AreVotesBelow w ms v × NoEvidence c ms v × (NoneGone c ms v ⊎ IsAfterEvidence c ms v)
-NextMeans c w run ms (Skip v) = IsVoteNext c w ms v × AreVotesBelow w ms v × IsAboveFloor c ms v × (working_version run + 2 ≤ v)
+NextMeans c w run ms (Vote v) = IsVoteNext c w ms v × AreVotesBelow w ms v × NoEvidence c ms v × (NoneGone c ms v ⊎ IsAfterEvidence c ms v) × IsOnward c run ms v
+NextMeans c w run ms (Skip v) = IsVoteNext c w ms v × AreVotesBelow w ms v × IsAboveFloor c ms v × (working_version run + 2 ≤ v) × (run.stage ≢ Look)
 NextMeans c w run ms (Chosen v) = (1 ≤ v) × IsShown c ms v w.name × ((x : Value) × (w.own ≡ Some x))
 NextMeans c w run ms (Learnt v s) = IsFound c w run ms v s
 NextMeans c w run ms Absent = IsAbsent c w ms

@@ -11,6 +11,7 @@ pub mod Goals
 pub mod LookBack
 pub mod Noting
 pub mod Numbering
+pub mod Phases
 pub mod Rounds
 pub mod Sending
 pub mod Sent

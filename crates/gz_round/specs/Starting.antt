@@ -14,6 +14,8 @@ use Rattle.gz_core.specs.declared.calls.Phase.TheVariants.{Look as NotBegun}
 use Rattle.gz_round.specs.declared.run.Mark.{Mark}
 use Rattle.gz_round.specs.declared.run.Run.{Run}
 use Rattle.gz_round.specs.Sent.{is_notice}
+use Rattle.gz_round.specs.declared.outcome.Outcome.{Outcome}
+use Rattle.gz_round.specs.declared.outcome.Outcome.TheVariants.{Goes, Placed, Learnt, Ends}
 use Rattle.gz_round.specs.declared.run.Stage.TheVariants.{Look}
 use Rattle.gz_round.specs.declared.run.Target.{Target}
 
@@ -79,6 +81,22 @@ is_read_or_notice (ReadRow key) = true
 is_read_or_notice (WriteRow key expect step row) = is_notice step
 is_read_or_notice op = false
 
--- a call whose rows came to something makes no further step: it reads, or tells what is chosen
+-- requests that make no further step: they read, or tell what is chosen
 abbrev pub MakeNoStep : List Out → Type 0
 MakeNoStep outs = All (λ (out : Out). is_read_or_notice out.op ≡ true) outs
+
+-- whether a request reads a row
+abbrev pub is_read : Op → Bool
+is_read (ReadRow key) = true
+is_read op = false
+
+-- requests that read alone
+abbrev pub ReadAlone : List Out → Type 0
+ReadAlone outs = All (λ (out : Out). is_read out.op ≡ true) outs
+
+-- what a call sends as its rows come to something: it reads, and where its own value is placed it also tells that
+abbrev pub SendsLast : Outcome → List Out → Type 0
+SendsLast Goes outs = Unit {0}
+SendsLast (Placed v) outs = MakeNoStep outs
+SendsLast (Learnt v x) outs = ReadAlone outs
+SendsLast (Ends answer) outs = ReadAlone outs

@@ -4,7 +4,7 @@ ghost use Rattle.gz_core.specs.Rows.{RowAt};
 ghost use Rattle.gz_core.specs.Configurations.{IsConfig};
 ghost use Rattle.gz_core.specs.Calls.{key_of};
 ghost use Rattle.gz_core.specs.History.{Action, Caller, Trace, sent_from};
-ghost use Rattle.gz_round.specs.Starting.{reads_from, AreRowRequests, MakeNoStep};
+ghost use Rattle.gz_round.specs.Starting.{reads_from, AreRowRequests, SendsLast};
 ghost use Rattle.gz_round.specs.Sites.{AreBlobs};
 ghost use Rattle.gz_round.specs.Standing.{Stands, Runs, IsKept};
 ghost use Rattle.gz_round.specs.Counting.{IsGoing};
@@ -12,7 +12,8 @@ ghost use Rattle.std.specs.Option.{option_copied};
 ghost use Rattle.gz_round.specs.Causes.{EndsBy, row_value, column_value, vote_value};
 ghost use Rattle.gz_round.specs.Goals.{is_overtaken, stage_step, vote_for, looked_in};
 ghost use Rattle.gz_round.specs.Acting.{IsGoalUnmet, CanAct, CanFollow, Carries, CanCarry, ComesTo, contended_of, cut_off_of, given_in_of, CanFinish, Finishes, notice_for, working_version};
-ghost use Rattle.gz_round.specs.declared.outcome.Outcome.TheVariants.{Goes, Ends, Learnt};
+ghost use Rattle.gz_round.specs.Phases.{GoesFrom, IsNoNewVote};
+ghost use Rattle.gz_round.specs.declared.outcome.Outcome.TheVariants.{Goes, Ends, Learnt, Placed};
 ghost use Rattle.gz_round.specs.Following.{Ready, IsReady, Turned, HasTurned};
 
 use crate::choosing::Choice;
@@ -62,7 +63,9 @@ impl Run {
         ensures turned { IfOk result (λ turn. (w : Caller) (past : List Trace) (ms : List Action) → Ready config.now w past self.old ms
             → HasTurned config.now w past self.new (sent_from first turn.send ms) turn.outcome) }
         ensures sends { IfOk result (λ turn. AreRowRequests turn.send) }
-        ensures ends { IfOk result (λ turn. turn.outcome ≢ Goes → MakeNoStep turn.send) }
+        ensures ends { IfOk result (λ turn. SendsLast turn.outcome turn.send) }
+        ensures goes { IfOk result (λ turn. (w : Caller) (past : List Trace) (ms : List Action) → Ready config.now w past self.old ms
+            → turn.outcome ≡ Goes → GoesFrom config.now self.old.stage self.new.stage ms) }
     {
         match self.stop(config) {
             Some(answer) => self.close(alloc, config, first, Outcome::Ends { answer }),
@@ -130,7 +133,9 @@ impl Run {
         ensures turned { IfOk result (λ turn. (w : Caller) (past : List Trace) (ms : List Action) → Ready config.now w past self.old ms → IsGoing config.now ms
             → HasTurned config.now w past self.new (sent_from first turn.send ms) turn.outcome) }
         ensures sends { IfOk result (λ turn. AreRowRequests turn.send) }
-        ensures ends { IfOk result (λ turn. turn.outcome ≢ Goes → MakeNoStep turn.send) }
+        ensures ends { IfOk result (λ turn. SendsLast turn.outcome turn.send) }
+        ensures goes { IfOk result (λ turn. (w : Caller) (past : List Trace) (ms : List Action) → Ready config.now w past self.old ms
+            → turn.outcome ≡ Goes → GoesFrom config.now self.old.stage self.new.stage ms) }
     {
         match self.next(config) {
             Next::Wait => self.propose_or_step(alloc, config, first),
@@ -170,7 +175,8 @@ impl Run {
         ensures turned { IfOk result (λ turn. (w : Caller) (past : List Trace) (ms : List Action) → Ready config.now w past self.old ms
             → EndsBy config.now w ms answer → Turned config.now w past self.new (sent_from first turn.send ms) turn.outcome) }
         ensures sends { IfOk result (λ turn. AreRowRequests turn.send) }
-        ensures ends { IfOk result (λ turn. MakeNoStep turn.send) }
+        ensures ends { IfOk result (λ turn. SendsLast turn.outcome turn.send) }
+        ensures outcome { IfOk result (λ turn. turn.outcome ≡ Ends answer) }
     {
         self.close(alloc, config, first, Outcome::Ends { answer })
     }
@@ -189,7 +195,8 @@ impl Run {
         ensures turned { IfOk result (λ turn. (w : Caller) (past : List Trace) (ms : List Action) → IsGoalUnmet config.now w past self.old ms
             → HasTurned config.now w past self.new (sent_from first turn.send ms) turn.outcome) }
         ensures sends { IfOk result (λ turn. AreRowRequests turn.send) }
-        ensures ends { IfOk result (λ turn. turn.outcome ≢ Goes → MakeNoStep turn.send) }
+        ensures ends { IfOk result (λ turn. SendsLast turn.outcome turn.send) }
+        ensures fast { IfOk result (λ turn. IsNoNewVote self.old.stage self.new.stage) }
     {
         match self.choose(alloc, config)? {
             Choice::Wait => self.step_or_prepare(alloc, config, first),
@@ -228,7 +235,8 @@ impl Run {
         ensures turned { IfOk result (λ turn. (w : Caller) (past : List Trace) (ms : List Action) → Carries config.now w past self.old ms
             → HasTurned config.now w past self.new (sent_from first turn.send ms) turn.outcome) }
         ensures sends { IfOk result (λ turn. AreRowRequests turn.send) }
-        ensures ends { IfOk result (λ turn. turn.outcome ≢ Goes → MakeNoStep turn.send) }
+        ensures ends { IfOk result (λ turn. SendsLast turn.outcome turn.send) }
+        ensures fast { IfOk result (λ turn. IsNoNewVote self.old.stage self.new.stage) }
     {
         if self.is_overtaken() {
             let version = self.working();
@@ -323,7 +331,8 @@ impl Run {
         ensures turned { IfOk result (λ turn. (w : Caller) (past : List Trace) (ms : List Action) → Ready config.now w past self.old ms
             → ComesTo config.now w ms outcome → Turned config.now w past self.new (sent_from first turn.send ms) turn.outcome) }
         ensures sends { IfOk result (λ turn. AreRowRequests turn.send) }
-        ensures ends { IfOk result (λ turn. MakeNoStep turn.send) }
+        ensures ends { IfOk result (λ turn. SendsLast turn.outcome turn.send) }
+        ensures outcome { IfOk result (λ turn. turn.outcome ≡ outcome) }
     {
         let send = self.first_pass(alloc, config, &None, first)?;
         Ok(RowTurn { send, outcome })
@@ -343,7 +352,8 @@ impl Run {
         ensures turned { IfOk result (λ turn. (w : Caller) (past : List Trace) (ms : List Action) → Finishes config.now w past self.old ms version
             → Turned config.now w past self.new (sent_from first turn.send ms) turn.outcome) }
         ensures sends { IfOk result (λ turn. AreRowRequests turn.send) }
-        ensures ends { IfOk result (λ turn. MakeNoStep turn.send) }
+        ensures ends { IfOk result (λ turn. SendsLast turn.outcome turn.send) }
+        ensures outcome { IfOk result (λ turn. turn.outcome ≡ Placed version) }
     {
         let step = self.notice(version)?;
         let send = self.first_pass(alloc, config, &step, first)?;

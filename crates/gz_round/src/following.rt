@@ -5,7 +5,7 @@ ghost use Rattle.gz_pick.specs.Looks.{row_name};
 ghost use Rattle.gz_core.specs.Configurations.{IsConfig};
 ghost use Rattle.gz_core.specs.History.{Action, Caller, Trace};
 ghost use Rattle.gz_round.specs.Floors.{top_floor_of, AreRows, AreNoneAsked, IsAskedBelow};
-ghost use Rattle.gz_round.specs.Following.{IsReady, Ready, NextMeans, MayPass, IsUnwritten, IsStageAt, IsWriteNext};
+ghost use Rattle.gz_round.specs.Following.{IsReady, Ready, NextMeans, IsOnward, MayPass, IsUnwritten, IsStageAt, IsWriteNext};
 ghost use Rattle.gz_round.specs.Targets.{target_of, IsAskedFor};
 ghost use Rattle.gz_config.specs.declared.Config.{Config};
 ghost use Rattle.gz_round.specs.Evidence.{NoneEvident, EvidentAt, NoEvidence};
@@ -114,7 +114,8 @@ impl Run {
     /// is asked for isn't born.
     fn begin_first(&self) -> Next
         requires asked { AreNoneAsked self.now }
-        ensures { (c : Config) (w : Caller) (past : List Trace) (ms : List Action) → Stands c w past self.now ms → IsUnwritten c w ms → NextMeans c w self.now ms result }
+        ensures { (c : Config) (w : Caller) (past : List Trace) (ms : List Action) → Stands c w past self.now ms → IsUnwritten c w ms
+            → IsOnward c self.now ms 1 → NextMeans c w self.now ms result }
     {
         if self.own.is_some() {
             return Next::Vote {
@@ -136,7 +137,7 @@ impl Run {
         requires kept { IsKept config.now self.now }
         requires evident { EvidentAt config.now self.now.rows version site }
         ensures { (w : Caller) (past : List Trace) (ms : List Action) → Stands config.now w past self.now ms → MayPass config.now w ms version
-            → NextMeans config.now w self.now ms result }
+            → IsOnward config.now self.now ms (version + 1) → NextMeans config.now w self.now ms result }
     {
         if self.own.is_some() {
             return self.after_chosen(config, version, site);
@@ -277,7 +278,7 @@ impl Run {
         requires evident { EvidentAt config.now self.now.rows version site }
         requires own { IsSome self.now.own }
         ensures means { (w : Caller) (past : List Trace) (ms : List Action) → Stands config.now w past self.now ms → MayPass config.now w ms version
-            → NextMeans config.now w self.now ms result }
+            → IsOnward config.now self.now ms (version + 1) → NextMeans config.now w self.now ms result }
         ensures writes { IsWriteNext version result }
     {
         if self.is_own(site, version) {

@@ -26,6 +26,7 @@ impl Run {
         requires marks { at < length self.old.marks }
         requires met { self.old.met + 1 < 2 ^ 32 }
         ensures noted { OnOk result (IsReplyNoted config.now.n self.old at answer.now self.new) }
+        ensures stage { OnOk result (self.new.stage ≡ self.old.stage) }
         ensures ready { OnOk result ((w : Caller) (past : List Trace) (ms : List Action) (a : Asked) → at < config.now.n
             → (site_now ms at).awaits ≡ Some a → Ready config.now w past self.old ms → Ready config.now w past self.new (Handed a (as_heard config.now.n (written_by a.op) answer.now) ∷ ms)) }
     {
@@ -38,7 +39,8 @@ impl Run {
     pub fn note_give_up(&mut self, at: usize)
         requires rows { at < length self.old.rows }
         requires marks { at < length self.old.marks }
-        ensures { (c : Config) (w : Caller) (past : List Trace) (ms : List Action) (a : Asked) → at < c.n
+        ensures stage { self.new.stage ≡ self.old.stage }
+        ensures ready { (c : Config) (w : Caller) (past : List Trace) (ms : List Action) (a : Asked) → at < c.n
             → (site_now ms at).awaits ≡ Some a → Ready c w past self.old ms → Ready c w past self.new (GaveUp a ∷ ms) }
     {
         self.leave(at);

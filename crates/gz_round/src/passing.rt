@@ -2,7 +2,7 @@
 ghost use Rattle.std.specs.Prelude.{◌≡◌, ◌≤◌, ◌<◌, ◌+◌, ◌++◌, ◌^◌, ◌⊎◌, ℕ, true, false, List, [], length, IfOk, OnOk};
 ghost use Rattle.gz_core.specs.Configurations.{IsConfig};
 ghost use Rattle.gz_core.specs.History.{Action, Caller, Trace, sent_from};
-ghost use Rattle.gz_round.specs.Starting.{AreUnread, AreForRows, AreRowRequests, MakeNoStep, SitesRise, reads_from};
+ghost use Rattle.gz_round.specs.Starting.{AreUnread, AreForRows, AreRowRequests, MakeNoStep, ReadAlone, SitesRise, reads_from};
 ghost use Rattle.gz_round.specs.Steps.{IsStepOf};
 ghost use Rattle.gz_round.specs.Asking.{IsAskedAt, IsLeftBy};
 ghost use Rattle.gz_round.specs.Following.{Asks, HasAsked, CanAsk, IsNoticeIfAny, IsPlain};
@@ -61,6 +61,7 @@ impl Run {
         ensures rows { OnOk result (AreForRows send.old → AreForRows send.new) }
         ensures rising { OnOk result (send.old ≡ [] → SitesRise 0 send.new) }
         ensures stepless { OnOk result (IsNoticeIfAny step.now → MakeNoStep send.old → MakeNoStep send.new) }
+        ensures alone { OnOk result (step.now ≡ None → ReadAlone send.old → ReadAlone send.new) }
         ensures idle { OnOk result (IsPlain step.now → (send.new ≡ send.old) ⊎ (is_waiting self.new ≡ true)) }
         ensures reads { OnOk result (AreUnread config.now.n self.old → send.new ≡ send.old ++ reads_from self.old.key 0 config.now.n) }
     {
@@ -88,6 +89,7 @@ impl Run {
         ensures left { OnOk result (IsLeftBy self.old self.new step.now) }
         ensures sends { IfOk result (λ send. AreRowRequests send) }
         ensures stepless { IfOk result (λ send. IsNoticeIfAny step.now → MakeNoStep send) }
+        ensures alone { IfOk result (λ send. step.now ≡ None → ReadAlone send) }
         ensures idle { IfOk result (λ send. IsPlain step.now → is_waiting self.new ≡ false → send ≡ []) }
         ensures reads { IfOk result (λ send. AreUnread config.now.n self.old → send ≡ reads_from self.old.key 0 config.now.n) }
     {

@@ -2,8 +2,9 @@
 ghost use Rattle.std.specs.Prelude.{◌≡◌, ◌≢◌, ◌≤◌, ◌<◌, ◌+◌, ◌^◌, List, [], length, None, IfOk};
 ghost use Rattle.gz_core.specs.Configurations.{IsConfig};
 ghost use Rattle.gz_core.specs.History.{Action, Caller, Trace, sent_from};
-ghost use Rattle.gz_round.specs.Starting.{AreRowRequests, MakeNoStep};
+ghost use Rattle.gz_round.specs.Starting.{AreRowRequests, SendsLast};
 ghost use Rattle.gz_round.specs.Following.{HasTurned};
+ghost use Rattle.gz_round.specs.Phases.{IsNoNewVote};
 ghost use Rattle.gz_round.specs.declared.outcome.Outcome.TheVariants.{Goes};
 ghost use Rattle.gz_round.specs.Acting.{TakesStep, CanStep, RunsOut, CanRunOut, Prepares, CanPrepare, IsBallotAbove, given_in_of, ended_of, prepared_of};
 
@@ -28,7 +29,8 @@ impl Run {
         ensures turned { IfOk result (λ turn. (w : Caller) (past : List Trace) (ms : List Action) → TakesStep config.now w past self.old ms
             → HasTurned config.now w past self.new (sent_from first turn.send ms) turn.outcome) }
         ensures sends { IfOk result (λ turn. AreRowRequests turn.send) }
-        ensures ends { IfOk result (λ turn. turn.outcome ≢ Goes → MakeNoStep turn.send) }
+        ensures ends { IfOk result (λ turn. SendsLast turn.outcome turn.send) }
+        ensures fast { IfOk result (λ turn. IsNoNewVote self.old.stage self.new.stage) }
     {
         let step = self.step()?;
         let send = self.first_pass(alloc, config, &step, first)?;
@@ -56,7 +58,8 @@ impl Run {
         ensures turned { IfOk result (λ turn. (w : Caller) (past : List Trace) (ms : List Action) → RunsOut config.now w past self.old ms
             → HasTurned config.now w past self.new (sent_from first turn.send ms) turn.outcome) }
         ensures sends { IfOk result (λ turn. AreRowRequests turn.send) }
-        ensures ends { IfOk result (λ turn. turn.outcome ≢ Goes → MakeNoStep turn.send) }
+        ensures ends { IfOk result (λ turn. SendsLast turn.outcome turn.send) }
+        ensures fast { IfOk result (λ turn. IsNoNewVote self.old.stage self.new.stage) }
     {
         match self.ended() {
             Some(answer) => Ok(RowTurn {
@@ -111,7 +114,8 @@ impl Run {
         ensures turned { IfOk result (λ turn. (w : Caller) (past : List Trace) (ms : List Action) → Prepares config.now w past self.old ms version
             → HasTurned config.now w past self.new (sent_from first turn.send ms) turn.outcome) }
         ensures sends { IfOk result (λ turn. AreRowRequests turn.send) }
-        ensures ends { IfOk result (λ turn. turn.outcome ≢ Goes → MakeNoStep turn.send) }
+        ensures ends { IfOk result (λ turn. SendsLast turn.outcome turn.send) }
+        ensures fast { IfOk result (λ turn. IsNoNewVote self.old.stage self.new.stage) }
     {
         let ballot = self.next_ballot(version);
         self.promise(alloc, config, first, version, ballot)
@@ -133,7 +137,8 @@ impl Run {
         ensures turned { IfOk result (λ turn. (w : Caller) (past : List Trace) (ms : List Action) → Prepares config.now w past self.old ms version
             → HasTurned config.now w past self.new (sent_from first turn.send ms) turn.outcome) }
         ensures sends { IfOk result (λ turn. AreRowRequests turn.send) }
-        ensures ends { IfOk result (λ turn. turn.outcome ≢ Goes → MakeNoStep turn.send) }
+        ensures ends { IfOk result (λ turn. SendsLast turn.outcome turn.send) }
+        ensures fast { IfOk result (λ turn. IsNoNewVote self.old.stage self.new.stage) }
     {
         let found = self.look_back(config, version)?;
         self.stage = Stage::Prepare {

@@ -4,9 +4,10 @@ ghost use Rattle.std.specs.Prelude.{◌≡◌, ◌≢◌, ◌≤◌, ◌<◌, �
 ghost use Rattle.gz_core.specs.Configurations.{IsConfig};
 ghost use Rattle.gz_core.specs.History.{Action, Caller, Trace, sent_from};
 ghost use Rattle.gz_round.specs.Floors.{top_floor_of, AreRows};
-ghost use Rattle.gz_round.specs.Starting.{AreRowRequests, MakeNoStep};
+ghost use Rattle.gz_round.specs.Starting.{AreRowRequests, SendsLast};
 ghost use Rattle.gz_round.specs.Acting.{VotesNext, CanCast, HasCast, BeginsFast, CanBeginFast, Skips, CanSkip, GoesOnAbove, CanGoOnAbove, is_waiting};
 ghost use Rattle.gz_round.specs.Following.{HasTurned};
+ghost use Rattle.gz_round.specs.Phases.{IsVoteFrom};
 ghost use Rattle.gz_round.specs.declared.outcome.Outcome.TheVariants.{Goes};
 
 use crate::following::{Next, evident};
@@ -31,7 +32,8 @@ impl Run {
         ensures turned { IfOk result (λ turn. (w : Caller) (past : List Trace) (ms : List Action) → BeginsFast config.now w past self.old ms version
             → HasTurned config.now w past self.new (sent_from first turn.send ms) turn.outcome) }
         ensures sends { IfOk result (λ turn. AreRowRequests turn.send) }
-        ensures ends { IfOk result (λ turn. turn.outcome ≢ Goes → MakeNoStep turn.send) }
+        ensures ends { IfOk result (λ turn. SendsLast turn.outcome turn.send) }
+        ensures from { IfOk result (λ turn. turn.outcome ≡ Goes → IsVoteFrom version self.new.stage) }
     {
         match self.floor_from(version) {
             None => {
@@ -62,7 +64,8 @@ impl Run {
         ensures turned { IfOk result (λ turn. (w : Caller) (past : List Trace) (ms : List Action) → BeginsFast config.now w past self.old ms version
             → HasTurned config.now w past self.new (sent_from first turn.send ms) turn.outcome) }
         ensures sends { IfOk result (λ turn. AreRowRequests turn.send) }
-        ensures ends { IfOk result (λ turn. turn.outcome ≢ Goes → MakeNoStep turn.send) }
+        ensures ends { IfOk result (λ turn. SendsLast turn.outcome turn.send) }
+        ensures from { IfOk result (λ turn. turn.outcome ≡ Goes → IsVoteFrom version self.new.stage) }
     {
         let send = self.cast(alloc, config, first, version)?;
         if self.waits() {
@@ -89,7 +92,8 @@ impl Run {
         ensures turned { IfOk result (λ turn. (w : Caller) (past : List Trace) (ms : List Action) → Skips config.now w past self.old ms version
             → HasTurned config.now w past self.new (sent_from first turn.send ms) turn.outcome) }
         ensures sends { IfOk result (λ turn. AreRowRequests turn.send) }
-        ensures ends { IfOk result (λ turn. turn.outcome ≢ Goes → MakeNoStep turn.send) }
+        ensures ends { IfOk result (λ turn. SendsLast turn.outcome turn.send) }
+        ensures from { IfOk result (λ turn. turn.outcome ≡ Goes → IsVoteFrom version self.new.stage) }
     {
         let send = self.cast(alloc, config, first, version)?;
         if self.waits() {
@@ -116,7 +120,8 @@ impl Run {
         ensures turned { IfOk result (λ turn. (w : Caller) (past : List Trace) (ms : List Action) → GoesOnAbove config.now w past self.old ms version
             → HasTurned config.now w past self.new (sent_from first turn.send ms) turn.outcome) }
         ensures sends { IfOk result (λ turn. AreRowRequests turn.send) }
-        ensures ends { IfOk result (λ turn. turn.outcome ≢ Goes → MakeNoStep turn.send) }
+        ensures ends { IfOk result (λ turn. SendsLast turn.outcome turn.send) }
+        ensures from { IfOk result (λ turn. turn.outcome ≡ Goes → IsVoteFrom version self.new.stage) }
     {
         let Some(site) = evident(config, self.rows.as_slice(), version) else {
             return self.run_out(alloc, config, first);

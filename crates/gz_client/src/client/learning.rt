@@ -8,7 +8,7 @@ ghost use Rattle.gz_data.specs.Requests.{is_numbered};
 ghost use Rattle.gz_round.specs.Rounds.{rounds_used};
 ghost use Rattle.gz_round.specs.Following.{Ready};
 ghost use Rattle.gz_round.specs.Sites.{as_heard, written_by, site_now};
-ghost use Rattle.gz_round.specs.Starting.{AreRowRequests, MakeNoStep};
+ghost use Rattle.gz_round.specs.Starting.{AreRowRequests, SendsLast};
 ghost use Rattle.gz_client.specs.Changes.{changed, CanChange, counted};
 ghost use Rattle.gz_client.specs.Traces.{CanLearn, IsSameClient, Extends, AreBelow, told_of};
 ghost use Rattle.gz_client.specs.Turning.{TurnsBy, HasCountedFirst, HasCountedLast, HasFollowed, FollowsBy, PlacesBy, GoesOrEnds, GathersFrom, ReadsBy, CanHearIf, HearsIf, GathersNot, outcome_of};
@@ -332,7 +332,8 @@ impl Client {
         requires rows { at < length run.now.rows }
         requires marks { at < length run.now.marks }
         requires met { run.now.met + 1 < 2 ^ 32 }
-        ensures { IfOk result (λ later. (w : Caller) (past : List Trace) (ms : List Action) (a : Asked) → at < self.now.config.n → (site_now ms at).awaits ≡ Some a
+        ensures stage { IfOk result (λ later. later.stage ≡ run.now.stage) }
+        ensures ready { IfOk result (λ later. (w : Caller) (past : List Trace) (ms : List Action) (a : Asked) → at < self.now.config.n → (site_now ms at).awaits ≡ Some a
             → Ready self.now.config w past run.now ms → Ready self.now.config w past later (told_of self.now.config.n (option_copied reply.entry) a ∷ ms)) }
     {
         let mut run = run.copy()?;
@@ -359,7 +360,7 @@ impl Client {
     ) -> Result<(Change, Turn), AllocError>
         requires first { first < 2 ^ 31 }
         requires sends { AreRowRequests turn.send }
-        requires ends { turn.outcome ≢ Outcome.Goes → MakeNoStep turn.send }
+        requires ends { SendsLast turn.outcome turn.send }
         ensures ok { IfOk result (λ after. (w : Caller) (past : List Trace) (closing ms : List Action)
             → HasFollowed self.now.config w past run puts.now closing (sent_from first turn.send ms) turn.outcome → AreBelow first ms
             → FollowsBy self.now (changed self.now after.0) first after.1 w past closing ms) }

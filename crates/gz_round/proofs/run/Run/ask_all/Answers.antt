@@ -62,3 +62,6 @@ returns-clause-stepless c = c.loop-at.invariant.stepless
 
 pub returns-clause-idle : goal.returns-clause-idle
 returns-clause-idle c = c.loop-at.invariant.idle
+
+pub returns-clause-alone : goal.returns-clause-alone
+returns-clause-alone c = c.loop-at.invariant.alone

@@ -3,6 +3,7 @@ use Rattle.std.proofs.lemmas.Result.{IfOk-weaker}
 use Rattle.gz_round.specs.Acting.{CanBeginFast}
 use Rattle.gz_round.proofs.Casts.{begins_acts}
 use Rattle.gz_round.proofs.PastFloors.{floors_low}
+use Rattle.gz_round.proofs.Phases.{vote_from}
 use Rattle.gz_round.proofs.run.Run.begin_fast.Goals as goal
 
 pub propose_or_step-requires-clause-config : goal.propose_or_step-requires-clause-config
@@ -52,3 +53,6 @@ returns-in-None-clause-turned c =
 
 pub returns-in-Some-clause-turned : goal.returns-in-Some-clause-turned
 returns-in-Some-clause-turned c = c.vote_below.ensures.turned
+
+pub returns-in-None-clause-from : goal.returns-in-None-clause-from
+returns-in-None-clause-from c = IfOk-weaker c.propose_or_step.result _ _ (λ turn p. λ goes. vote_from _ c.args.version c.args.version (omega arith) p) c.propose_or_step.ensures.fast

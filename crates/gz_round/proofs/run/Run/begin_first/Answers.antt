@@ -6,12 +6,12 @@ use Rattle.gz_round.proofs.Follows.{first_means, absent_means, unborn_means}
 use Rattle.gz_round.proofs.run.Run.begin_first.Goals as goal
 
 pub returns-then-is_some : goal.returns-then-is_some
-returns-then-is_some c = λ k w past ms h f. first_means k w past c.args.self.now ms h f (cc)
+returns-then-is_some c = λ k w past ms h f onward. first_means k w past c.args.self.now ms h f onward (cc)
 
 pub returns-in-Latest : goal.returns-in-Latest
-returns-in-Latest c = λ k w past ms h f. absent_means k w past c.args.self.now ms h f (cc) (cc)
+returns-in-Latest c = λ k w past ms h f onward. absent_means k w past c.args.self.now ms h f (cc) (cc)
 
 pub returns-in-At : goal.returns-in-At
-returns-in-At c = λ k w past ms h f.
+returns-in-At c = λ k w past ms h f onward.
     let above = subst (λ t. NoneAskedIn t c.args.self.now.rows) c.in-At.is c.requires.asked.1 in
     subst (λ v. NextMeans k w c.args.self.now ms (UnbornNext v)) (sym c.none.ensures) (unborn_means k w past c.args.self.now ms c.in-At.version h f c.in-At.is (omega arith))

@@ -1,3 +1,5 @@
+use Rattle.std.proofs.Common.{refl}
+use Rattle.gz_round.proofs.Passes.{alone_last}
 use Rattle.gz_round.proofs.Turns.{close_turned}
 use Rattle.gz_round.specs.Following.{IsReady}
 use Rattle.gz_round.proofs.run.Run.close.Goals as goal
@@ -8,7 +10,7 @@ returns-clause-turned c = λ w past ms r comes.
     close_turned c.args.config.now w past c.args.self.now c.first_pass.new.self ms c.args.first c.in_ok-send.send c.args.outcome r.stands comes done c.in_ok-send.ensures.left (c.in_ok-send.ensures.stepless tt)
 
 pub returns-clause-ends : goal.returns-clause-ends
-returns-clause-ends c = c.in_ok-send.ensures.stepless tt
+returns-clause-ends c = alone_last c.args.outcome c.in_ok-send.send (c.in_ok-send.ensures.alone refl)
 
 pub first_pass-requires-clause-asks : goal.first_pass-requires-clause-asks
 first_pass-requires-clause-asks c =

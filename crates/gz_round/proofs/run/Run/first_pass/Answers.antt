@@ -2,9 +2,9 @@ use Rattle.std.proofs.Common.{◌++◌, ◌∙◌, ap, length, sym, subst, inl, 
 use Rattle.std.proofs.lemmas.Bool.{both_ways}
 use Rattle.gz_round.specs.Following.{CanAsk}
 use Rattle.gz_core.specs.History.{sent_from}
-use Rattle.gz_round.specs.Starting.{AreForRows, MakeNoStep, reads_from}
+use Rattle.gz_round.specs.Starting.{AreForRows, MakeNoStep, ReadAlone, reads_from}
 use Rattle.gz_round.specs.Acting.{is_waiting}
-use Rattle.gz_round.proofs.Passes.{none_requested, none_stepless}
+use Rattle.gz_round.proofs.Passes.{none_alone, none_requested, none_stepless}
 use Rattle.gz_round.specs.Following.{Asks, HasAsked}
 use Rattle.gz_round.proofs.run.Run.first_pass.Goals as goal
 
@@ -51,3 +51,6 @@ returns-clause-idle c = λ plain quiet. elim (c.in_ok-ask_all.ensures.idle plain
   | inl same ↦ same ∙ c.new-send.ensures
   | inr waits ↦ absurd (both_ways (is_waiting c.ask_all.new.self) quiet waits)
 ]
+
+pub returns-clause-alone : goal.returns-clause-alone
+returns-clause-alone c = λ none. c.in_ok-ask_all.ensures.alone none (subst ReadAlone (sym c.new-send.ensures) none_alone)

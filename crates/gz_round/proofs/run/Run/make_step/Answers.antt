@@ -1,7 +1,8 @@
-use Rattle.std.proofs.Common.{refl, arith}
+use Rattle.std.proofs.Common.{arith}
 use Rattle.std.proofs.lemmas.Result.{IfOk-weaker}
 use Rattle.gz_round.specs.Acting.{CanStep}
 use Rattle.gz_round.proofs.Turns.{steps_ask, steps_step, step_plain, stepped_from, stepped_runs, stepped_out, stepped_round}
+use Rattle.gz_round.proofs.Phases.{left_no_vote, no_vote_then}
 use Rattle.gz_round.proofs.run.Run.make_step.Goals as goal
 
 pub returns-then-waits-clause-turned : goal.returns-then-waits-clause-turned
@@ -56,4 +57,10 @@ run_out-requires-clause-round c =
     omega (arith, c.requires.round, round)
 
 pub returns-then-waits-clause-ends : goal.returns-then-waits-clause-ends
-returns-then-waits-clause-ends c = λ ended. absurd (ended refl)
+returns-then-waits-clause-ends c = tt
+
+pub returns-then-waits-clause-fast : goal.returns-then-waits-clause-fast
+returns-then-waits-clause-fast c = left_no_vote c.args.self.now.stage c.first_pass.new.self.stage c.in_ok-send.ensures.left.stage
+
+pub returns-clause-fast : goal.returns-clause-fast
+returns-clause-fast c = IfOk-weaker c.run_out.result _ _ (λ turn p. no_vote_then c.args.self.now.stage c.first_pass.new.self.stage _ c.in_ok-send.ensures.left.stage p) c.run_out.ensures.fast

@@ -4,7 +4,8 @@ use Rattle.gz_core.specs.History.{sent_from}
 use Rattle.gz_round.specs.Following.{HasTurned}
 use Rattle.gz_round.specs.Acting.{CanPrepare}
 use Rattle.gz_round.proofs.Turns.{going_sent, undecided_sent}
-use Rattle.gz_round.proofs.Prepares.{prepared_asks, prepared_stepless, prepared_turned, looked_back}
+use Rattle.gz_round.proofs.Prepares.{prepared_asks, prepared_last, prepared_turned, looked_back}
+use Rattle.gz_round.proofs.Phases.{prepared_no_vote}
 use Rattle.gz_round.proofs.run.Run.promise.Goals as goal
 
 pub first_pass-requires-clause-asks : goal.first_pass-requires-clause-asks
@@ -20,7 +21,7 @@ returns-clause-turned c = λ w past ms p.
     (prepared_turned c.args.config.now w past c.args.self.now c.first_pass.new.self ms c.args.version c.args.ballot c.in_ok-found.found (sent_from c.args.first c.in_ok-send.send ms) c.requires.config p c.requires.ballot (going_sent c.args.config.now c.args.first c.in_ok-send.send ms p.going) (undecided_sent c.args.config.now c.args.version c.args.first c.in_ok-send.send ms p.none) back done c.in_ok-send.ensures.left)
 
 pub returns-clause-ends : goal.returns-clause-ends
-returns-clause-ends c = prepared_stepless c.first_pass.new.self c.in_ok-send.send c.prepared-outcome.result (c.in_ok-send.ensures.idle refl) c.prepared-outcome.ensures
+returns-clause-ends c = prepared_last c.first_pass.new.self c.in_ok-send.send c.prepared-outcome.result (c.in_ok-send.ensures.idle refl) c.prepared-outcome.ensures
 
 pub look_back-requires-clause-config : goal.look_back-requires-clause-config
 look_back-requires-clause-config c = c.requires.config
@@ -45,3 +46,6 @@ pub first_pass-requires-clause-step : goal.first_pass-requires-clause-step
 first_pass-requires-clause-step c =
     let k : CanPrepare c.args.config.now c.args.self.now c.args.version = c.requires.prepares in
     (k.3.pass.above, c.requires.ballot.classic)
+
+pub returns-clause-fast : goal.returns-clause-fast
+returns-clause-fast c = prepared_no_vote c.args.self.now.stage c.first_pass.new.self.stage c.args.version c.args.ballot c.in_ok-found.found c.in_ok-send.ensures.left.stage

@@ -2,11 +2,11 @@ use Rattle.std.proofs.Common.{sym, subst}
 use Rattle.std.proofs.lemmas.Result.{IfOk-weaker}
 use Rattle.gz_core.specs.History.{sent_from}
 use Rattle.gz_round.specs.declared.outcome.Outcome.TheVariants.{Ends}
-use Rattle.gz_round.specs.Starting.{AreRowRequests, MakeNoStep}
+use Rattle.gz_round.specs.Starting.{AreRowRequests, ReadAlone}
 use Rattle.gz_round.specs.Following.{HasTurned}
 use Rattle.gz_round.specs.Acting.{CanRunOut, Prepares}
 use Rattle.gz_round.proofs.GivingIn.{ended_turned}
-use Rattle.gz_round.proofs.Passes.{none_requested, none_stepless}
+use Rattle.gz_round.proofs.Passes.{none_alone, none_requested}
 use Rattle.gz_round.proofs.Prepares.{out_prepares}
 use Rattle.gz_round.proofs.run.Run.run_out.Goals as goal
 
@@ -19,7 +19,7 @@ pub returns-in-Some-clause-sends : goal.returns-in-Some-clause-sends
 returns-in-Some-clause-sends c = subst AreRowRequests (sym c.new.ensures) none_requested
 
 pub returns-in-Some-clause-ends : goal.returns-in-Some-clause-ends
-returns-in-Some-clause-ends c = λ ended. subst MakeNoStep (sym c.new.ensures) none_stepless
+returns-in-Some-clause-ends c = subst ReadAlone (sym c.new.ensures) none_alone
 
 pub prepare-requires-clause-prepares : goal.prepare-requires-clause-prepares
 prepare-requires-clause-prepares c =
@@ -33,3 +33,6 @@ returns-in-None-clause-turned c =
 
 pub prepare-requires-clause-round : goal.prepare-requires-clause-round
 prepare-requires-clause-round c = c.requires.round
+
+pub returns-in-Some-clause-fast : goal.returns-in-Some-clause-fast
+returns-in-Some-clause-fast c = λ v is. is

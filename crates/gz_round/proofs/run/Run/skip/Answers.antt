@@ -1,7 +1,8 @@
-use Rattle.std.proofs.Common.{refl, arith}
+use Rattle.std.proofs.Common.{arith}
 use Rattle.std.proofs.lemmas.Result.{IfOk-weaker}
 use Rattle.gz_round.specs.Acting.{CanSkip}
 use Rattle.gz_round.proofs.Casts.{above_skipping, cast_runs, skip_goes_on}
+use Rattle.gz_round.proofs.Phases.{cast_from}
 use Rattle.gz_round.proofs.run.Run.skip.Goals as goal
 
 pub cast-requires-clause-config : goal.cast-requires-clause-config
@@ -20,7 +21,7 @@ returns-then-waits-clause-turned c = λ w past ms s.
     cast_runs c.args.config.now w past c.cast.new.self _ c.args.version (c.in_ok-send.ensures.cast w past ms s.votes) (above_skipping c.args.config.now w past c.args.self.now ms c.args.version c.args.first c.in_ok-send.send s) (cc)
 
 pub returns-then-waits-clause-ends : goal.returns-then-waits-clause-ends
-returns-then-waits-clause-ends c = λ ended. absurd (ended refl)
+returns-then-waits-clause-ends c = tt
 
 pub after_skip-requires-clause-config : goal.after_skip-requires-clause-config
 after_skip-requires-clause-config c = c.requires.config
@@ -40,3 +41,8 @@ pub returns-clause-turned : goal.returns-clause-turned
 returns-clause-turned c =
     IfOk-weaker c.after_skip.result _ _ (λ turn p. λ w past ms s.
     p w past ms (skip_goes_on c.args.config.now w past c.args.self.now c.cast.new.self ms c.args.version c.args.first c.in_ok-send.send s (c.in_ok-send.ensures.cast w past ms s.votes) (c.in_ok-send.ensures.idle (cc)) (cc))) c.after_skip.ensures.turned
+
+pub returns-then-waits-clause-from : goal.returns-then-waits-clause-from
+returns-then-waits-clause-from c =
+    let k : CanSkip c.args.config.now c.args.self.now c.args.version = c.requires.skips in
+    λ goes. cast_from c.cast.new.self.stage c.args.version (c.in_ok-send.ensures.cast k.0 k.1 k.2 k.3.votes).stage_is

@@ -3,6 +3,7 @@ use Rattle.std.proofs.lemmas.Option.{slice_get_within}
 use Rattle.std.proofs.lemmas.Result.{IfOk-weaker}
 use Rattle.gz_round.specs.Acting.{CanFollow}
 use Rattle.gz_round.proofs.Arms.{begins_from, skips_from, learnt_has, found_learnt, trimmed_ends}
+use Rattle.gz_round.proofs.Phases.{waits_on, votes_on, skips_on, placed_not, learnt_not, ends_not}
 use Rattle.gz_round.proofs.run.Run.turn_by_rows.Goals as goal
 
 pub next-requires-clause-config : goal.next-requires-clause-config
@@ -162,28 +163,55 @@ pub returns-in-Absent-clause-turned : goal.returns-in-Absent-clause-turned
 returns-in-Absent-clause-turned c = IfOk-weaker c.end.result _ _ (λ turn p. λ w past ms r going. ([], inl refl, p w past ms r (going, c.in-Absent.ensures w past ms r))) c.end.ensures.turned
 
 pub returns-in-Absent-clause-ends : goal.returns-in-Absent-clause-ends
-returns-in-Absent-clause-ends c = IfOk-weaker c.end.result _ _ (λ turn stepless. λ ended. stepless) c.end.ensures.ends
+returns-in-Absent-clause-ends c = c.end.ensures.ends
 
 pub returns-in-Unborn-clause-turned : goal.returns-in-Unborn-clause-turned
 returns-in-Unborn-clause-turned c = IfOk-weaker c.end-in-Unborn.result _ _ (λ turn p. λ w past ms r going. ([], inl refl, p w past ms r (going, c.in-Unborn.ensures w past ms r))) c.end-in-Unborn.ensures.turned
 
 pub returns-in-Unborn-clause-ends : goal.returns-in-Unborn-clause-ends
-returns-in-Unborn-clause-ends c = IfOk-weaker c.end-in-Unborn.result _ _ (λ turn stepless. λ ended. stepless) c.end-in-Unborn.ensures.ends
+returns-in-Unborn-clause-ends c = c.end-in-Unborn.ensures.ends
 
 pub returns-in-Collected-clause-turned : goal.returns-in-Collected-clause-turned
 returns-in-Collected-clause-turned c = IfOk-weaker c.end-in-Collected.result _ _ (λ turn p. λ w past ms r going. ([], inl refl, p w past ms r (going, c.in-Collected.ensures w past ms r))) c.end-in-Collected.ensures.turned
 
 pub returns-in-Collected-clause-ends : goal.returns-in-Collected-clause-ends
-returns-in-Collected-clause-ends c = IfOk-weaker c.end-in-Collected.result _ _ (λ turn stepless. λ ended. stepless) c.end-in-Collected.ensures.ends
+returns-in-Collected-clause-ends c = c.end-in-Collected.ensures.ends
 
 pub returns-in-Trimmed-clause-turned : goal.returns-in-Trimmed-clause-turned
 returns-in-Trimmed-clause-turned c = IfOk-weaker c.end-in-Trimmed.result _ _ (λ turn p. λ w past ms r going. ([], inl refl, p w past ms r (trimmed_ends c.args.config.now w ms c.in-Trimmed.floor going (c.in-Trimmed.ensures w past ms r)))) c.end-in-Trimmed.ensures.turned
 
 pub returns-in-Trimmed-clause-ends : goal.returns-in-Trimmed-clause-ends
-returns-in-Trimmed-clause-ends c = IfOk-weaker c.end-in-Trimmed.result _ _ (λ turn stepless. λ ended. stepless) c.end-in-Trimmed.ensures.ends
+returns-in-Trimmed-clause-ends c = c.end-in-Trimmed.ensures.ends
 
 pub returns-in_ok-value-in-Learnt-clause-ends : goal.returns-in_ok-value-in-Learnt-clause-ends
-returns-in_ok-value-in-Learnt-clause-ends c = IfOk-weaker c.close.result _ _ (λ turn stepless. λ ended. stepless) c.close.ensures.ends
+returns-in_ok-value-in-Learnt-clause-ends c = c.close.ensures.ends
 
 pub returns-in-Chosen-clause-ends : goal.returns-in-Chosen-clause-ends
-returns-in-Chosen-clause-ends c = IfOk-weaker c.finish.result _ _ (λ turn stepless. λ ended. stepless) c.finish.ensures.ends
+returns-in-Chosen-clause-ends c = c.finish.ensures.ends
+
+pub returns-in-Wait-clause-goes : goal.returns-in-Wait-clause-goes
+returns-in-Wait-clause-goes c = IfOk-weaker c.propose_or_step.result _ _ (λ turn p. λ w past ms r goes. waits_on c.args.config.now w c.args.self.now _ ms (c.in-Wait.ensures w past ms r) p) c.propose_or_step.ensures.fast
+
+pub returns-in-Vote-clause-goes : goal.returns-in-Vote-clause-goes
+returns-in-Vote-clause-goes c = IfOk-weaker c.begin_fast.result _ _ (λ turn p. λ w past ms r goes. votes_on c.args.config.now w c.args.self.now _ ms c.in-Vote.version (c.in-Vote.ensures w past ms r) (p goes)) c.begin_fast.ensures.from
+
+pub returns-in-Skip-clause-goes : goal.returns-in-Skip-clause-goes
+returns-in-Skip-clause-goes c = IfOk-weaker c.skip.result _ _ (λ turn p. λ w past ms r goes. skips_on c.args.config.now w c.args.self.now _ ms c.in-Skip.version (c.in-Skip.ensures w past ms r) (p goes)) c.skip.ensures.from
+
+pub returns-in-Chosen-clause-goes : goal.returns-in-Chosen-clause-goes
+returns-in-Chosen-clause-goes c = IfOk-weaker c.finish.result _ _ (λ turn same. λ w past ms r goes. absurd (placed_not turn.outcome c.in-Chosen.version same goes)) c.finish.ensures.outcome
+
+pub returns-in_ok-value-in-Learnt-clause-goes : goal.returns-in_ok-value-in-Learnt-clause-goes
+returns-in_ok-value-in-Learnt-clause-goes c = IfOk-weaker c.close.result _ _ (λ turn same. λ w past ms r goes. absurd (learnt_not turn.outcome _ _ same goes)) c.close.ensures.outcome
+
+pub returns-in-Absent-clause-goes : goal.returns-in-Absent-clause-goes
+returns-in-Absent-clause-goes c = IfOk-weaker c.end.result _ _ (λ turn same. λ w past ms r goes. absurd (ends_not turn.outcome _ same goes)) c.end.ensures.outcome
+
+pub returns-in-Unborn-clause-goes : goal.returns-in-Unborn-clause-goes
+returns-in-Unborn-clause-goes c = IfOk-weaker c.end-in-Unborn.result _ _ (λ turn same. λ w past ms r goes. absurd (ends_not turn.outcome _ same goes)) c.end-in-Unborn.ensures.outcome
+
+pub returns-in-Collected-clause-goes : goal.returns-in-Collected-clause-goes
+returns-in-Collected-clause-goes c = IfOk-weaker c.end-in-Collected.result _ _ (λ turn same. λ w past ms r goes. absurd (ends_not turn.outcome _ same goes)) c.end-in-Collected.ensures.outcome
+
+pub returns-in-Trimmed-clause-goes : goal.returns-in-Trimmed-clause-goes
+returns-in-Trimmed-clause-goes c = IfOk-weaker c.end-in-Trimmed.result _ _ (λ turn same. λ w past ms r goes. absurd (ends_not turn.outcome _ same goes)) c.end-in-Trimmed.ensures.outcome

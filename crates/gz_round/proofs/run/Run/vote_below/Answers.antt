@@ -1,7 +1,8 @@
-use Rattle.std.proofs.Common.{refl, subst, arith}
+use Rattle.std.proofs.Common.{subst, arith}
 use Rattle.std.proofs.lemmas.Result.{IfOk-weaker}
 use Rattle.gz_round.specs.Acting.{CanBeginFast, Skips}
 use Rattle.gz_round.proofs.Casts.{below_skipping, below_skips, cast_runs}
+use Rattle.gz_round.proofs.Phases.{cast_from}
 use Rattle.gz_round.proofs.run.Run.vote_below.Goals as goal
 
 pub cast-requires-clause-config : goal.cast-requires-clause-config
@@ -20,7 +21,7 @@ returns-then-waits-clause-turned c = λ w past ms b.
     cast_runs c.args.config.now w past c.cast.new.self _ c.args.version (c.in_ok-send.ensures.cast w past ms b.votes) (below_skipping c.args.config.now w past c.args.self.now ms c.args.version c.args.floor c.args.first c.in_ok-send.send b c.requires.at c.requires.top) (cc)
 
 pub returns-then-waits-clause-ends : goal.returns-then-waits-clause-ends
-returns-then-waits-clause-ends c = λ ended. absurd (ended refl)
+returns-then-waits-clause-ends c = tt
 
 pub skip-requires-clause-config : goal.skip-requires-clause-config
 skip-requires-clause-config c = c.requires.config
@@ -46,3 +47,11 @@ returns-clause-turned c =
     IfOk-weaker c.skip.result _ _ (λ turn p. λ w past ms b.
     p w past ms (subst (Skips c.args.config.now w past c.cast.new.self ms) (omega arith)
     (below_skips c.args.config.now w past c.args.self.now c.cast.new.self ms c.args.version c.args.floor c.args.first c.in_ok-send.send b (c.in_ok-send.ensures.cast w past ms b.votes) (c.in_ok-send.ensures.idle (cc)) c.requires.rows c.in_ok-send.ensures.rows c.requires.at c.requires.top))) c.skip.ensures.turned
+
+pub returns-then-waits-clause-from : goal.returns-then-waits-clause-from
+returns-then-waits-clause-from c =
+    let k : CanBeginFast c.args.config.now c.args.self.now c.args.version = c.requires.begins in
+    λ goes. cast_from c.cast.new.self.stage c.args.version (c.in_ok-send.ensures.cast k.0 k.1 k.2 k.3.votes).stage_is
+
+pub returns-clause-from : goal.returns-clause-from
+returns-clause-from c = IfOk-weaker c.skip.result _ _ (λ turn p. λ goes. λ u is. omega (arith, c.requires.at, p goes u is)) c.skip.ensures.from
